@@ -1,0 +1,11 @@
+pub mod Congruence
+pub mod Ring
+pub mod Laws
+pub mod Powers
+pub mod Pigeonhole
+pub mod Certificate
+pub mod Divisors
+pub mod Primes
+pub mod WordLists
+pub mod Polynomials
+pub mod Unity
