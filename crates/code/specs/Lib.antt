@@ -1,0 +1,6 @@
+pub mod Transform
+pub mod Rows
+pub mod Stripe
+pub mod Decoding
+pub mod Decoder
+pub mod Promises
