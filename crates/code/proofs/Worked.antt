@@ -53,6 +53,7 @@ l3 = refl
 l4 : isLowColumn 65537 (rootOf fermat 2) 2 2 0 (true ∷ false ∷ true ∷ false ∷ false ∷ true ∷ false ∷ false ∷ []) (11 ∷ 255 ∷ 65533 ∷ 65280 ∷ 11841 ∷ 16945 ∷ 52673 ∷ 49618 ∷ []) ≡ false
 unfolding rootOf power powerFrom inverse plus minus times table reversed survivorsFrom pointAt sumAt differenceAt mixed transform turned coded evenAt oddAt unmixed untransform weightTo weighedAt weighed split halfOf derivedAt derived evaluated divisorAt chosenAt chosen lowTo
 l4 = refl
+
 s02 : solvedColumn 65537 (rootOf fermat 2) 2 0 2 (true ∷ false ∷ []) (0 ∷ 12288 ∷ []) ≡ 3 ∷ []
 unfolding rootOf power powerFrom inverse plus minus times table reversed survivorsFrom pointAt sumAt differenceAt mixed transform turned coded evenAt oddAt unmixed untransform weightTo weighedAt weighed split halfOf derivedAt derived evaluated divisorAt chosenAt chosen
 s02 = refl

@@ -1,4 +1,4 @@
-// Coding and decoding of stripes in place.
+// Coding and decoding of stripes.
 pub fn keep(x: usize) -> usize {
     x
 }

@@ -1,0 +1,177 @@
+-- The length of what each definition on a column gives, its words, and that they are words of the field. Assumes nothing.
+use mathlib.Core.Path.{_≡_, refl, sym, ap, ap₂, _∙_}
+use mathlib.Core.List.{List, [], _∷_, _++_}
+use Prim.Native.Nat.{ℕ, zero, suc, _+_, _*_, _-_, _/_, _%_, _^_, _≤_, _<_}
+use native.Mathlib.Nat.{mod-lt, add-zero, add-suc, pow-succ'}
+use native.Mathlib.Omega.{arith}
+use lib.ListN.{length, getD, take, drop, length-append, length-take, length-drop}
+use lib.Seq.{length-take-le}
+use lib.Pow.{pow-pos}
+use Rattle.field.specs.Residue.{plus, minus, times}
+use Rattle.field.specs.Power.{power}
+use Rattle.field.specs.Words.{Words, table}
+use Rattle.field.proofs.WordLists.{words-nil, words-cons, words-tail, words-take, words-drop, words-append, words-table, length-table, getD-table, table-low, table-high}
+use Rattle.code.specs.Transform.{sumAt, differenceAt, mixed, transform, evenAt, oddAt, unmixed, untransform, scaled, reversed, turned}
+use Rattle.code.specs.Stripe.{coded}
+use Rattle.code.specs.Decoding.{bitReversed}
+
+-- halves of 2 ^ suc l words
+pub take-half : (l : ℕ) (xs : List ℕ) → length xs ≡ 2 ^ suc l → length (take (2 ^ l) xs) ≡ 2 ^ l
+take-half l xs e = length-take-le (2 ^ l) xs (omega arith)
+
+pub drop-half : (l : ℕ) (xs : List ℕ) → length xs ≡ 2 ^ suc l → length (drop (2 ^ l) xs) ≡ 2 ^ l
+drop-half l xs e = length-drop (2 ^ l) xs ∙ omega arith
+
+pub length-two : {n : ℕ} (a b : List ℕ) → length a ≡ n → length b ≡ n → length (a ++ b) ≡ n + n
+length-two a b e f = length-append a b ∙ ap₂ _+_ e f
+
+pub length-halves : (l : ℕ) (a b : List ℕ) → length a ≡ 2 ^ l → length b ≡ 2 ^ l → length (a ++ b) ≡ 2 ^ suc l
+length-halves l a b e f = length-two a b e f ∙ omega arith
+
+-- reversed bits
+pub reversed-lt : (k t : ℕ) → reversed k t < 2 ^ k
+unfolding reversed
+reversed-lt zero t = omega arith
+reversed-lt (suc k) t = go (t % 2) (mod-lt t (omega arith)) (reversed-lt k (t / 2))
+  where
+    go : (b : ℕ) → b < 2 → reversed k (t / 2) < 2 ^ k → 2 ^ k * b + reversed k (t / 2) < 2 ^ suc k
+    go zero l r = omega arith
+    go (suc zero) l r = omega arith
+    go (suc (suc b)) l r = absurd (omega arith)
+
+-- lengths
+module _ (p : ℕ) where
+  pub length-mixed : (v : ℕ) (a b : List ℕ) → length (mixed p v a b) ≡ length a + length a
+  unfolding mixed
+  length-mixed v a b = length-two (table (length a) (sumAt p v a b)) (table (length a) (differenceAt p v a b)) (length-table (length a) _) (length-table (length a) _)
+
+  pub length-transform : (w k l : ℕ) (xs : List ℕ) → length xs ≡ 2 ^ l → length (transform p w k l xs) ≡ 2 ^ l
+  unfolding transform
+  length-transform w k zero xs e = e
+  length-transform w k (suc l) xs e =
+      length-mixed (power p w (2 ^ k / 2 ^ l)) _ (transform p w k l (drop (2 ^ l) xs)) ∙ omega (arith, length-transform w k l (take (2 ^ l) xs) (take-half l xs e))
+
+  pub length-unmixed : (v m : ℕ) (c : List ℕ) → length (unmixed p v m c) ≡ m + m
+  unfolding unmixed
+  length-unmixed v m c = length-two (table m (evenAt p m c)) (table m (oddAt p v m c)) (length-table m _) (length-table m _)
+
+  length-unmixed-level : (v l : ℕ) (c : List ℕ) → length (unmixed p v (2 ^ l) c) ≡ 2 ^ suc l
+  length-unmixed-level v l c = length-unmixed v (2 ^ l) c ∙ omega arith
+
+  pub length-untransform : (w k l : ℕ) (c : List ℕ) → length c ≡ 2 ^ l → length (untransform p w k l c) ≡ 2 ^ l
+  unfolding untransform
+  length-untransform w k zero c e = e
+  length-untransform w k (suc l) c e =
+      let v = power p w (2 ^ k / 2 ^ l) in
+      let d = unmixed p v (2 ^ l) c in
+      length-halves l (untransform p w k l (take (2 ^ l) d)) (untransform p w k l (drop (2 ^ l) d))
+      (length-untransform w k l (take (2 ^ l) d) (take-half l d (length-unmixed-level v l c))) (length-untransform w k l (drop (2 ^ l) d) (drop-half l d (length-unmixed-level v l c)))
+
+  pub length-scaled : (g : ℕ) (xs : List ℕ) → length (scaled p g xs) ≡ length xs
+  unfolding scaled
+  length-scaled g [] = refl
+  length-scaled g (x ∷ xs) = ap suc (length-scaled g xs)
+
+  pub length-turned : (w k t : ℕ) (xs : List ℕ) → length (turned p w k t xs) ≡ length xs
+  unfolding turned
+  length-turned w k t [] = refl
+  length-turned w k t (x ∷ xs) = ap suc (length-turned w k (suc t) xs)
+
+  pub length-coded : (w k l t : ℕ) (xs : List ℕ) → length xs ≡ 2 ^ l → length (coded p w k l t xs) ≡ 2 ^ suc l
+  unfolding coded
+  length-coded w k l t xs e =
+      length-halves l (transform p w k l xs) (transform p w k l (turned p w k t xs)) (length-transform w k l xs e)
+      (length-transform w k l (turned p w k t xs) (length-turned w k t xs ∙ e))
+
+pub length-bitReversed : (l : ℕ) (cs : List ℕ) → length (bitReversed l cs) ≡ 2 ^ l
+unfolding bitReversed
+length-bitReversed l cs = length-table (2 ^ l) (λ j. getD cs (reversed l j) 0)
+
+-- words at an index
+pub bitReversed-at : (l : ℕ) (cs : List ℕ) (j : ℕ) → j < 2 ^ l → getD (bitReversed l cs) j 0 ≡ getD cs (reversed l j) 0
+unfolding bitReversed
+bitReversed-at l cs j b = getD-table (2 ^ l) j (λ i. getD cs (reversed l i) 0) b
+
+module _ (p : ℕ) where
+  pub mixed-low : (v : ℕ) (a b : List ℕ) (i : ℕ) → i < length a → getD (mixed p v a b) i 0 ≡ plus p (getD a i 0) (times p (power p v i) (getD b i 0))
+  unfolding mixed sumAt
+  mixed-low v a b i h = table-low (length a) (length a) (sumAt p v a b) (differenceAt p v a b) i h
+
+  pub mixed-high : (v : ℕ) (a b : List ℕ) (i : ℕ) → i < length a → getD (mixed p v a b) (length a + i) 0 ≡ minus p (getD a i 0) (times p (power p v i) (getD b i 0))
+  unfolding mixed differenceAt
+  mixed-high v a b i h = table-high (length a) (length a) (sumAt p v a b) (differenceAt p v a b) i h
+
+  pub unmixed-low : (v m : ℕ) (c : List ℕ) (i : ℕ) → i < m → getD (unmixed p v m c) i 0 ≡ plus p (getD c i 0) (getD c (m + i) 0)
+  unfolding unmixed evenAt
+  unmixed-low v m c i h = table-low m m (evenAt p m c) (oddAt p v m c) i h
+
+  pub unmixed-high : (v m : ℕ) (c : List ℕ) (i : ℕ) → i < m → getD (unmixed p v m c) (m + i) 0 ≡ times p (power p v i) (minus p (getD c i 0) (getD c (m + i) 0))
+  unfolding unmixed oddAt
+  unmixed-high v m c i h = table-high m m (evenAt p m c) (oddAt p v m c) i h
+
+  pub scaled-at : (g : ℕ) (xs : List ℕ) (i : ℕ) → i < length xs → getD (scaled p g xs) i 0 ≡ times p g (getD xs i 0)
+  unfolding scaled
+  scaled-at g [] i h = absurd (omega arith)
+  scaled-at g (x ∷ xs) zero h = refl
+  scaled-at g (x ∷ xs) (suc i) h = scaled-at g xs i (omega arith)
+
+  pub turned-at : (w k t : ℕ) (xs : List ℕ) (i : ℕ) → i < length xs → getD (turned p w k t xs) i 0 ≡ times p (power p w (reversed k (t + i))) (getD xs i 0)
+  unfolding turned
+  turned-at w k t [] i h = absurd (omega arith)
+  turned-at w k t (x ∷ xs) zero h = ap (λ (n : ℕ). times p (power p w (reversed k n)) x) (sym (add-zero t))
+  turned-at w k t (x ∷ xs) (suc i) h = turned-at w k (suc t) xs i (omega arith) ∙ ap (λ (n : ℕ). times p (power p w (reversed k n)) (getD xs i 0)) {x = suc t + i} {y = t + suc i} (omega arith)
+
+-- words of the field
+module _ (p : ℕ) (h : 0 < p) where
+  pub plus-lt : (x y : ℕ) → plus p x y < p
+  unfolding plus
+  plus-lt x y = mod-lt (x + y) h
+
+  pub minus-lt : (x y : ℕ) → minus p x y < p
+  unfolding minus
+  minus-lt x y = mod-lt _ h
+
+  pub times-lt : (x y : ℕ) → times p x y < p
+  unfolding times
+  times-lt x y = mod-lt (x * y) h
+
+  pub words-mixed : (v : ℕ) (a b : List ℕ) → Words p (mixed p v a b)
+  unfolding mixed sumAt differenceAt
+  words-mixed v a b =
+      words-append p h {a = table (length a) (sumAt p v a b)} (words-table p h (length a) (sumAt p v a b) (λ i _. plus-lt _ _)) (words-table p h (length a) (differenceAt p v a b) (λ i _. minus-lt _ _))
+
+  pub words-transform : (w k l : ℕ) {xs : List ℕ} → Words p xs → Words p (transform p w k l xs)
+  unfolding transform
+  words-transform w k zero u = u
+  words-transform w k (suc l) u = words-mixed _ _ _
+
+  pub words-unmixed : (v m : ℕ) (c : List ℕ) → Words p (unmixed p v m c)
+  unfolding unmixed evenAt oddAt
+  words-unmixed v m c =
+      words-append p h {a = table m (evenAt p m c)} (words-table p h m (evenAt p m c) (λ i _. plus-lt _ _)) (words-table p h m (oddAt p v m c) (λ i _. times-lt _ _))
+
+  pub words-untransform : (w k l : ℕ) {c : List ℕ} → Words p c → Words p (untransform p w k l c)
+  unfolding untransform
+  words-untransform w k zero u = u
+  words-untransform w k (suc l) {c} u =
+      let d = unmixed p (power p w (2 ^ k / 2 ^ l)) (2 ^ l) c in
+      let t : Words p d = words-unmixed _ _ _ in
+      words-append p h {a = untransform p w k l (take (2 ^ l) d)} (words-untransform w k l (words-take p h (2 ^ l) t)) (words-untransform w k l (words-drop p h (2 ^ l) t))
+
+  pub words-scaled : (g : ℕ) (xs : List ℕ) → Words p (scaled p g xs)
+  unfolding scaled
+  words-scaled g [] = words-nil p h
+  words-scaled g (x ∷ xs) = words-cons p h (times-lt g x) (words-scaled g xs)
+
+  pub words-turned : (w k t : ℕ) (xs : List ℕ) → Words p (turned p w k t xs)
+  unfolding turned
+  words-turned w k t [] = words-nil p h
+  words-turned w k t (x ∷ xs) = words-cons p h (times-lt _ x) (words-turned w k (suc t) xs)
+
+  pub words-coded : (w k l t : ℕ) {xs : List ℕ} → Words p xs → Words p (coded p w k l t xs)
+  unfolding coded
+  words-coded w k l t {xs} u = words-append p h {a = transform p w k l xs} (words-transform w k l u) (words-transform w k l (words-turned w k t xs))
+
+  pub words-bitReversed : (l : ℕ) {cs : List ℕ} → Words p cs → Words p (bitReversed l cs)
+  unfolding bitReversed
+  words-bitReversed l u = words-table p h (2 ^ l) _ (λ i _. u .word _)
