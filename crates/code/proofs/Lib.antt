@@ -1,2 +1,3 @@
+pub mod Lifting
 pub mod Shapes
 pub mod Worked
