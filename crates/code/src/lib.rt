@@ -1,4 +1,3 @@
-// Coding and decoding of stripes.
-pub fn keep(x: usize) -> usize {
-    x
-}
+// Coding and decoding of stripes (document 01: shelves), in place, on slices that the caller lends. A row is the words of one position, of any
+// width; each function does the same to every column.
+pub mod number;
