@@ -1,3 +1,4 @@
+pub mod BlockDecoding
 pub mod Lifting
 pub mod Shapes
 pub mod Worked
