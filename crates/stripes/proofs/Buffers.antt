@@ -1,0 +1,83 @@
+-- Words of the buffer: what is read, the weights, the root. Assumes nothing.
+use mathlib.Core.Path.{_≡_, ap, _∙_}
+use mathlib.Core.Bool.{Bool, true, false, _&&_, not}
+use mathlib.Core.List.{List, _++_}
+use Prim.Native.Nat.{ℕ, zero, suc, _+_, _*_, _^_, _≤_, _<_}
+use native.Mathlib.Nat.{pow-suc, mul-le-mul, le-of-lt}
+use native.Mathlib.Numerals.{add-one}
+use native.Mathlib.Omega.{arith}
+use lib.Dec.{lit<, eqb}
+use lib.ListN.{length, getD, drop, length-append, take-append-drop}
+use lib.Pow.{pow-mono}
+use lib.Seq.{drop-at, drop-length}
+use Rattle.field.specs.Field.{Root, fermat, rootOf}
+use Rattle.field.specs.Words.{Words}
+use Rattle.field.proofs.Primes.{fermat-root}
+use Rattle.field.proofs.WordLists.{words-append, words-nil, words-table, length-table}
+use Rattle.code.specs.Decoder.{weightTo, weights, erasedCount}
+use Rattle.code.specs.Promises.{Enough}
+use Rattle.code.proofs.Shapes.{times-lt}
+use Rattle.stripes.specs.Input.{Loaded}
+
+-- the code's count of positions
+pub positions : (l : ℕ) {n : ℕ} → n ≡ 2 ^ (l + 1) → n ≡ 2 ^ suc l
+positions l e = e ∙ ap (λ (i : ℕ). 2 ^ i) (add-one l)
+
+-- lengths, where the code has 2 ^ l in a local
+module _ (l width : ℕ) {size : ℕ} (e : size ≡ 2 ^ l) where
+  pub twice : size + size ≡ 2 ^ suc l
+  twice = omega (arith, pow-suc 2 l)
+
+  pub stripe-length : (size + size) * width ≡ 2 ^ l * width + 2 ^ l * width
+  stripe-length = rw e (omega arith)
+
+  pub part-length : (size + size) * width + (size + size) ≡ 2 ^ suc l * width + 2 ^ suc l
+  part-length = ap (λ (n : ℕ). n * width + n) twice
+
+  pub small-length : l ≤ 15 → width < 256 → (size + size) * width + (size + size) < 4294967296
+  small-length b f =
+      let s : size + size ≤ 65536 = omega (arith, pow-mono {i = l} {j = 15} b) in
+      omega (arith, mul-le-mul {n₂ = 65536} {m₂ = 256} s (le-of-lt f))
+
+-- at least half of the positions survive where at most half are erased
+pub enough : (l : ℕ) {n erased : ℕ} (ms : List Bool) → n ≡ 2 ^ (l + 1) → erased ≡ erasedCount l ms → erased + erased ≤ n → Enough l ms
+enough l ms e f b = omega (arith, positions l e, pow-suc 2 l)
+
+-- a root that is the vault's
+pub is-root : {k w : ℕ} → k ≤ 15 → w ≡ rootOf fermat k → Root 65537 k w
+is-root {k} b e = rw e (fermat-root k b)
+
+-- what is read and what stays are words
+pub words-loaded : {count : ℕ} {before after : List ℕ} → Loaded count before after → Words 65537 (drop count before) → Words 65537 after
+words-loaded {count} {before} {after} r w =
+    let behind : Words 65537 (drop count after) = rw (r .rest) w in
+    rw take-append-drop at (words-append 65537 (lit< tt) (r .words) behind)
+
+pub words-loaded-all : {before after : List ℕ} → Loaded (length before) before after → Words 65537 after
+words-loaded-all r = words-loaded r (rw drop-length (words-nil 65537 (lit< tt)))
+
+-- the weights are words
+either-lt : (b : Bool) {x y : ℕ} → x < 65537 → y < 65537 → elim b [ true ↦ x | false ↦ y ] < 65537
+either-lt true l r = l
+either-lt false l r = r
+
+weight-lt : (w k l : ℕ) (ms : List Bool) (i n : ℕ) → weightTo 65537 w k l ms i n < 65537
+unfolding weightTo
+weight-lt w k l ms i zero = lit< tt
+weight-lt w k l ms i (suc n) = either-lt (getD ms n false && not (eqb n i)) (times-lt 65537 (lit< tt) _ _) (weight-lt w k l ms i n)
+
+pub words-weights : (w k l : ℕ) (ms : List Bool) → Words 65537 (weights 65537 w k l ms)
+words-weights w k l ms = words-table 65537 (lit< tt) (2 ^ suc l) _ (λ i b. weight-lt w k l ms i (2 ^ suc l))
+
+-- the buffer once `code::weights::weights` has left the weights behind n words, and then these words are read
+module _ (w k l n : ℕ) (ms : List Bool) (a : List ℕ) {count : ℕ} {before after : List ℕ} (left : before ≡ a ++ weights 65537 w k l ms)
+    (long : length before ≡ n + 2 ^ suc l) (e : count ≡ n) (read : Loaded count before after) where
+  behind : drop n before ≡ weights 65537 w k l ms
+  behind =
+      let ws = weights 65537 w k l ms in
+      rw left (drop-at a ws n (omega (arith, length-append a ws, ap length left, length-table (2 ^ suc l) (λ i. weightTo 65537 w k l ms i (2 ^ suc l)))))
+
+  pub loaded : (length after ≡ n + 2 ^ suc l) × (Words 65537 after × (drop n after ≡ weights 65537 w k l ms))
+  loaded =
+      let r : Loaded n before after = rw e at read in
+      (r .long ∙ long, (words-loaded r (rw behind (words-weights w k l ms)), r .rest ∙ behind))
