@@ -22,7 +22,13 @@ impl Fault {
 }
 
 /// The blocks that code to the words of all positions that are not marked erased. `stripe` has 2^(level+1) rows of `width` words.
-pub fn decode(k: u32, first: u64, width: usize, erased: &[bool], stripe: &[u64]) -> Result<Vec<u64>, Fault> {
+pub fn decode(
+    k: u32,
+    first: u64,
+    width: usize,
+    erased: &[bool],
+    stripe: &[u64],
+) -> Result<Vec<u64>, Fault> {
     let size = erased.len() / 2;
     let survivors: Vec<usize> = (0..2 * size).filter(|&i| !erased[i]).collect();
     if survivors.len() < size {
@@ -33,14 +39,19 @@ pub fn decode(k: u32, first: u64, width: usize, erased: &[bool], stripe: &[u64])
         return Err(Fault::OutOfField);
     }
     // Position i of a column is the sum over j of word j times coefficient i of the unit column j, coded.
-    let units: Vec<Vec<u64>> = (0..size).map(|j| code_column(k, first, &unit(size, j))).collect();
+    let units: Vec<Vec<u64>> = (0..size)
+        .map(|j| code_column(k, first, &unit(size, j)))
+        .collect();
     let system = survivors[..size].iter().map(|&i| {
         let coefficients = units.iter().map(|u| u[i]);
         coefficients.chain(row(i).iter().copied()).collect()
     });
     let blocks = solve(size, system.collect());
     let coded = code(k, first, width, &blocks);
-    if survivors.iter().any(|&i| coded[i * width..(i + 1) * width] != *row(i)) {
+    if survivors
+        .iter()
+        .any(|&i| coded[i * width..(i + 1) * width] != *row(i))
+    {
         return Err(Fault::Inconsistent);
     }
     Ok(blocks)
@@ -54,7 +65,9 @@ fn unit(size: usize, j: usize) -> Vec<u64> {
 /// Gaussian elimination: the rows x with A x = b, where a row of the system is a row of A, then one of b.
 fn solve(size: usize, mut system: Vec<Vec<u64>>) -> Vec<u64> {
     for j in 0..size {
-        let pivot = (j..size).find(|&i| system[i][j] != 0).expect("half of the positions fix the blocks");
+        let pivot = (j..size)
+            .find(|&i| system[i][j] != 0)
+            .expect("half of the positions fix the blocks");
         system.swap(j, pivot);
         let scale = inverse(system[j][j]);
         for x in &mut system[j][j..] {
@@ -70,7 +83,9 @@ fn solve(size: usize, mut system: Vec<Vec<u64>>) -> Vec<u64> {
         }
     }
     let width = system[0].len() - size;
-    let columns: Vec<Vec<u64>> = (0..width).map(|c| system.iter().map(|r| r[size + c]).collect()).collect();
+    let columns: Vec<Vec<u64>> = (0..width)
+        .map(|c| system.iter().map(|r| r[size + c]).collect())
+        .collect();
     rows(&columns)
 }
 
@@ -82,16 +97,28 @@ mod tests {
     #[test]
     fn p4() {
         let erased = [true, true, false, false];
-        assert_eq!(decode(2, 0, 1, &erased, &[0, 0, 65026, 513]), Ok(vec![1, 2]));
+        assert_eq!(
+            decode(2, 0, 1, &erased, &[0, 0, 65026, 513]),
+            Ok(vec![1, 2])
+        );
     }
 
     #[test]
     fn too_few_out_of_field_inconsistent() {
         let none = [false; 2];
-        assert_eq!(decode(2, 2, 1, &[true, true], &[3, 12288]), Err(Fault::TooFew));
-        assert_eq!(decode(2, 2, 1, &none, &[65537, 12288]), Err(Fault::OutOfField));
+        assert_eq!(
+            decode(2, 2, 1, &[true, true], &[3, 12288]),
+            Err(Fault::TooFew)
+        );
+        assert_eq!(
+            decode(2, 2, 1, &none, &[65537, 12288]),
+            Err(Fault::OutOfField)
+        );
         // P10: one column fits, the other does not.
-        assert_eq!(decode(2, 2, 2, &none, &[2, 3, 8192, 12289]), Err(Fault::Inconsistent));
+        assert_eq!(
+            decode(2, 2, 2, &none, &[2, 3, 8192, 12289]),
+            Err(Fault::Inconsistent)
+        );
         assert_eq!(decode(2, 2, 2, &none, &[2, 3, 8192, 12288]), Ok(vec![2, 3]));
     }
 

@@ -20,7 +20,11 @@ pub fn pow(x: u64, e: u64) -> u64 {
         return 1;
     }
     let square = pow(mul(x, x), e / 2);
-    if e % 2 == 0 { square } else { mul(x, square) }
+    if e % 2 == 1 {
+        mul(x, square)
+    } else {
+        square
+    }
 }
 
 /// The inverse of x, which is not 0, by Euclid's algorithm.

@@ -4,3 +4,4 @@ pub mod decode;
 pub mod field;
 pub mod random;
 pub mod stripe;
+pub mod stripe_cases;

@@ -31,7 +31,10 @@ fn half(k: u32, words: &[u64]) -> Vec<u64> {
 
 /// One column, coded: X of the words as they are, then Y of the words times w^rev(t), where t counts up from `first` (t0).
 pub fn code_column(k: u32, first: u64, words: &[u64]) -> Vec<u64> {
-    let turned: Vec<u64> = (first..).zip(words).map(|(t, &x)| mul(x, pow(root(k), rev(k, t)))).collect();
+    let turned: Vec<u64> = (first..)
+        .zip(words)
+        .map(|(t, &x)| mul(x, pow(root(k), rev(k, t))))
+        .collect();
     let mut coded = half(k, words);
     coded.extend(half(k, &turned));
     coded
@@ -44,12 +47,18 @@ pub fn column(width: usize, j: usize, rows: &[u64]) -> Vec<u64> {
 
 /// The rows whose columns these are.
 pub fn rows(columns: &[Vec<u64>]) -> Vec<u64> {
-    (0..columns[0].len()).flat_map(|i| columns.iter().map(move |c| c[i])).collect()
+    (0..columns[0].len())
+        .flat_map(|i| columns.iter().map(move |c| c[i]))
+        .collect()
 }
 
 /// Blocks of `width` words, coded column by column.
 pub fn code(k: u32, first: u64, width: usize, blocks: &[u64]) -> Vec<u64> {
-    rows(&(0..width).map(|j| code_column(k, first, &column(width, j, blocks))).collect::<Vec<_>>())
+    rows(
+        &(0..width)
+            .map(|j| code_column(k, first, &column(width, j, blocks)))
+            .collect::<Vec<_>>(),
+    )
 }
 
 #[cfg(test)]
@@ -68,13 +77,19 @@ mod tests {
 
     #[test]
     fn p3() {
-        assert_eq!(code_column(2, 0, &[1, 2, 3, 4]), [10, 255, 65533, 65280, 11841, 16945, 52674, 49618]);
+        assert_eq!(
+            code_column(2, 0, &[1, 2, 3, 4]),
+            [10, 255, 65533, 65280, 11841, 16945, 52674, 49618]
+        );
     }
 
     #[test]
     fn columns_are_coded_alone() {
         // The levels of document 01's listing: record numbers 0, 1 and 2 written with 1, 2 and 3.
         assert_eq!(code(2, 2, 2, &[2, 3]), [2, 3, 8192, 12288]);
-        assert_eq!(code(2, 0, 2, &[0, 1, 1, 2]), [1, 3, 65536, 65536, 65281, 65026, 256, 513]);
+        assert_eq!(
+            code(2, 0, 2, &[0, 1, 1, 2]),
+            [1, 3, 65536, 65536, 65281, 65026, 256, 513]
+        );
     }
 }

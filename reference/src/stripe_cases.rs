@@ -1,0 +1,315 @@
+//! Test cases for coding and decoding of stripes: what the program `stripes` reads, and what it has to print.
+//!
+//! Input: the count of cases, 2 bytes, then the cases. A case is kind (0 codes, 1 decodes), level, k and width, a byte each, t0 in 2 bytes;
+//! for decoding a byte for each position, 1 where it is erased; then the words of all positions, 3 bytes each. Numbers have the low byte first. Where a
+//! case codes, the blocks stand in the first half, and what stands in the second must not matter.
+//!
+//! Output: a line for each case. Coding: the stripe's words. Decoding: 0, 7 or 9 of document 01's table, and after 0 and 9 what is left in the
+//! stripe's place: the blocks and then zeros, or only zeros.
+use crate::decode::{decode, Fault};
+use crate::field::P;
+use crate::random::Random;
+use crate::stripe::code;
+
+/// The shape of a stripe.
+#[derive(Clone, Copy)]
+struct Shape {
+    level: u32,
+    k: u32,
+    first: u64,
+    width: usize,
+}
+
+impl Shape {
+    fn size(self) -> usize {
+        1 << self.level
+    }
+
+    fn code(self, blocks: &[u64]) -> Vec<u64> {
+        code(self.k, self.first, self.width, blocks)
+    }
+}
+
+/// With marks a case decodes, without it codes.
+struct Case {
+    shape: Shape,
+    erased: Option<Vec<bool>>,
+    words: Vec<u64>,
+}
+
+impl Case {
+    fn input(&self) -> Vec<u8> {
+        let shape = self.shape;
+        let mut bytes = vec![
+            u8::from(self.erased.is_some()),
+            shape.level as u8,
+            shape.k as u8,
+            shape.width as u8,
+        ];
+        bytes.extend((shape.first as u16).to_le_bytes());
+        if let Some(marks) = &self.erased {
+            bytes.extend(marks.iter().map(|&m| u8::from(m)));
+        }
+        for x in &self.words {
+            bytes.extend(&x.to_le_bytes()[..3]);
+        }
+        bytes
+    }
+
+    fn output(&self) -> Vec<u64> {
+        let shape = self.shape;
+        let Some(erased) = &self.erased else {
+            return shape.code(&self.words[..shape.size() * shape.width]);
+        };
+        let (number, mut left) =
+            match decode(shape.k, shape.first, shape.width, erased, &self.words) {
+                Ok(blocks) => (0, blocks),
+                Err(Fault::TooFew) => return vec![7],
+                Err(fault) => (u64::from(fault.number()), Vec::new()),
+            };
+        left.resize(self.words.len(), 0);
+        left.insert(0, number);
+        left
+    }
+}
+
+/// Words of the field, of which many stand at its edges.
+fn words(random: &mut Random, count: usize) -> Vec<u64> {
+    let edges = [0, 1, 255, 256, 32768, 65535, 65536, 65536];
+    let mut word = || {
+        if random.below(4) == 0 {
+            edges[random.below(8) as usize]
+        } else {
+            random.below(P)
+        }
+    };
+    (0..count).map(|_| word()).collect()
+}
+
+fn marks(shape: Shape, erased: impl IntoIterator<Item = usize>) -> Vec<bool> {
+    let mut marks = vec![false; 2 * shape.size()];
+    for i in erased {
+        marks[i] = true;
+    }
+    marks
+}
+
+/// Which positions are erased.
+#[derive(Clone, Copy)]
+enum Erased {
+    None,
+    Some,
+    FewerThanHalf,
+    Half,
+    X,
+    Y,
+    TooMany,
+}
+
+fn erase(random: &mut Random, shape: Shape, which: Erased) -> Vec<bool> {
+    let size = shape.size();
+    let count = match which {
+        Erased::None => 0,
+        Erased::X => return marks(shape, 0..size),
+        Erased::Y => return marks(shape, size..2 * size),
+        Erased::Some => random.below(size as u64 + 1) as usize,
+        Erased::FewerThanHalf => random.below(size as u64) as usize,
+        Erased::Half => size,
+        Erased::TooMany => size + 1 + random.below(size as u64) as usize,
+    };
+    marks(shape, random.some(2 * size, count))
+}
+
+/// What happens to a coded stripe.
+#[derive(Clone, Copy)]
+enum Change {
+    /// Erased positions hold any words.
+    Garbage,
+    /// Erased positions hold zeros.
+    Zeros,
+    /// Besides garbage, one surviving word is altered.
+    Altered,
+    /// All words are any words.
+    Any,
+}
+
+fn coding(random: &mut Random, shape: Shape) -> Case {
+    let words = words(random, 2 * shape.size() * shape.width);
+    Case {
+        shape,
+        erased: None,
+        words,
+    }
+}
+
+fn decoding(random: &mut Random, shape: Shape, which: Erased, change: Change) -> Case {
+    let (size, width) = (shape.size(), shape.width);
+    let erased = erase(random, shape, which);
+    let mut stripe = shape.code(&words(random, size * width));
+    let garbage = words(random, 2 * size * width);
+    for i in 0..stripe.len() {
+        match change {
+            Change::Any => stripe[i] = garbage[i],
+            Change::Zeros if erased[i / width] => stripe[i] = 0,
+            _ if erased[i / width] => stripe[i] = garbage[i],
+            _ => {}
+        }
+    }
+    if let Change::Altered = change {
+        let survivors: Vec<usize> = (0..2 * size).filter(|&i| !erased[i]).collect();
+        let i = survivors[random.below(survivors.len() as u64) as usize] * width
+            + random.below(width as u64) as usize;
+        stripe[i] = (stripe[i] + 1 + random.below(P - 1)) % P;
+    }
+    Case {
+        shape,
+        erased: Some(erased),
+        words: stripe,
+    }
+}
+
+const DECODINGS: [(Erased, Change); 12] = [
+    (Erased::None, Change::Garbage),
+    (Erased::Some, Change::Garbage),
+    (Erased::Some, Change::Zeros),
+    (Erased::X, Change::Garbage),
+    (Erased::Y, Change::Garbage),
+    (Erased::Half, Change::Zeros),
+    (Erased::Half, Change::Garbage),
+    (Erased::FewerThanHalf, Change::Altered),
+    (Erased::None, Change::Altered),
+    (Erased::Half, Change::Altered),
+    (Erased::Half, Change::Any),
+    (Erased::TooMany, Change::Garbage),
+];
+
+/// P1 to P4 of document 01.
+fn worked(cases: &mut Vec<Case>) {
+    let shape = |level, first| Shape {
+        level,
+        k: 2,
+        first,
+        width: 1,
+    };
+    let coding = |level, first, words: &[u64]| Case {
+        shape: shape(level, first),
+        erased: None,
+        words: words.to_vec(),
+    };
+    cases.push(coding(1, 0, &[1, 2, 0, 0]));
+    cases.push(coding(0, 2, &[3, 0]));
+    cases.push(coding(2, 0, &[1, 2, 3, 4, 0, 0, 0, 0]));
+    cases.push(Case {
+        shape: shape(1, 0),
+        erased: Some(vec![true, true, false, false]),
+        words: vec![0, 0, 65026, 513],
+    });
+}
+
+/// Up to four multiples of 2^level below 2^k, the least and the greatest among them.
+fn firsts(random: &mut Random, level: u32, k: u32) -> Vec<u64> {
+    let count = 1 << (k - level);
+    let mut some = vec![0, 1, count - 1, random.below(count)];
+    some.retain(|&i| i < count);
+    some.sort();
+    some.dedup();
+    some.iter().map(|i| i << level).collect()
+}
+
+fn cases() -> Vec<Case> {
+    let mut random = Random::new(2013);
+    let mut cases = Vec::new();
+    worked(&mut cases);
+    let mut turn = 0;
+    for level in 0..=5 {
+        for k in level.max(1)..=5 {
+            for first in firsts(&mut random, level, k) {
+                for width in 1..=4 {
+                    cases.push(coding(
+                        &mut random,
+                        Shape {
+                            level,
+                            k,
+                            first,
+                            width,
+                        },
+                    ));
+                }
+                for (which, change) in DECODINGS {
+                    turn += 1;
+                    cases.push(decoding(
+                        &mut random,
+                        Shape {
+                            level,
+                            k,
+                            first,
+                            width: 1 + turn % 4,
+                        },
+                        which,
+                        change,
+                    ));
+                }
+            }
+        }
+    }
+    for level in 6..10 {
+        let first = random.below(1 << (10 - level)) << level;
+        let shape = Shape {
+            level,
+            k: 10,
+            first,
+            width: 1,
+        };
+        cases.push(coding(&mut random, shape));
+        cases.push(decoding(&mut random, shape, Erased::Some, Change::Garbage));
+    }
+    let large = Shape {
+        level: 10,
+        k: 10,
+        first: 0,
+        width: 2,
+    };
+    cases.push(coding(&mut random, large));
+    for i in [0, 1, 3, 6, 7] {
+        cases.push(decoding(&mut random, large, DECODINGS[i].0, DECODINGS[i].1));
+    }
+    cases
+}
+
+/// What the program reads.
+pub fn input() -> Vec<u8> {
+    let cases = cases();
+    let mut bytes = (cases.len() as u16).to_le_bytes().to_vec();
+    bytes.extend(cases.iter().flat_map(Case::input));
+    bytes
+}
+
+/// What it has to print.
+pub fn output() -> String {
+    let line = |case: &Case| {
+        case.output()
+            .iter()
+            .map(u64::to_string)
+            .collect::<Vec<_>>()
+            .join(" ")
+            + "\n"
+    };
+    cases().iter().map(line).collect()
+}
+
+#[cfg(test)]
+mod tests {
+    use std::fs;
+
+    const STRIPES: &str = concat!(env!("CARGO_MANIFEST_DIR"), "/../crates/stripes/");
+
+    #[test]
+    fn stored_input() {
+        assert!(fs::read(format!("{STRIPES}stdin")).unwrap() == super::input());
+    }
+
+    #[test]
+    fn stored_output() {
+        assert!(fs::read_to_string(format!("{STRIPES}stdout")).unwrap() == super::output());
+    }
+}
