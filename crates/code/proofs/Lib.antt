@@ -1,4 +1,6 @@
 pub mod BlockDecoding
 pub mod Lifting
 pub mod Shapes
+pub mod BitReversal
+pub mod Values
 pub mod Worked
