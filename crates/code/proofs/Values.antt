@@ -3,7 +3,7 @@
 use mathlib.Core.Path.{_≡_, sym, ap, ap₂, _∙_, subst}
 use mathlib.Core.Logic.{_≢_}
 use mathlib.Core.List.{List, _++_}
-use Prim.Native.Nat.{ℕ, zero, suc, _+_, _*_, _-_, _/_, _^_, _≤_, _<_}
+use Prim.Native.Nat.{ℕ, zero, suc, _+_, _*_, _-_, _/_, _%_, _^_, _≤_, _<_}
 use native.Mathlib.Nat.{pow-suc}
 use native.Mathlib.Decide.{decLt}
 use native.Mathlib.Omega.{arith}
@@ -34,6 +34,11 @@ by-halves l P f g i b = go (decLt i (2 ^ l))
     go : Dec (i < 2 ^ l) → P i
     go (yes y) = f i y
     go (no n) = subst P {x = 2 ^ l + (i - 2 ^ l)} {y = i} (omega arith) (g (i - 2 ^ l) (omega arith))
+
+-- mixing of halves whose length is known by an equation: the second half
+pub mixed-second : (p u m : ℕ) (a b : List ℕ) (i : ℕ) → length a ≡ m → i < m
+    → getD (mixed p u a b) (m + i) 0 ≡ minus p (getD a i 0) (times p (power p u i) (getD b i 0))
+mixed-second p u m a b i e c = ap (λ (n : ℕ). getD (mixed p u a b) (n + i) 0) (sym e) ∙ mixed-high p u a b i (omega arith)
 
 -- the root of each level, as the definitions write it: of order 2 * 2 ^ l, and the square of the next one
 module _ (p w k : ℕ) (R : Root p k w) where
@@ -81,7 +86,7 @@ module _ (p l r u : ℕ) (R : Root p (suc l) r) (square : power p r 2 ≡ u) (xs
   mixed-high-value : (i : ℕ) → i < 2 ^ l → getD (mixed p u a b) (2 ^ l + i) 0 ≡ horner p (bitReversed (suc l) xs) (power p r (2 * (2 ^ l + i)))
   mixed-high-value i m =
       let y = v (power p u i) in
-      ap (λ (n : ℕ). getD (mixed p u a b) (n + i) 0) (sym long) ∙ mixed-high p u a b i (omega arith)
+      mixed-second p u (2 ^ l) a b i long m
       ∙ ring p h (v (getD a i 0) ⊖ y ⊗ v (getD b i 0)) (v (getD a i 0) ⊕ (v 0 ⊖ y) ⊗ v (getD b i 0)) h h (omega arith)
       ∙ sym (halves-at i (minus p 0 (power p u i)) m (ring p h ((v 0 ⊖ y) ⊗ (v 0 ⊖ y)) (y ⊗ y) h h (omega arith) ∙ point-square i))
       ∙ ap (horner p (bitReversed (suc l) xs)) (sym (opposite i))
@@ -106,12 +111,19 @@ module _ (p w k : ℕ) (R : Root p k w) where
       (length-transform p w k l a (take-half l xs e)) (transform-value l a s′ (take-half l xs e) (words-take p h (2 ^ l) ws))
       (transform-value l b s′ (drop-half l xs e) (words-drop p h (2 ^ l) ws)) i m
 
--- word j times c * u ^ rev(j): the value is c times that at u * x
 module _ (p : ℕ) (big : 1 < p) where
+  -- the factor of word j: that of the first word, times the power rev(j) of the level's root
+  pub turned-factor : (w k l t j : ℕ) → l ≤ k → t % 2 ^ l ≡ 0 → j < 2 ^ l
+      → power p w (reversed k (t + j)) ≡ times p (power p w (reversed k t)) (power p (power p w (2 ^ k / 2 ^ l)) (reversed l j))
+  turned-factor w k l t j s a b =
+      ap (power p w) (reversed-from k l t j s a b) ∙ power-add p big w (reversed k t) (2 ^ (k - l) * reversed l j)
+      ∙ ap (times p (power p w (reversed k t))) (power-mul p big w (2 ^ (k - l)) (reversed l j) ∙ ap (λ (e : ℕ). power p (power p w e) (reversed l j)) (sym (two-div k l s)))
+
+  -- word j times c * u ^ rev(j): the value is c times that at u * x
   double : (u j : ℕ) → power p u (2 * j) ≡ power p (times p u u) j
   double u j = ap (power p u) {x = 2 * j} {y = j + j} (omega arith) ∙ power-add p big u j j ∙ sym (power-times p big u u j)
 
-  turned-value : (l c u : ℕ) (xs ys : List ℕ) (x : ℕ) → ((j : ℕ) → j < 2 ^ l → getD ys j 0 ≡ times p (times p c (power p u (reversed l j))) (getD xs j 0))
+  pub turned-value : (l c u : ℕ) (xs ys : List ℕ) (x : ℕ) → ((j : ℕ) → j < 2 ^ l → getD ys j 0 ≡ times p (times p c (power p u (reversed l j))) (getD xs j 0))
       → horner p (bitReversed l ys) x ≡ times p c (horner p (bitReversed l xs) (times p u x))
   turned-value zero c u xs ys x e =
       let h : 0 < p = omega arith in
@@ -173,14 +185,8 @@ valuesY p w k l t xs i S C m =
     let f = power p w (reversed k t) in
     coded-high p w k l t xs i (C .long)
     ∙ transform-value p w k (S .root) l ys (S .within) (length-turned p w k t xs ∙ C .long) (words-turned p (omega arith) w k t xs) i m
-    ∙ turned-value p h l f u xs ys (power p u (2 * i)) (λ j b. turned-at p w k t xs j (omega (arith, C .long)) ∙ ap (λ (s : ℕ). times p s (getD xs j 0)) (factor j b))
+    ∙ turned-value p h l f u xs ys (power p u (2 * i)) (λ j b. turned-at p w k t xs j (omega (arith, C .long)) ∙ ap (λ (s : ℕ). times p s (getD xs j 0)) (turned-factor p h w k l t j (S .within) (S .aligned) b))
     ∙ ap (λ (s : ℕ). times p f (horner p (bitReversed l xs) s)) (sym (power-suc p h u (2 * i)) ∙ sym (point-high p w k l i))
-  where
-    factor : (j : ℕ) → j < 2 ^ l → power p w (reversed k (t + j)) ≡ times p (power p w (reversed k t)) (power p (power p w (2 ^ k / 2 ^ l)) (reversed l j))
-    factor j b =
-        let h : 1 < p = S .prime .big in
-        ap (power p w) (reversed-from k l t j (S .within) (S .aligned) b) ∙ power-add p h w (reversed k t) (2 ^ (k - l) * reversed l j)
-        ∙ ap (times p (power p w (reversed k t))) (power-mul p h w (2 ^ (k - l)) (reversed l j) ∙ ap (λ (s : ℕ). power p (power p w s) (reversed l j)) (sym (two-div k l (S .within))))
 
 pub points-distinct : PointsDistinct
 points-distinct p w k l t i j S m n =
