@@ -4,4 +4,6 @@ pub mod Shapes
 pub mod BitReversal
 pub mod Values
 pub mod Inverse
+pub mod Survivors
+pub mod Half
 pub mod Worked
