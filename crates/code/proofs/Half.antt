@@ -26,11 +26,11 @@ use Rattle.code.proofs.Values.{by-halves, valuesX, valuesY, points-dist
 
 -- `valueAt` at a position of X, and of Y
 module _ (p w k l t : ℕ) (c : List ℕ) (i : ℕ) where
-  value-low : i < 2 ^ l → valueAt p w k l t c i ≡ getD c i 0
+  pub value-low : i < 2 ^ l → valueAt p w k l t c i ≡ getD c i 0
   unfolding valueAt
   value-low b = rw (lt-ltb i (2 ^ l) b, valueAt)
 
-  value-high : valueAt p w k l t c (2 ^ l + i) ≡ times p (inverse p (power p w (reversed k t))) (getD c (2 ^ l + i) 0)
+  pub value-high : valueAt p w k l t c (2 ^ l + i) ≡ times p (inverse p (power p w (reversed k t))) (getD c (2 ^ l + i) 0)
   unfolding valueAt
   value-high = rw (le-ltb (2 ^ l + i) (2 ^ l) (omega arith), valueAt)
 

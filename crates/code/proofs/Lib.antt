@@ -6,4 +6,5 @@ pub mod Values
 pub mod Inverse
 pub mod Survivors
 pub mod Half
+pub mod Columns
 pub mod Worked
