@@ -1,7 +1,9 @@
 pub mod BitReversal
 pub mod BlockDecoding
+pub mod Blocks
 pub mod Coefficients
 pub mod Columns
+pub mod Crossing
 pub mod Decoder
 pub mod Evaluation
 pub mod Folding
