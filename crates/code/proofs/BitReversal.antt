@@ -1,22 +1,22 @@
 -- Laws of `reversed` and `bitReversed`: reversing the bits of a number written in two parts, reversing twice, and the value of a polynomial
 -- whose coefficients stand at reversed places. Assumes nothing.
 use mathlib.Core.Path.{_≡_, refl, sym, ap, ap₂, _∙_}
-use mathlib.Core.List.{List, [], _∷_}
+use mathlib.Core.List.{List}
 use Prim.Native.Nat.{ℕ, zero, suc, _+_, _*_, _-_, _/_, _%_, _^_, _≤_, _<_}
-use native.Mathlib.Nat.{pow-succ', mul-assoc, mod-lt}
+use native.Mathlib.Nat.{pow-succ', mul-assoc, mod-lt, mod-add-div}
 use native.Mathlib.Omega.{arith}
-use lib.Pow.{pow-add}
+use lib.Pow.{pow-add, pow-pos}
 use lib.ListN.{length, getD, take, drop}
 use lib.Seq.{getD-take, getD-drop, ext-getD}
 use Rattle.field.specs.Residue.{plus, times}
 use Rattle.field.specs.Polynomial.{horner}
-use Rattle.field.specs.Words.{Words, table}
+use Rattle.field.specs.Words.{table}
 use Rattle.field.proofs.Ring.{v, _⊕_, _⊗_, ring}
 use Rattle.code.specs.Transform.{reversed}
 use Rattle.code.specs.Decoding.{bitReversed}
 use Rattle.code.proofs.Shapes.{reversed-lt, length-bitReversed, bitReversed-at}
 
-reversed-zero : (t : ℕ) → reversed 0 t ≡ 0
+pub reversed-zero : (t : ℕ) → reversed 0 t ≡ 0
 unfolding reversed
 reversed-zero t = refl
 
@@ -41,15 +41,34 @@ reversed-one : (b : ℕ) → reversed 1 b ≡ b % 2
 unfolding reversed
 reversed-one b = omega arith
 
--- a bit above l others comes lowest
-pub reversed-top : (l b j : ℕ) → b < 2 → j < 2 ^ l → reversed (suc l) (2 ^ l * b + j) ≡ b + 2 * reversed l j
-reversed-top l b j s h = reversed-parts l (suc l) 1 b j (omega arith) h ∙ omega (arith, reversed-one b)
-
 pub reversed-even : (l j : ℕ) → reversed (suc l) (2 * j) ≡ reversed l j
 reversed-even l j = reversed-suc l (2 * j) ∙ ap₂ (λ (x y : ℕ). 2 ^ l * x + reversed l y) {x = 2 * j % 2} {y = 0} {u = 2 * j / 2} {v = j} (omega arith) (omega arith) ∙ omega arith
 
 pub reversed-odd : (l j : ℕ) → reversed (suc l) (suc (2 * j)) ≡ 2 ^ l + reversed l j
 reversed-odd l j = reversed-suc l (suc (2 * j)) ∙ ap₂ (λ (x y : ℕ). 2 ^ l * x + reversed l y) {x = suc (2 * j) % 2} {y = 1} {u = suc (2 * j) / 2} {v = j} (omega arith) (omega arith) ∙ omega arith
+
+-- a bit above l others comes lowest
+reversed-top : (l b j : ℕ) → b < 2 → j < 2 ^ l → reversed (suc l) (2 ^ l * b + j) ≡ b + 2 * reversed l j
+reversed-top l b j s h = reversed-parts l (suc l) 1 b j (omega arith) h ∙ omega (arith, reversed-one b)
+
+pub reversed-low : (l j : ℕ) → j < 2 ^ l → reversed (suc l) j ≡ 2 * reversed l j
+reversed-low l j h = ap (reversed (suc l)) {x = j} {y = 2 ^ l * 0 + j} (omega arith) ∙ reversed-top l 0 j (omega arith) h ∙ omega arith
+
+pub reversed-high : (l j : ℕ) → j < 2 ^ l → reversed (suc l) (2 ^ l + j) ≡ suc (2 * reversed l j)
+reversed-high l j h = ap (reversed (suc l)) {x = 2 ^ l + j} {y = 2 ^ l * 1 + j} (omega arith) ∙ reversed-top l 1 j (omega arith) h ∙ omega arith
+
+-- the numbers from t on, where t has no bit among the lowest l
+reversed-of-zero : (l : ℕ) → reversed l 0 ≡ 0
+reversed-of-zero zero = reversed-zero 0
+reversed-of-zero (suc l) = reversed-even l 0 ∙ reversed-of-zero l
+
+pub reversed-from : (k l t j : ℕ) → l ≤ k → t % 2 ^ l ≡ 0 → j < 2 ^ l → reversed k (t + j) ≡ reversed k t + 2 ^ (k - l) * reversed l j
+reversed-from k l t j b a h =
+    let s = t / 2 ^ l in
+    let e : k ≡ k - l + l = omega arith in
+    let f : t ≡ 2 ^ l * s = omega (arith, mod-add-div t (2 ^ l)) in
+    ap (reversed k) {x = t + j} {y = 2 ^ l * s + j} (omega arith) ∙ reversed-parts l k (k - l) s j e h
+    ∙ omega (arith, ap (reversed k) {x = t} {y = 2 ^ l * s + 0} (omega arith), reversed-parts l k (k - l) s 0 e (pow-pos l), ap (λ (x : ℕ). 2 ^ (k - l) * x) (reversed-of-zero l))
 
 -- reversing twice
 pub reversed-twice : (l j : ℕ) → j < 2 ^ l → reversed l (reversed l j) ≡ j
