@@ -12,6 +12,7 @@ pub mod Inverse
 pub mod Lifting
 pub mod Points
 pub mod Products
+pub mod Proved
 pub mod Shapes
 pub mod Survivors
 pub mod Values
