@@ -13,7 +13,9 @@ pub mod Lifting
 pub mod Points
 pub mod Products
 pub mod Proved
+pub mod RowLaws
 pub mod Shapes
 pub mod Survivors
 pub mod Values
+pub mod WeightLaws
 pub mod Worked

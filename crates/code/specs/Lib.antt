@@ -2,6 +2,7 @@ pub mod Decoder
 pub mod Decoding
 pub mod MixTrace
 pub mod Promises
+pub mod RowTrace
 pub mod Rows
 pub mod Stripe
 pub mod Transform

@@ -2,4 +2,6 @@
 // width; each function does the same to every column.
 pub mod mixing;
 pub mod number;
+pub mod stripe;
 pub mod unmixing;
+pub mod weights;
