@@ -1,6 +1,8 @@
-pub mod Transform
+pub mod Decoder
+pub mod Decoding
+pub mod MixTrace
+pub mod Promises
+pub mod RowTrace
 pub mod Rows
 pub mod Stripe
-pub mod Decoding
-pub mod Decoder
-pub mod Promises
+pub mod Transform
