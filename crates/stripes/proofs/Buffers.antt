@@ -1,22 +1,22 @@
 -- Words of the buffer: what is read, the weights, the root. Assumes nothing.
 use mathlib.Core.Path.{_≡_, ap, _∙_}
-use mathlib.Core.Bool.{Bool, true, false, _&&_, not}
+use mathlib.Core.Bool.{Bool}
 use mathlib.Core.List.{List, _++_}
-use Prim.Native.Nat.{ℕ, zero, suc, _+_, _*_, _^_, _≤_, _<_}
+use Prim.Native.Nat.{ℕ, suc, _+_, _*_, _^_, _≤_, _<_}
 use native.Mathlib.Nat.{pow-suc, mul-le-mul, le-of-lt}
 use native.Mathlib.Numerals.{add-one}
 use native.Mathlib.Omega.{arith}
-use lib.Dec.{lit<, eqb}
-use lib.ListN.{length, getD, drop, length-append, take-append-drop}
+use lib.Dec.{lit<}
+use lib.ListN.{length, drop, length-append, take-append-drop}
 use lib.Pow.{pow-mono}
 use lib.Seq.{drop-at, drop-length}
 use Rattle.field.specs.Field.{Root, fermat, rootOf}
 use Rattle.field.specs.Words.{Words}
 use Rattle.field.proofs.Primes.{fermat-root}
-use Rattle.field.proofs.WordLists.{words-append, words-nil, words-table, length-table}
+use Rattle.field.proofs.WordLists.{words-append, words-nil, length-table}
 use Rattle.code.specs.Decoder.{weightTo, weights, erasedCount}
 use Rattle.code.specs.Promises.{Enough}
-use Rattle.code.proofs.Shapes.{times-lt}
+use Rattle.code.proofs.WeightLaws.{words-weights}
 use Rattle.stripes.specs.Input.{Loaded}
 
 -- the code's count of positions
@@ -56,19 +56,6 @@ words-loaded {count} {before} {after} r w =
 pub words-loaded-all : {before after : List ℕ} → Loaded (length before) before after → Words 65537 after
 words-loaded-all r = words-loaded r (rw drop-length (words-nil 65537 (lit< tt)))
 
--- the weights are words
-either-lt : (b : Bool) {x y : ℕ} → x < 65537 → y < 65537 → elim b [ true ↦ x | false ↦ y ] < 65537
-either-lt true l r = l
-either-lt false l r = r
-
-weight-lt : (w k l : ℕ) (ms : List Bool) (i n : ℕ) → weightTo 65537 w k l ms i n < 65537
-unfolding weightTo
-weight-lt w k l ms i zero = lit< tt
-weight-lt w k l ms i (suc n) = either-lt (getD ms n false && not (eqb n i)) (times-lt 65537 (lit< tt) _ _) (weight-lt w k l ms i n)
-
-pub words-weights : (w k l : ℕ) (ms : List Bool) → Words 65537 (weights 65537 w k l ms)
-words-weights w k l ms = words-table 65537 (lit< tt) (2 ^ suc l) _ (λ i b. weight-lt w k l ms i (2 ^ suc l))
-
 -- the buffer once `code::weights::weights` has left the weights behind n words, and then these words are read
 module _ (w k l n : ℕ) (ms : List Bool) (a : List ℕ) {count : ℕ} {before after : List ℕ} (left : before ≡ a ++ weights 65537 w k l ms)
     (long : length before ≡ n + 2 ^ suc l) (e : count ≡ n) (read : Loaded count before after) where
@@ -80,4 +67,4 @@ module _ (w k l n : ℕ) (ms : List Bool) (a : List ℕ) {count : ℕ} {before a
   pub loaded : (length after ≡ n + 2 ^ suc l) × (Words 65537 after × (drop n after ≡ weights 65537 w k l ms))
   loaded =
       let r : Loaded n before after = rw e at read in
-      (r .long ∙ long, (words-loaded r (rw behind (words-weights w k l ms)), r .rest ∙ behind))
+      (r .long ∙ long, (words-loaded r (rw behind (words-weights 65537 (lit< tt) w k l ms (2 ^ suc l) (2 ^ suc l))), r .rest ∙ behind))
