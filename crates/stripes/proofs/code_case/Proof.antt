@@ -1,6 +1,9 @@
 -- `stripes::code_case` is safe and ends: what is read are words, and the root is the vault's. Assumes nothing.
+use Prim.Native.Nat.{_*_, _^_}
 use native.Mathlib.Omega.{arith}
 use borrow.Author.Needs.{needs}
+use lib.Dec.{lit<}
+use Rattle.field.proofs.WordLists.{words-take}
 use Rattle.stripes.proofs.Buffers.{is-root, words-loaded-all}
 use Rattle.stripes.proofs.code_case.Statement.{statement}
 use Rattle.stripes.proofs.code_case.Tie as tie
@@ -15,7 +18,8 @@ code-requires : tie.Need-code-requires
 code-requires c κs =
     let read = c .before .before .before .words .ensures in
     let root = is-root (omega arith) (c .before .before .before .before .before .root .ensures) in
-    (omega arith, (omega arith, (omega (arith, read .long), (root .small, words-loaded-all read))))
+    let half = 2 ^ c .before .before .before .before .before .before .before .args .level * c .before .before .before .before .before .before .before .args .width in
+    (omega arith, (omega arith, (omega (arith, read .long), (root .small, words-take 65537 (lit< tt) half (words-loaded-all read)))))
 
 words-requires-2 : tie.Need-words-requires-2
 words-requires-2 c κs = search needs
