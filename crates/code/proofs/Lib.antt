@@ -1,3 +1,4 @@
 pub mod Lifting
 pub mod Shapes
 pub mod Worked
+pub mod DecodeTraces

@@ -4,3 +4,4 @@ pub mod Stripe
 pub mod Decoding
 pub mod Decoder
 pub mod Promises
+pub mod DecodeTrace
