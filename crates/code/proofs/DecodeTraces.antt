@@ -2,8 +2,8 @@
 use mathlib.Core.Path.{_≡_, refl, sym, ap, ap₂, _∙_}
 use mathlib.Core.Bool.{Bool, true, false, _&&_, _||_}
 use mathlib.Core.List.{List, [], _∷_, _++_}
-use Prim.Native.Nat.{ℕ, zero, suc, _+_, _*_, _-_, _≤_, _<_}
-use native.Mathlib.Nat.{add-zero, add-suc, add-assoc, eq-or-lt-of-le}
+use Prim.Native.Nat.{ℕ, zero, suc, _+_, _*_, _-_, _^_, _≤_, _<_}
+use native.Mathlib.Nat.{add-zero, add-suc, add-assoc, eq-or-lt-of-le, suc-mul, pow-succ', mul-le-mul-right}
 use native.Mathlib.Numerals.{add-one}
 use native.Mathlib.Omega.{arith}
 use mathlib.Core.Logic.{⊎-elim}
@@ -122,12 +122,23 @@ module _ {p n at : ℕ} {f : ℕ → ℕ} {l₀ l : List ℕ} (z : 0 < p) (w : W
     now = rw (add-one, e) (ap (λ (r : List ℕ). set r (at + n) (f n)) (w .now));
   }
 
-  pub writes-row : (m : ℕ) (g : ℕ → ℕ) {l′ : List ℕ} → l′ ≡ written m (at + n) g l → ((j : ℕ) → j < m → g j ≡ f (n + j)) → ((j : ℕ) → g j < p) → Writes p (n + m) at f l₀ l′
-  writes-row m g e s b = record {
-    same = ap length e ∙ length-written (at + n) g l m ∙ w .same;
-    words = rw e (words-written p z m (at + n) g b (w .words));
-    now = e ∙ ap (written m (at + n) g) (w .now) ∙ written-more n m at f g l₀ s;
+  pub writes-row : (m : ℕ) (g : ℕ → ℕ) {to : ℕ} {l′ : List ℕ} → to ≡ at + n → l′ ≡ written m to g l → ((j : ℕ) → j < m → g j ≡ f (n + j)) → ((j : ℕ) → g j < p)
+      → Writes p (n + m) at f l₀ l′
+  writes-row m g {to} d e s b = record {
+    same = ap length e ∙ length-written to g l m ∙ w .same;
+    words = rw e (words-written p z m to g b (w .words));
+    now = e ∙ rw (d, w .now) (written-more n m at f g l₀ s);
   }
+
+-- places of rows: both halves of 2 ^ suc l rows, a row among m, and the row after it
+pub two-halves : (l width : ℕ) → 2 ^ suc l * width ≡ 2 ^ l * width + 2 ^ l * width
+two-halves l width = ap (λ (n : ℕ). n * width) (pow-succ' 2 l) ∙ omega arith
+
+pub row-in : {i m : ℕ} (width : ℕ) → i < m → i * width + width ≤ m * width
+row-in {i} width h = rw suc-mul at (mul-le-mul-right {m = suc i} width h)
+
+pub row-next : (i width : ℕ) → (i + 1) * width ≡ i * width + width
+row-next i width = ap (λ (n : ℕ). n * width) (add-one i) ∙ suc-mul i width
 
 -- a run of m rows whose words are f's is f done to each column
 pub table-lifted : (width n m : ℕ) (f : List ℕ → List ℕ) (g : ℕ → ℕ) (l : List ℕ)
