@@ -3,18 +3,21 @@ use mathlib.Core.Path.{_≡_, refl, sym, ap, ap₂, _∙_}
 use mathlib.Core.Bool.{Bool, true, false}
 use mathlib.Core.List.{List, _++_}
 use Prim.Native.Nat.{ℕ, suc, _+_, _*_, _-_, _/_, _^_, _≤_, _<_}
+use native.Mathlib.Nat.{zero-add}
 use native.Mathlib.Decide.{decLt}
 use native.Mathlib.Omega.{arith}
 use lib.Arith.{digits-lt, digits-div}
 use lib.ListN.{length, getD, take, drop}
+use lib.Seq.{getD-take}
 use Rattle.field.specs.Residue.{plus, minus, times}
 use Rattle.code.specs.Transform.{reversed}
 use Rattle.code.specs.Rows.{column, lifted}
-use Rattle.code.specs.Decoder.{halfOf, derivedAt, derived}
+use Rattle.field.specs.Power.{inverse}
+use Rattle.code.specs.Decoder.{halfOf, derivedAt, derived, divisorAt, chosenAt, chosen}
 use Rattle.code.specs.DecodeTrace.{written}
 use Rattle.code.proofs.Lifting.{length-column, column-at, is-lifted}
-use Rattle.code.proofs.DecoderShapes.{derived-low, derived-high}
-use Rattle.code.proofs.DecodeTraces.{length-written, written-before, written-in, two-halves}
+use Rattle.code.proofs.DecoderShapes.{derived-low, derived-high, chosen-at}
+use Rattle.code.proofs.DecodeTraces.{length-written, written-before, written-in, written-is, table-lifted, two-halves}
 
 -- STEP 3, word q of the second half
 unfoldable pub deriveWord : (p level width : ℕ) → (rows : List ℕ) → (q : ℕ) → ℕ
@@ -49,3 +52,34 @@ module _ (p l width : ℕ) (r : List ℕ) (long : length r ≡ 2 ^ suc l * width
           rw (← e, high-row)
           (written-in (2 ^ l * width) (deriveWord p l width r) r (2 ^ l * width) (a * width + j) (digits-lt (omega arith) b) (omega (arith, long, two-halves l width))
           ∙ derive-word a j (omega arith) b ∙ sym (derived-high p l (column width (2 ^ suc l) j r) a (length-column width (2 ^ suc l) j r) (omega arith)))
+
+-- STEP 5, word q of the first half; the weights stand behind the rows
+unfoldable pub chooseWord : (p w k level width : ℕ) → (marks : List Bool) → (part : List ℕ) → (q : ℕ) → ℕ
+chooseWord p w k l width ms part q =
+    times p (inverse p (divisorAt p w k l ms (drop (2 ^ suc l * width) part) (q / width)))
+    (elim (getD ms (q / width) false) [ true ↦ getD part (2 ^ l * width + q) 0 | false ↦ getD part q 0 ])
+
+-- a word of a column of the first n rows
+column-take : (width n i j : ℕ) (l : List ℕ) → i < n → j < width → getD (column width n j (take (n * width) l)) i 0 ≡ getD l (i * width + j) 0
+column-take width n i j l h b = column-at width n j (take (n * width) l) i h ∙ getD-take (n * width) l (i * width + j) 0 (digits-lt h b)
+
+module _ (p w k l width : ℕ) (ms : List Bool) (part : List ℕ) (long : 2 ^ suc l * width ≤ length part) where
+  choose-word : (i j : ℕ) → i < 2 ^ l → j < width
+      → chooseWord p w k l width ms part (i * width + j)
+      ≡ getD (chosen p w k l ms (drop (2 ^ suc l * width) part) (column width (2 ^ suc l) j (take (2 ^ suc l * width) part))) i 0
+  unfolding chooseWord chosenAt
+  choose-word i j h b =
+      let c = column width (2 ^ suc l) j (take (2 ^ suc l * width) part) in
+      let x : getD c i 0 ≡ getD part (i * width + j) 0 = column-take width (2 ^ suc l) i j part (omega arith) b in
+      let y : getD c (2 ^ l + i) 0 ≡ getD part (2 ^ l * width + (i * width + j)) 0 =
+      column-take width (2 ^ suc l) (2 ^ l + i) j part (omega arith) b ∙ ap (λ (q : ℕ). getD part q 0) (high-row l i width j) in
+      rw (digits-div i b)
+      (ap₂ (λ (a e : ℕ). times p (inverse p (divisorAt p w k l ms (drop (2 ^ suc l * width) part) i)) (elim (getD ms i false) [ true ↦ e | false ↦ a ])) (sym x) (sym y)
+      ∙ sym (chosen-at p l w k ms (drop (2 ^ suc l * width) part) c i h))
+
+  pub choose-rows : written (2 ^ l * width) 0 (chooseWord p w k l width ms part) part
+      ≡ lifted width (2 ^ suc l) (2 ^ l) (chosen p w k l ms (drop (2 ^ suc l * width) part)) (take (2 ^ suc l * width) part) ++ drop (2 ^ l * width) part
+  choose-rows =
+      let f = chooseWord p w k l width ms part in
+      written-is 0 f part (2 ^ l * width) (omega (arith, two-halves l width))
+      ∙ rw (zero-add, table-lifted width (2 ^ suc l) (2 ^ l) (chosen p w k l ms (drop (2 ^ suc l * width) part)) f (take (2 ^ suc l * width) part) choose-word)

@@ -1,134 +1,258 @@
+-- `code::decoding::choose` meets its contract. The invariant: the first i rows are written. Assumes nothing.
+use mathlib.Core.Path.{_≡_, refl, sym, ap, _∙_}
+use mathlib.Core.Bool.{Bool, true, false}
+use mathlib.Core.List.{List, _++_}
+use mathlib.Core.Logic.{⊎-elim}
+use Prim.Native.Nat.{ℕ, suc, _+_, _*_, _-_, _/_, _^_, _≤_, _<_}
+use native.Mathlib.Nat.{zero-mul, zero-add}
+use native.Mathlib.Omega.{arith}
+use borrow.Author.Tests.{lt-ltb}
+use lib.Arith.{digits-div}
+use lib.Dec.{lit<}
+use lib.ListN.{length, getD, take, drop}
+use lib.Pow.{pow-mono, pow-add, shl-shr}
+use lib.Seq.{getD-drop}
+use Rattle.field.specs.Residue.{times}
+use Rattle.field.specs.Power.{power, inverse}
+use Rattle.field.specs.Words.{Words}
+use Rattle.field.proofs.Unity.{two-div}
+use Rattle.field.proofs.Powers.{power-lt}
+use Rattle.code.specs.Rows.{lifted}
+use Rattle.code.specs.Decoding.{pointAt}
+use Rattle.code.specs.Decoder.{divisorAt, chosen}
+use Rattle.code.specs.DecodeTrace.{written, scaleAt}
+use Rattle.code.proofs.Shapes.{times-lt}
+use Rattle.code.proofs.DecodeTraces.{Writes, writes-start, after-writes, writes-row, two-halves, row-in, row-next}
+use Rattle.code.proofs.DecodeSteps.{chooseWord, choose-rows}
 use Rattle.code.proofs.decoding.choose.Statement.{statement}
 use Rattle.code.proofs.decoding.choose.Tie as tie
-use Rattle.code.proofs.decoding.choose.Reads as reads
-use Rattle.code.proofs.decoding.choose.Lts as lts
-use Rattle.code.proofs.decoding.choose_row.Reads as choose-row-reads
-use Rattle.code.proofs.number.two_to.Reads as two-to-reads
-use Rattle.field.proofs.inverse.Reads as inverse-reads
-use Rattle.field.proofs.mul.Reads as mul-reads
-use Rattle.field.proofs.power.Reads as power-reads
+
+record Inv (part₀ : List ℕ) (marks : List Bool) (level k width root rows square u : ℕ) (part : List ℕ) (at i : ℕ) : Type 0 where
+  turns : i ≤ rows
+  rows-is : rows ≡ 2 ^ level
+  long : length part₀ ≡ rows * width + rows * width + (rows + rows)
+  square-is : square ≡ times 65537 (2 ^ level) (2 ^ level)
+  u-is : u ≡ power 65537 root (2 ^ k / 2 ^ level)
+  at-is : at ≡ i * width
+  writes : Writes 65537 (i * width) 0 (chooseWord 65537 root k level width marks part₀) part₀ part
+
+start : (part : List ℕ) (marks : List Bool) (level k width root rows square u e : ℕ) → level ≤ k → rows ≡ 2 ^ level → length part ≡ 2 ^ suc level * width + 2 ^ suc level
+    → square ≡ times 65537 rows rows → e ≡ 2 ^ (k - level) → u ≡ power 65537 root e → Words 65537 part → Inv part marks level k width root rows square u part 0 0
+start part marks level k width root rows square u e le er l es ee eu w = record {
+  turns = omega arith;
+  rows-is = er;
+  long = l ∙ rw er (omega (arith, two-halves level width));
+  square-is = es ∙ rw er;
+  u-is = eu ∙ ap (power 65537 root) (ee ∙ sym (two-div k level le));
+  at-is = sym (zero-mul width);
+  writes = rw zero-mul (writes-start 0 (chooseWord 65537 root k level width marks part) w);
+}
+
+inverse-lt : (x : ℕ) → inverse 65537 x < 65537
+unfolding inverse
+inverse-lt x = power-lt 65537 (lit< tt) x 65535
+
+-- what the marks choose: the word to divide by, and the row to take
+record Picked (part₀ : List ℕ) (marks : List Bool) (level k width root rows square : ℕ) (part : List ℕ) (at i d from : ℕ) : Type 0 where
+  small : d < 65537
+  low : at ≤ from
+  within : from + width ≤ rows * width + rows * width
+  divisor : times 65537 square d ≡ divisorAt 65537 root k level marks (drop (2 ^ suc level * width) part₀) i
+  read : (c : ℕ) → c < width
+      → getD part (from + c) 0 ≡ elim (getD marks i false) [ true ↦ getD part₀ (2 ^ level * width + (i * width + c)) 0 | false ↦ getD part₀ (i * width + c) 0 ]
+
+module _ {part₀ : List ℕ} {marks : List Bool} {level k width root rows square u : ℕ} {part : List ℕ} {at i : ℕ} (h : Inv part₀ marks level k width root rows square u part at i) (l : i < rows) where
+  room : at + width ≤ rows * width
+  room = omega (arith, row-in width l)
+
+  -- the position's weight
+  weight : getD part (rows * width + rows * width + i) 0 ≡ getD (drop (2 ^ suc level * width) part₀) i 0
+  weight =
+      after-writes (lit< tt) (h .writes) (rows * width + rows * width + i) (omega (arith, room, h .at-is))
+      ∙ sym (getD-drop (2 ^ suc level * width) part₀ i 0 ∙ rw (two-halves, h .rows-is))
+
+  point : pointAt 65537 root k level i ≡ power 65537 u (2 * i)
+  unfolding pointAt
+  point = rw (lt-ltb i (2 ^ level) (rw (← h .rows-is) l), pointAt) (ap (λ (v : ℕ). power 65537 v (2 * i)) (sym (h .u-is)))
+
+  -- a word of the row at `at`, or at the same place of the second half
+  word : (b c : ℕ) → at + c ≤ b → getD part b 0 ≡ getD part₀ b 0
+  word b c le = after-writes (lit< tt) (h .writes) b (omega (arith, h .at-is))
+
+  erased : {e d from : ℕ} → getD marks i false ≡ true → e ≡ power 65537 u (2 * i) → d ≡ times 65537 e (getD part (rows * width + rows * width + i) 0) → from ≡ rows * width + at
+      → Picked part₀ marks level k width root rows square part at i d from
+  unfolding divisorAt
+  erased {e} {from} m ee ed ef = record {
+    small = rw ed (times-lt 65537 (lit< tt) e (getD part (rows * width + rows * width + i) 0));
+    low = omega arith;
+    within = omega (arith, room);
+    divisor = rw (m, h .square-is, ed, weight, ee, point);
+    read = λ c t. rw m (word (from + c) c (omega arith) ∙ ap (λ (q : ℕ). getD part₀ q 0) {x = from + c} {y = 2 ^ level * width + (i * width + c)} (omega (arith, h .at-is, ap (λ (n : ℕ). n * width) (h .rows-is))));
+  }
+
+  survives : {d from : ℕ} → getD marks i false ≡ false → d ≡ getD part (rows * width + rows * width + i) 0 → from ≡ at → Picked part₀ marks level k width root rows square part at i d from
+  unfolding divisorAt
+  survives {from} m ed ef = record {
+    small = rw ed (h .writes .words .word (rows * width + rows * width + i));
+    low = omega arith;
+    within = omega (arith, room);
+    divisor = rw (m, h .square-is, ed, weight);
+    read = λ c t. rw m (word (from + c) c (omega arith) ∙ ap (λ (q : ℕ). getD part₀ q 0) {x = from + c} {y = i * width + c} (omega (arith, h .at-is)));
+  }
+
+  module _ {d from g : ℕ} (p : Picked part₀ marks level k width root rows square part at i d from) (eg : g ≡ inverse 65537 (times 65537 square d)) where
+    -- a word of the row that is written
+    written-word : (c : ℕ) → c < width → scaleAt 65537 from g part c ≡ chooseWord 65537 root k level width marks part₀ (i * width + c)
+    unfolding scaleAt chooseWord
+    written-word c t = rw (digits-div i t, eg, p .divisor) (ap (times 65537 (inverse 65537 (divisorAt 65537 root k level marks (drop (2 ^ suc level * width) part₀) i))) (p .read c t))
+
+    turn : {part′ : List ℕ} → part′ ≡ written width at (scaleAt 65537 from g part) part → Inv part₀ marks level k width root rows square u part′ (at + width) (i + 1)
+    unfolding scaleAt
+    turn e = record {
+      turns = omega arith;
+      rows-is = h .rows-is;
+      long = h .long;
+      square-is = h .square-is;
+      u-is = h .u-is;
+      at-is = omega (arith, row-next i width);
+      writes = rw row-next (writes-row (lit< tt) (h .writes) width _ (h .at-is ∙ sym (zero-add (i * width))) e written-word (λ c. times-lt 65537 (lit< tt) _ _));
+    }
+
+done : {part₀ : List ℕ} {marks : List Bool} {level k width root rows square u : ℕ} {part : List ℕ} {at i : ℕ} → Inv part₀ marks level k width root rows square u part at i → rows ≤ i
+    → part ≡ lifted width (2 ^ suc level) (2 ^ level) (chosen 65537 root k level marks (drop (2 ^ suc level * width) part₀)) (take (2 ^ suc level * width) part₀) ++ drop (2 ^ level * width) part₀
+done {part₀} {marks} {level} {k} {width} {root} {rows} {i} h l =
+    let e : i ≡ 2 ^ level = omega (arith, h .rows-is) in
+    h .writes .now ∙ rw e (choose-rows 65537 root k level width marks part₀ (omega (arith, h .long, two-halves level width, ap (λ (n : ℕ). n * width) (h .rows-is))))
 
 abbrev Inv-loop : tie.InvT-loop
-Inv-loop part₀ marks level k width root rows half base square u at₀ i₀ part at i = ?
+Inv-loop part₀ marks level k width root rows half base square u at₀ i₀ part at i = Inv part₀ marks level k width root rows square u part at i
 
 abbrev μ-loop : tie.MeasureT-loop
-μ-loop part₀ marks level k width root rows half base square u at₀ i₀ part at i = ?
+μ-loop part₀ marks level k width root rows half base square u at₀ i₀ part at i = rows - i
 
--- src/decoding.rt:112:9
+-- the count of rows, and the length
+small : (c : tie.After-two-to Inv-loop μ-loop) → c .two-to .result ≤ 32768
+small c = omega (arith, c .two-to .ensures, pow-mono {i = c .before .before .before .args .level} {j = 15} (omega arith))
+
+long : (c : tie.After-two-to Inv-loop μ-loop) → length (c .before .before .before .args .part .now)
+    ≡ c .two-to .result * c .before .before .before .args .width + c .two-to .result * c .before .before .before .args .width + (c .two-to .result + c .two-to .result)
+long c =
+    let a = c .before .before .before .args in
+    c .before .before .before .pre .1 .1 .0 ∙ rw (c .two-to .ensures) (omega (arith, two-halves (a .level) (a .width)))
+
+picked : (c : tie.Joined1 Inv-loop μ-loop)
+    → Picked (c .before .before .before .before .before .before .before .before .before .before .before .args .part .now) (c .before .before .before .before .before .before .before .before .before .before .before .args .marks .now) (c .before .before .before .before .before .before .before .before .before .before .before .args .level) (c .before .before .before .before .before .before .before .before .before .before .before .args .k) (c .before .before .before .before .before .before .before .before .before .before .before .args .width) (c .before .before .before .before .before .before .before .before .before .before .before .args .root)
+    (c .before .before .before .before .before .before .before .before .two-to .result) (c .before .before .before .before .before .before .before .mul .result) (c .before .before .before .before .loop .part) (c .before .before .before .before .loop .at) (c .before .before .before .before .loop .i) (c .if1 .d) (c .if1 .from)
+picked c =
+    let at = c .before .before .before in
+    let h = at .before .loop .inv in
+    let l = at .loop-test .taken in
+    ⊎-elim (λ w. erased h l (w .0 .taken) (w .1 .ensures) (w .3 ∙ w .2 .ensures) (w .4)) (λ w. survives h l (w .0 .left) (w .1) (w .2)) (c .if1 .came)
+
 two-to-requires : tie.Need-two-to-requires Inv-loop μ-loop
-two-to-requires c κs = ?
+two-to-requires c κs = omega arith
 
--- src/decoding.rt:113:16
 mul-half : tie.Need-mul-half Inv-loop μ-loop
-mul-half c = ?
+mul-half c = omega (arith, long c)
 
--- src/decoding.rt:114:16
 add-base : tie.Need-add-base Inv-loop μ-loop
-add-base c = ?
+add-base c = omega (arith, long c)
 
--- src/decoding.rt:115:29
 cast-mul : tie.Need-cast-mul Inv-loop μ-loop
-cast-mul c = ?
+cast-mul c = omega (arith, small c)
 
--- src/decoding.rt:115:42
 cast-mul-2 : tie.Need-cast-mul-2 Inv-loop μ-loop
-cast-mul-2 c = ?
+cast-mul-2 c = omega (arith, small c)
 
--- src/decoding.rt:115:9
 mul-requires : tie.Need-mul-requires Inv-loop μ-loop
-mul-requires c κs = ?
+mul-requires c κs = (omega (arith, small c), omega (arith, small c))
 
--- src/decoding.rt:116:54
 sub-two-to : tie.Need-sub-two-to Inv-loop μ-loop
-sub-two-to c = ?
+sub-two-to c = omega arith
 
--- src/decoding.rt:116:32
 two-to-requires-2 : tie.Need-two-to-requires-2 Inv-loop μ-loop
-two-to-requires-2 c κs = ?
+two-to-requires-2 c κs = omega arith
 
--- src/decoding.rt:116:32
 cast-power : tie.Need-cast-power Inv-loop μ-loop
-cast-power c = ?
+cast-power c = let a = c .before .before .before .before .before .args in omega (arith, c .two-to2 .ensures, pow-mono {i = a .k - a .level} {j = 15} (omega arith))
 
--- src/decoding.rt:116:9
 power-requires : tie.Need-power-requires Inv-loop μ-loop
-power-requires c κs = ?
+power-requires c κs = omega arith
 
--- src/decoding.rt:118:5
 loop-holds : tie.Need-loop-holds Inv-loop μ-loop
-loop-holds c = ?
+loop-holds c =
+    let s = c .before .before .before .before .before .before in
+    let a = s .args in
+    start (a .part .now) (a .marks .now) (a .level) (a .k) (a .width) (a .root) (c .before .before .before .two-to .result) (c .before .before .mul .result) (c .power .result)
+    (c .before .two-to2 .result) (s .pre .0 .0) (c .before .before .before .two-to .ensures) (s .pre .1 .1 .0) (c .before .before .mul .ensures) (c .before .two-to2 .ensures) (c .power .ensures) (s .pre .1 .1 .1 .1)
 
--- src/decoding.rt:119:17
 add-x : tie.Need-add-x Inv-loop μ-loop
-add-x c = ?
+add-x c = omega (arith, c .before .loop .inv .long)
 
--- src/decoding.rt:120:21
 mul-d : tie.Need-mul-d Inv-loop μ-loop
-mul-d c = ?
+mul-d c = omega (arith, c .before .loop .inv .long)
 
--- src/decoding.rt:120:21
 slice-read-d : tie.Need-slice-read-d Inv-loop μ-loop
-slice-read-d c = ?
+slice-read-d c = let h = c .before .before .loop .inv in omega (arith, h .long, h .writes .same)
 
--- src/decoding.rt:122:12
 shared-slice-read-if1 : tie.Need-shared-slice-read-if1 Inv-loop μ-loop
-shared-slice-read-if1 c = ?
+shared-slice-read-if1 c = omega (arith, c .before .before .before .loop .inv .rows-is)
 
--- src/decoding.rt:123:45
 mul-power : tie.Need-mul-power Inv-loop μ-loop
-mul-power c = ?
+mul-power c = omega (arith, small (c .before .before .before .before .before .before .before .before))
 
--- src/decoding.rt:123:44
 cast-power-2 : tie.Need-cast-power-2 Inv-loop μ-loop
-cast-power-2 c = ?
+cast-power-2 c = omega (arith, small (c .before .before .before .before .before .before .before .before))
 
--- src/decoding.rt:123:28
 power-requires-2 : tie.Need-power-requires-2 Inv-loop μ-loop
-power-requires-2 c κs = ?
+power-requires-2 c κs = rw (c .before .before .before .before .before .power .ensures) (power-lt 65537 (lit< tt) _ _)
 
--- src/decoding.rt:123:13
 mul-requires-2 : tie.Need-mul-requires-2 Inv-loop μ-loop
-mul-requires-2 c κs = ?
+mul-requires-2 c κs = (rw (c .power2 .ensures) (power-lt 65537 (lit< tt) _ _), c .before .before .before .before .before .loop .inv .writes .words .word _)
 
--- src/decoding.rt:124:20
 add-from : tie.Need-add-from Inv-loop μ-loop
-add-from c = ?
+add-from c =
+    let at = c .before .before .before .before .before in
+    let h = at .before .loop .inv in
+    omega (arith, room h (at .loop-test .taken), h .long)
 
--- src/decoding.rt:126:58
 mul-requires-3 : tie.Need-mul-requires-3 Inv-loop μ-loop
-mul-requires-3 c κs = ?
+mul-requires-3 c κs = (rw (c .before .before .before .before .before .before .before .before .mul .ensures) (times-lt 65537 (lit< tt) _ _), picked (c .before) .small)
 
--- src/decoding.rt:126:43
 inverse-requires : tie.Need-inverse-requires Inv-loop μ-loop
-inverse-requires c κs = ?
+inverse-requires c κs = rw (c .mul3 .ensures) (times-lt 65537 (lit< tt) _ _)
 
--- src/decoding.rt:126:9
 choose-row-requires : tie.Need-choose-row-requires Inv-loop μ-loop
-choose-row-requires c κs = ?
+choose-row-requires c κs =
+    let join = c .before .before .before in
+    let h = join .before .before .before .before .loop .inv in
+    let p = picked join in
+    ((p .low, omega (arith, p .within, h .long, h .writes .same)), (rw (c .inverse .ensures) (inverse-lt _), h .writes .words))
 
--- src/decoding.rt:127:9
 add-at : tie.Need-add-at Inv-loop μ-loop
-add-at c = ?
+add-at c =
+    let at = c .before .before .before .before .before .before .before .before .before in
+    let h = at .before .loop .inv in
+    omega (arith, room h (at .loop-test .taken), h .long)
 
--- src/decoding.rt:118:9
 add-i : tie.Need-add-i Inv-loop μ-loop
-add-i c = ?
+add-i c = omega arith
 
--- src/decoding.rt:118:5
 loop-less : tie.Need-loop-less Inv-loop μ-loop
-loop-less c = ?
+loop-less c = omega arith
 
--- src/decoding.rt:118:5
 loop-again : tie.Need-loop-again Inv-loop μ-loop
-loop-again c = ?
+loop-again c =
+    let row = c .before .before in
+    let join = row .before .before .before .before in
+    let at = join .before .before .before in
+    turn (at .before .loop .inv) (at .loop-test .taken) (picked join) (row .before .inverse .ensures ∙ ap (inverse 65537) (row .before .before .mul3 .ensures)) (row .choose-row .ensures)
 
--- src/decoding.rt:100:1
 same-length : tie.Need-same-length Inv-loop μ-loop
-same-length c = ?
+same-length c = c .before .loop .inv .writes .same
 
--- src/decoding.rt:100:1
 returns : tie.Need-returns Inv-loop μ-loop
-returns c = ?
+returns c = done (c .before .loop .inv) (c .loop-test .left)
 
 pub choose-spec : {M : Type 1} → statement M
 choose-spec =
