@@ -1,7 +1,8 @@
-pub mod Transform
+pub mod DecodeTrace
+pub mod Decoder
+pub mod Decoding
+pub mod MixTrace
+pub mod Promises
 pub mod Rows
 pub mod Stripe
-pub mod Decoding
-pub mod Decoder
-pub mod Promises
-pub mod DecodeTrace
+pub mod Transform
