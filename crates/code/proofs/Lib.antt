@@ -1,3 +1,4 @@
-pub mod Lifting
 pub mod Shapes
+pub mod Lifting
+pub mod RowLaws
 pub mod Worked

@@ -3,4 +3,5 @@ pub mod Rows
 pub mod Stripe
 pub mod Decoding
 pub mod Decoder
+pub mod RowTrace
 pub mod Promises
