@@ -8,7 +8,7 @@ use native.Mathlib.Numerals.{add-one}
 use native.Mathlib.Decide.{decLt}
 use native.Mathlib.Omega.{arith}
 use lib.ListN.{length, getD, set, take, drop, length-set, length-append, length-drop, List·getD-append}
-use lib.Seq.{drop-length, getD-set-same, getD-set-other, getD-append-add, getD-take, getD-drop, length-take-le, ext-getD}
+use lib.Seq.{set-comm, drop-length, getD-set-same, getD-set-other, getD-append-add, getD-take, getD-drop, length-take-le, ext-getD}
 use lib.Arith.{digits-div, digits-lt}
 use Rattle.field.specs.Residue.{times}
 use Rattle.field.specs.Words.{Words, table}
@@ -91,6 +91,13 @@ stored-more a f g n zero l e = rw add-zero
 stored-more a f g n (suc m) l e =
     let r : stored (a + n) g m (stored a f n l) ≡ stored a f (n + m) l = stored-more a f g n m l (λ i t. e i (omega arith)) in
     rw (add-suc, r, e m (omega arith), add-assoc)
+
+-- a word off those stored that is stored after them, or before
+pub set-stored : (a : ℕ) (f : ℕ → ℕ) (n : ℕ) (l : List ℕ) (k x : ℕ) → ((i : ℕ) → i < n → k ≢ a + i) → set (stored a f n l) k x ≡ stored a f n (set l k x)
+unfolding stored
+set-stored a f zero l k x h = refl
+set-stored a f (suc n) l k x h =
+    set-comm (stored a f n l) (a + n) k (f n) x (λ e. h n (omega arith) (sym e)) ∙ ap (λ (r : List ℕ). set r (a + n) (f n)) (set-stored a f n l k x (λ i t. h i (omega arith)))
 
 -- A LOOP that stores: what holds after i of its n turns
 pub record Storing (a : ℕ) (f : ℕ → ℕ) (n : ℕ) (l₀ l : List ℕ) (i : ℕ) : Type 0 where

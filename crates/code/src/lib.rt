@@ -2,3 +2,4 @@
 // width; each function does the same to every column.
 pub mod number;
 pub mod stripe;
+pub mod weights;
