@@ -1,6 +1,7 @@
 -- Laws of specs/RowTrace: the length of what is stored, its words, and the words around it. Assumes nothing.
 use mathlib.Core.Path.{_≡_, refl, sym, ap, _∙_}
 use mathlib.Core.Logic.{⊎-elim, _≢_}
+use mathlib.Core.Bool.{true, false}
 use mathlib.Core.List.{List, _++_, append-nil}
 use Prim.Native.Nat.{ℕ, zero, suc, _+_, _*_, _-_, _/_, _≤_, _<_}
 use native.Mathlib.Nat.{eq-or-lt-of-le, mul-le-mul-right, add-zero, add-suc, add-assoc, suc-mul, zero-mul}
@@ -10,10 +11,11 @@ use native.Mathlib.Omega.{arith}
 use lib.ListN.{length, getD, set, take, drop, length-set, length-append, length-drop, List·getD-append}
 use lib.Seq.{set-comm, drop-length, getD-set-same, getD-set-other, getD-append-add, getD-take, getD-drop, length-take-le, ext-getD}
 use lib.Arith.{digits-div, digits-lt}
-use Rattle.field.specs.Residue.{times}
+use lib.Dec.{eqb}
+use Rattle.field.specs.Residue.{minus, times}
 use Rattle.field.specs.Words.{Words, table}
 use Rattle.field.proofs.WordLists.{words-set, length-table, getD-table}
-use Rattle.code.specs.RowTrace.{stored, scaledWord, scaleRow}
+use Rattle.code.specs.RowTrace.{stored, scaledWord, scaleRow, weighedBy}
 use Rattle.code.proofs.Shapes.{times-lt}
 
 pub length-stored : (a : ℕ) (f : ℕ → ℕ) (n : ℕ) (l : List ℕ) → length (stored a f n l) ≡ length l
@@ -49,40 +51,49 @@ stored-at a f (suc n) l i h b =
     ⊎-elim (λ e. rw e (getD-set-same (stored a f n l) (a + n) (f n) 0 (omega arith)))
     (λ t. getD-set-other (stored a f n l) (a + n) (a + i) (f n) 0 (λ e. omega arith) ∙ r i (omega arith) t) (eq-or-lt-of-le le)
 
--- the whole, in its three parts
+-- a list that is, word by word, what is stored and the words around it
+module _ (a : ℕ) (f : ℕ → ℕ) (n : ℕ) (l r : List ℕ) (fits : a + n ≤ length l) (same : length r ≡ length l) (before : (k : ℕ) → k < a → getD r k 0 ≡ getD l k 0)
+    (inside : (i : ℕ) → i < n → getD r (a + i) 0 ≡ f i) (after : (k : ℕ) → a + n ≤ k → getD r k 0 ≡ getD l k 0) where
+  front : length (take a l) ≡ a
+  front = length-take-le a l (omega arith)
+
+  two : length (take a l ++ table n f) ≡ a + n
+  two = simp (length-append, length-table, front)
+
+  long : length (take a l ++ table n f ++ drop (a + n) l) ≡ length l
+  long = simp (length-append, length-table, length-drop, front) (omega arith)
+
+  at : (k : ℕ) → Dec (k < a) → Dec (k < a + n) → getD r k 0 ≡ getD (take a l ++ table n f ++ drop (a + n) l) k 0
+  at k (yes b) d =
+      before k b
+      ∙ sym (List·getD-append (take a l ++ table n f) (drop (a + n) l) 0 k (omega (arith, two)) ∙ List·getD-append (take a l) (table n f) 0 k (omega (arith, front)) ∙ getD-take a l k 0 b)
+  at k (no b) (yes d) =
+      let i : ℕ = k - a in
+      let e : k ≡ a + i = omega arith in
+      let e′ : k ≡ length (take a l) + i = omega (arith, front) in
+      ap (λ (x : ℕ). getD r x 0) e ∙ inside i (omega arith)
+      ∙ sym (List·getD-append (take a l ++ table n f) (drop (a + n) l) 0 k (omega (arith, two)) ∙ ap (λ (x : ℕ). getD (take a l ++ table n f) x 0) e′
+      ∙ getD-append-add (take a l) (table n f) i 0 ∙ getD-table n i f (omega arith))
+  at k (no b) (no d) =
+      let i : ℕ = k - (a + n) in
+      let e : a + n + i ≡ k = omega arith in
+      let e′ : k ≡ length (take a l ++ table n f) + i = omega (arith, two) in
+      after k (omega arith)
+      ∙ sym (ap (λ (x : ℕ). getD (take a l ++ table n f ++ drop (a + n) l) x 0) e′ ∙ getD-append-add (take a l ++ table n f) (drop (a + n) l) i 0 ∙ getD-drop (a + n) l i 0 ∙ ap (λ (x : ℕ). getD l x 0) e)
+
+  pub is-stored : r ≡ take a l ++ table n f ++ drop (a + n) l
+  is-stored = ext-getD 0 r (take a l ++ table n f ++ drop (a + n) l) (same ∙ sym long) (λ k b. at k (decLt k a) (decLt k (a + n)))
+
 pub stored-is : (a : ℕ) (f : ℕ → ℕ) (n : ℕ) (l : List ℕ) → a + n ≤ length l → stored a f n l ≡ take a l ++ table n f ++ drop (a + n) l
-stored-is a f n l h = ext-getD 0 (stored a f n l) (take a l ++ table n f ++ drop (a + n) l) (length-stored a f n l ∙ sym long) (λ k b. at k (decLt k a) (decLt k (a + n)))
-  where
-    front : length (take a l) ≡ a
-    front = length-take-le a l (omega arith)
+stored-is a f n l h =
+    is-stored a f n l (stored a f n l) h (length-stored a f n l) (stored-before a f n l) (λ i b. stored-at a f n l i h b) (stored-after a f n l)
 
-    two : length (take a l ++ table n f) ≡ a + n
-    two = simp (length-append, length-table, front)
+-- nothing stands behind the end
+pub no-rest : (x l : List ℕ) (n : ℕ) → length l ≡ n → x ++ drop n l ≡ x
+no-rest x l n e = rw (← e, drop-length, append-nil)
 
-    long : length (take a l ++ table n f ++ drop (a + n) l) ≡ length l
-    long = simp (length-append, length-table, length-drop, front) (omega arith)
-
-    at : (k : ℕ) → Dec (k < a) → Dec (k < a + n) → getD (stored a f n l) k 0 ≡ getD (take a l ++ table n f ++ drop (a + n) l) k 0
-    at k (yes b) d =
-        stored-before a f n l k b
-        ∙ sym (List·getD-append (take a l ++ table n f) (drop (a + n) l) 0 k (omega (arith, two)) ∙ List·getD-append (take a l) (table n f) 0 k (omega (arith, front)) ∙ getD-take a l k 0 b)
-    at k (no b) (yes d) =
-        let i : ℕ = k - a in
-        let e : k ≡ a + i = omega arith in
-        let e′ : k ≡ length (take a l) + i = omega (arith, front) in
-        ap (λ (x : ℕ). getD (stored a f n l) x 0) e ∙ stored-at a f n l i h (omega arith)
-        ∙ sym (List·getD-append (take a l ++ table n f) (drop (a + n) l) 0 k (omega (arith, two)) ∙ ap (λ (x : ℕ). getD (take a l ++ table n f) x 0) e′
-        ∙ getD-append-add (take a l) (table n f) i 0 ∙ getD-table n i f (omega arith))
-    at k (no b) (no d) =
-        let i : ℕ = k - (a + n) in
-        let e : a + n + i ≡ k = omega arith in
-        let e′ : k ≡ length (take a l ++ table n f) + i = omega (arith, two) in
-        stored-after a f n l k (omega arith)
-        ∙ sym (ap (λ (x : ℕ). getD (take a l ++ table n f ++ drop (a + n) l) x 0) e′ ∙ getD-append-add (take a l ++ table n f) (drop (a + n) l) i 0 ∙ getD-drop (a + n) l i 0 ∙ ap (λ (x : ℕ). getD l x 0) e)
-
--- the words up to the end
 pub stored-last : (a : ℕ) (f : ℕ → ℕ) (n : ℕ) (l : List ℕ) → length l ≡ a + n → stored a f n l ≡ take a l ++ table n f
-stored-last a f n l e = stored-is a f n l (omega arith) ∙ rw (← e, drop-length, append-nil)
+stored-last a f n l e = stored-is a f n l (omega arith) ∙ no-rest (take a l ++ table n f) l (a + n) e
 
 -- one stretch after the other
 pub stored-more : (a : ℕ) (f g : ℕ → ℕ) (n m : ℕ) (l : List ℕ) → ((i : ℕ) → i < m → g i ≡ f (n + i)) → stored (a + n) g m (stored a f n l) ≡ stored a f (n + m) l
@@ -193,3 +204,13 @@ module _ (p width a : ℕ) (g : ℕ → ℕ) where
 -- row i of n ends within them
 pub row-in : {i n : ℕ} (width : ℕ) → i < n → i * width + width ≤ n * width
 row-in {i} width h = rw suc-mul at (mul-le-mul-right {m = suc i} width h)
+
+-- weights multiplied
+module _ (p base j : ℕ) (l : List ℕ) (i : ℕ) where
+  pub weighedBy-own : eqb j i ≡ true → weighedBy p base j l i ≡ getD l (base + i) 0
+  unfolding weighedBy
+  weighedBy-own e = rw (e, weighedBy)
+
+  pub weighedBy-other : eqb j i ≡ false → weighedBy p base j l i ≡ times p (getD l (base + i) 0) (minus p (getD l i 0) (getD l j 0))
+  unfolding weighedBy
+  weighedBy-other e = rw (e, weighedBy)

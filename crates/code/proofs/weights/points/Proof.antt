@@ -157,17 +157,17 @@ next {part₀} {level} {k} {root} {half} {u} {v} {part} {x} {i} {y} {x′} h b e
     let ex′ : x ≡ pointAt 65537 root k level i = h .x-is ∙ sym (rw (eu, ← h .v-is) at (point-low root k level i i-lt)) in
     let ey′ : y ≡ pointAt 65537 root k level (half + i) = ey ∙ ap (times 65537 u) (h .x-is) ∙ sym (rw (eu, ← h .v-is, ← h .half-is) at (point-high root k level i)) in
     record {
-  turns = omega arith;
-  half-is = h .half-is;
-  u-is = h .u-is;
-  v-is = h .v-is;
-  x-is = rw add-one (ex ∙ ap (times 65537 v) (h .x-is) ∙ sym (power-suc 65537 (lit< tt) v i));
-  u-lt = h .u-lt;
-  v-lt = h .v-lt;
-  x-lt = rw ex (times-lt 65537 (lit< tt) v x);
-  same = simp length-set (h .same);
-  now = two-more (pointAt 65537 root k level) half i part₀ part x y (h .now) b ex′ ey′;
-}
+      turns = omega arith;
+      half-is = h .half-is;
+      u-is = h .u-is;
+      v-is = h .v-is;
+      x-is = rw add-one (ex ∙ ap (times 65537 v) (h .x-is) ∙ sym (power-suc 65537 (lit< tt) v i));
+      u-lt = h .u-lt;
+      v-lt = h .v-lt;
+      x-lt = rw ex (times-lt 65537 (lit< tt) v x);
+      same = simp length-set (h .same);
+      now = two-more (pointAt 65537 root k level) half i part₀ part x y (h .now) b ex′ ey′;
+    }
 
 done : {part₀ : List ℕ} {level k root half u v : ℕ} {part : List ℕ} {x i : ℕ} → Inv part₀ level k root half u v part x i → half ≤ i → 2 ^ suc level ≤ length part₀
     → part ≡ table (2 ^ suc level) (pointAt 65537 root k level) ++ drop (2 ^ suc level) part₀
