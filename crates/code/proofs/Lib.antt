@@ -1,4 +1,5 @@
 pub mod Shapes
 pub mod Lifting
 pub mod RowLaws
+pub mod WeightLaws
 pub mod Worked

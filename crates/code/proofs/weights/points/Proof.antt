@@ -17,6 +17,7 @@ use Rattle.field.proofs.Powers.{power-lt, power-zero, power-suc, power-even, po
 use Rattle.field.proofs.Unity.{two-div}
 use Rattle.code.specs.Decoding.{pointAt}
 use Rattle.code.specs.RowTrace.{stored}
+use Rattle.code.proofs.WeightLaws.{point-low, point-high}
 use Rattle.code.proofs.RowLaws.{length-stored, set-stored, stored-more, stored-is}
 use Rattle.code.proofs.weights.points.Statement.{statement}
 use Rattle.code.proofs.weights.points.Tie as tie
@@ -43,21 +44,6 @@ Inv-loop part₀ level k root half u v x₀ i₀ part x i = Inv part₀ level k 
 
 abbrev μ-loop : tie.MeasureT-loop
 μ-loop part₀ level k root half u v x₀ i₀ part x i = half - i
-
--- the points, by the powers of v = u * u
-point-low : (w k l i : ℕ) → i < 2 ^ l → pointAt 65537 w k l i ≡ power 65537 (times 65537 (power 65537 w (2 ^ k / 2 ^ l)) (power 65537 w (2 ^ k / 2 ^ l))) i
-unfolding pointAt
-point-low w k l i h =
-    let u = power 65537 w (2 ^ k / 2 ^ l) in
-    rw (lt-ltb i (2 ^ l) h, pointAt) (power-even 65537 (lit< tt) u (2 * i) (omega arith) ∙ ap (power 65537 (times 65537 u u)) {x = 2 * i / 2} {y = i} (omega arith))
-
-point-high : (w k l i : ℕ)
-    → pointAt 65537 w k l (2 ^ l + i) ≡ times 65537 (power 65537 w (2 ^ k / 2 ^ l)) (power 65537 (times 65537 (power 65537 w (2 ^ k / 2 ^ l)) (power 65537 w (2 ^ k / 2 ^ l))) i)
-unfolding pointAt
-point-high w k l i =
-    let u = power 65537 w (2 ^ k / 2 ^ l) in
-    rw (le-ltb (2 ^ l + i) (2 ^ l) (omega arith), pointAt)
-    (ap (power 65537 u) {x = 2 * (2 ^ l + i - 2 ^ l) + 1} {y = 2 * i + 1} (omega arith) ∙ power-odd 65537 (lit< tt) u (2 * i + 1) (omega arith) ∙ ap (λ (n : ℕ). times 65537 u (power 65537 (times 65537 u u) n)) {x = (2 * i + 1) / 2} {y = i} (omega arith))
 
 two-to-requires : tie.Need-two-to-requires Inv-loop μ-loop
 two-to-requires c κs = omega arith
@@ -154,8 +140,8 @@ unfolding stored
 next {part₀} {level} {k} {root} {half} {u} {v} {part} {x} {i} {y} {x′} h b ey ex =
     let i-lt : i < 2 ^ level = omega (arith, h .half-is) in
     let eu : power 65537 root (2 ^ k / 2 ^ level) ≡ u = sym (h .u-is) in
-    let ex′ : x ≡ pointAt 65537 root k level i = h .x-is ∙ sym (rw (eu, ← h .v-is) at (point-low root k level i i-lt)) in
-    let ey′ : y ≡ pointAt 65537 root k level (half + i) = ey ∙ ap (times 65537 u) (h .x-is) ∙ sym (rw (eu, ← h .v-is, ← h .half-is) at (point-high root k level i)) in
+    let ex′ : x ≡ pointAt 65537 root k level i = h .x-is ∙ sym (rw (eu, ← h .v-is) at (point-low 65537 (lit< tt) root k level i i-lt)) in
+    let ey′ : y ≡ pointAt 65537 root k level (half + i) = ey ∙ ap (times 65537 u) (h .x-is) ∙ sym (rw (eu, ← h .v-is, ← h .half-is) at (point-high 65537 (lit< tt) root k level i)) in
     record {
       turns = omega arith;
       half-is = h .half-is;
