@@ -1,3 +1,4 @@
+pub mod Blocks
 pub mod Crossing
 pub mod Lifting
 pub mod Shapes
