@@ -1,10 +1,11 @@
 -- Laws of `eachBlock` of specs/MixTrace: a part of a list put back, block after block, blocks of twice the size, one function after the other. Assumes nothing.
 use mathlib.Core.Path.{_≡_, refl, sym, ap, ap₂, _∙_}
 use mathlib.Core.List.{List, [], _∷_, _++_, append-assoc, append-nil}
-use Prim.Native.Nat.{ℕ, zero, suc, _+_, _-_, _*_, _≤_, _<_}
-use native.Mathlib.Nat.{add-comm, add-mul, add-assoc, zero-add, zero-mul, suc-mul}
+use Prim.Native.Nat.{ℕ, zero, suc, _+_, _-_, _*_, _/_, _^_, _≤_, _<_}
+use native.Mathlib.Nat.{add-mul, add-assoc, zero-add, zero-mul, mul-assoc, mul-comm, pow-suc, le-mul-of-pos-right}
 use native.Mathlib.Numerals.{add-one}
 use native.Mathlib.Omega.{arith}
+use lib.Pow.{pow-pos, pow-mono, pow-add, shl-shr}
 use lib.ListN.{length, take, drop, length-append, length-drop, take-append-drop}
 use lib.Seq.{length-take-le, take-at, drop-at, take-add, drop-drop, take-append-add, drop-append-add, take-length, drop-length}
 use borrow.Rule.Slice.PartMut.{putMid, mid-len}
@@ -13,7 +14,7 @@ use Rattle.field.proofs.WordLists.{words-take, words-drop, words-part, words-ap
 use Rattle.code.specs.Rows.{column, lifted}
 use Rattle.code.specs.Transform.{mixedHalves, unmixed}
 use Rattle.code.specs.MixTrace.{eachBlock}
-use Rattle.code.proofs.Lifting.{length-lifted, words-lifted, lifted-same, lifted-then, lifted-append}
+use Rattle.code.proofs.Lifting.{length-lifted, length-column, words-lifted, lifted-same, lifted-then, lifted-append}
 use Rattle.code.proofs.Shapes.{words-mixed, words-unmixed}
 use Rattle.code.proofs.Crossing.{row-in}
 
@@ -155,3 +156,53 @@ each-double (suc b) n f d l h e =
     let two : f x ++ f y ≡ d (x ++ y) = e x y (length-take-le n l (omega arith)) (length-take-le n (drop n l) (rw length-drop (omega arith))) in
     ap (λ (k : ℕ). eachBlock k n f l) {x = suc b * 2} {y = suc (suc (b * 2))} (omega arith)
     ∙ rw (drop-drop n n l, take-add n n l, ← append-assoc, two, rest)
+
+-- the same of rows: f done to each column of n rows, then g
+pub rows-then : (width b n : ℕ) (f g d : List ℕ → List ℕ) (l : List ℕ) → b * (n * width) ≤ length l → ((c : List ℕ) → length c ≡ n → length (f c) ≡ n)
+    → ((c : List ℕ) → length c ≡ n → g (f c) ≡ d c)
+    → eachBlock b (n * width) (lifted width n n g) (eachBlock b (n * width) (lifted width n n f) l) ≡ eachBlock b (n * width) (lifted width n n d) l
+rows-then width b n f g d l h keeps e =
+    each-then b (n * width) (lifted width n n f) (lifted width n n g) (lifted width n n d) l h (length-lifted width n n f)
+    (λ a _. lifted-then width n n n f g a keeps ∙ lifted-same width n n (λ c. g (f c)) d a (λ j _. e (column width n j a) (length-column width n j a)))
+
+-- t done to both halves of each column of m + m rows
+abbrev pub both : (t : List ℕ → List ℕ) → (m : ℕ) → List ℕ → List ℕ
+both t m c = t (take m c) ++ t (drop m c)
+
+pub rows-double : (width b m : ℕ) (t : List ℕ → List ℕ) (l : List ℕ) → b * ((m + m) * width) ≤ length l → ((c : List ℕ) → length c ≡ m → length (t c) ≡ m)
+    → eachBlock (b * 2) (m * width) (lifted width m m t) l ≡ eachBlock b ((m + m) * width) (lifted width (m + m) (m + m) (both t m)) l
+rows-double width b m t l h keeps =
+    let e : (m + m) * width ≡ m * width + m * width = add-mul m m width in
+    rw e (each-double b (m * width) (lifted width m m t) (lifted width (m + m) (m + m) (both t m)) l (rw e at h) (λ x y ex _. lifted-append width m m m m t t x y ex keeps))
+
+-- powers of two: the next one down, and a quotient
+pub pow-down : {n l : ℕ} → l < n → 2 ^ (n - l) ≡ 2 ^ (n - suc l) * 2
+pow-down {n} {l} h = ap (λ (i : ℕ). 2 ^ i) {x = n - l} {y = suc (n - suc l)} (omega arith) ∙ pow-suc 2 (n - suc l)
+
+pub pow-over : {n l : ℕ} → l ≤ n → 2 ^ n / 2 ^ l ≡ 2 ^ (n - l)
+pow-over {n} {l} h =
+    let e : 2 ^ n ≡ 2 ^ (n - l) * 2 ^ l = ap (λ (i : ℕ). 2 ^ i) {x = n} {y = n - l + l} (omega arith) ∙ pow-add 2 (n - l) l in
+    rw e (shl-shr (2 ^ (n - l)) l)
+
+-- A LEVEL of a half of 2 ^ level rows: b blocks of m + m rows, where m is 2 ^ l
+pub record Level (width level l len b m : ℕ) : Type 0 where
+  pub blocks-is : b ≡ 2 ^ (level - suc l)
+  pub m-is : m ≡ 2 ^ l
+  pub rows : len ≡ b * ((m + m) * width)
+  pub fits : (m + m) * width ≤ len
+  pub blocks-few : b ≤ 65536
+  pub m-few : m ≤ 65536
+
+pub level-at : {width level l len b m : ℕ} → l < level → level ≤ 16 → len ≡ 2 ^ level * width → b ≡ 2 ^ (level - suc l) → m ≡ 2 ^ l → Level width level l len b m
+level-at {width} {level} {l} {len} {b} {m} lt le e eb em =
+    let mm : m + m ≡ 2 ^ suc l = omega arith in
+    let two : b * (m + m) ≡ 2 ^ level = ap₂ _*_ eb mm ∙ sym (pow-add 2 (level - suc l) (suc l)) ∙ ap (λ (i : ℕ). 2 ^ i) {x = level - suc l + suc l} {y = level} (omega arith) in
+    let r : len ≡ b * ((m + m) * width) = e ∙ ap (λ (n : ℕ). n * width) (sym two) ∙ mul-assoc b (m + m) width in
+    record {
+      blocks-is = eb;
+      m-is = em;
+      rows = r;
+      fits = rw (r, mul-comm b ((m + m) * width)) (le-mul-of-pos-right ((m + m) * width) (rw eb (pow-pos (level - suc l))));
+      blocks-few = rw eb (pow-mono {j = 16} (omega arith));
+      m-few = rw em (pow-mono {j = 16} (omega arith));
+    }
