@@ -2,7 +2,7 @@
 use mathlib.Core.Path.{_≡_, refl, sym, ap, ap₂, _∙_}
 use mathlib.Core.List.{List, [], _∷_, _++_, append-assoc, append-nil}
 use Prim.Native.Nat.{ℕ, zero, suc, _+_, _-_, _*_, _/_, _^_, _≤_, _<_}
-use native.Mathlib.Nat.{add-mul, add-assoc, zero-add, zero-mul, mul-assoc, mul-comm, pow-suc, le-mul-of-pos-right}
+use native.Mathlib.Nat.{add-mul, add-assoc, zero-add, zero-mul, one-mul, mul-assoc, mul-comm, pow-suc, le-mul-of-pos-right}
 use native.Mathlib.Numerals.{add-one}
 use native.Mathlib.Omega.{arith}
 use lib.Pow.{pow-pos, pow-mono, pow-add, shl-shr}
@@ -14,7 +14,7 @@ use Rattle.field.proofs.WordLists.{words-take, words-drop, words-part, words-ap
 use Rattle.code.specs.Rows.{column, lifted}
 use Rattle.code.specs.Transform.{mixedHalves, unmixed}
 use Rattle.code.specs.MixTrace.{eachBlock}
-use Rattle.code.proofs.Lifting.{length-lifted, length-column, words-lifted, lifted-same, lifted-then, lifted-append}
+use Rattle.code.proofs.Lifting.{length-lifted, length-column, words-lifted, lifted-id, lifted-same, lifted-then, lifted-append}
 use Rattle.code.proofs.Shapes.{words-mixed, words-unmixed}
 use Rattle.code.proofs.Crossing.{row-in}
 
@@ -119,7 +119,7 @@ unfolding eachBlock
 words-each p zero n f h u w = w
 words-each p (suc b) n f {l} h u w = words-append p h {a = f (take n l)} (u (take n l)) (words-each p b n f h u (words-drop p h n w))
 
-pub each-one : (n : ℕ) (f : List ℕ → List ℕ) (l : List ℕ) → length l ≡ n → eachBlock 1 n f l ≡ f l
+each-one : (n : ℕ) (f : List ℕ → List ℕ) (l : List ℕ) → length l ≡ n → eachBlock 1 n f l ≡ f l
 unfolding eachBlock
 each-one n f l e = rw (← e, take-length, drop-length, append-nil)
 
@@ -127,7 +127,7 @@ each-one n f l e = rw (← e, take-length, drop-length, append-nil)
 rest-in : (b n : ℕ) (l : List ℕ) → suc b * n ≤ length l → b * n ≤ length (drop n l)
 rest-in b n l h = rw length-drop (omega arith)
 
-pub each-id : (b n : ℕ) (f : List ℕ → List ℕ) (l : List ℕ) → b * n ≤ length l → ((a : List ℕ) → length a ≡ n → f a ≡ a) → eachBlock b n f l ≡ l
+each-id : (b n : ℕ) (f : List ℕ → List ℕ) (l : List ℕ) → b * n ≤ length l → ((a : List ℕ) → length a ≡ n → f a ≡ a) → eachBlock b n f l ≡ l
 unfolding eachBlock
 each-id zero n f l h e = refl
 each-id (suc b) n f l h e =
@@ -157,23 +157,33 @@ each-double (suc b) n f d l h e =
     ap (λ (k : ℕ). eachBlock k n f l) {x = suc b * 2} {y = suc (suc (b * 2))} (omega arith)
     ∙ rw (drop-drop n n l, take-add n n l, ← append-assoc, two, rest)
 
--- the same of rows: f done to each column of n rows, then g
+-- BLOCKS OF ROWS: f done to each column of each of b blocks of n rows
+abbrev pub eachRows : (width b n : ℕ) → (f : List ℕ → List ℕ) → List ℕ → List ℕ
+eachRows width b n f l = eachBlock b (n * width) (lifted width n n f) l
+
+-- f, then g
 pub rows-then : (width b n : ℕ) (f g d : List ℕ → List ℕ) (l : List ℕ) → b * (n * width) ≤ length l → ((c : List ℕ) → length c ≡ n → length (f c) ≡ n)
-    → ((c : List ℕ) → length c ≡ n → g (f c) ≡ d c)
-    → eachBlock b (n * width) (lifted width n n g) (eachBlock b (n * width) (lifted width n n f) l) ≡ eachBlock b (n * width) (lifted width n n d) l
+    → ((c : List ℕ) → length c ≡ n → g (f c) ≡ d c) → eachRows width b n g (eachRows width b n f l) ≡ eachRows width b n d l
 rows-then width b n f g d l h keeps e =
     each-then b (n * width) (lifted width n n f) (lifted width n n g) (lifted width n n d) l h (length-lifted width n n f)
     (λ a _. lifted-then width n n n f g a keeps ∙ lifted-same width n n (λ c. g (f c)) d a (λ j _. e (column width n j a) (length-column width n j a)))
 
--- t done to both halves of each column of m + m rows
+-- t done to both halves of a column of m + m words
 abbrev pub both : (t : List ℕ → List ℕ) → (m : ℕ) → List ℕ → List ℕ
 both t m c = t (take m c) ++ t (drop m c)
 
 pub rows-double : (width b m : ℕ) (t : List ℕ → List ℕ) (l : List ℕ) → b * ((m + m) * width) ≤ length l → ((c : List ℕ) → length c ≡ m → length (t c) ≡ m)
-    → eachBlock (b * 2) (m * width) (lifted width m m t) l ≡ eachBlock b ((m + m) * width) (lifted width (m + m) (m + m) (both t m)) l
+    → eachRows width (b * 2) m t l ≡ eachRows width b (m + m) (both t m) l
 rows-double width b m t l h keeps =
     let e : (m + m) * width ≡ m * width + m * width = add-mul m m width in
     rw e (each-double b (m * width) (lifted width m m t) (lifted width (m + m) (m + m) (both t m)) l (rw e at h) (λ x y ex _. lifted-append width m m m m t t x y ex keeps))
+
+-- nothing done to single rows, and one block
+pub rows-id : (width b : ℕ) (l : List ℕ) → length l ≡ b * width → eachRows width b 1 (λ c. c) l ≡ l
+rows-id width b l e = each-id b (1 * width) (lifted width 1 1 (λ c. c)) l (rw (one-mul width) (omega arith)) (lifted-id width 1)
+
+pub rows-one : (width n : ℕ) (f : List ℕ → List ℕ) (l : List ℕ) → length l ≡ n * width → eachRows width 1 n f l ≡ lifted width n n f l
+rows-one width n f l e = each-one (n * width) (lifted width n n f) l e
 
 -- powers of two: the next one down, and a quotient
 pub pow-down : {n l : ℕ} → l < n → 2 ^ (n - l) ≡ 2 ^ (n - suc l) * 2

@@ -2,7 +2,7 @@
 use mathlib.Core.Path.{_≡_, refl, sym, ap, ap₂, _∙_}
 use mathlib.Core.List.{List, _++_}
 use Prim.Native.Nat.{ℕ, suc, _+_, _-_, _*_, _/_, _^_, _≤_, _<_}
-use native.Mathlib.Nat.{one-mul, sub-zero}
+use native.Mathlib.Nat.{sub-zero}
 use native.Mathlib.Numerals.{add-one}
 use native.Mathlib.Omega.{arith}
 use lib.Pow.{pow-mono}
@@ -15,14 +15,9 @@ use Rattle.code.specs.Rows.{lifted}
 use Rattle.code.specs.Transform.{mixed, mixedHalves, transform}
 use Rattle.code.specs.MixTrace.{eachBlock}
 use Rattle.code.proofs.Shapes.{length-two, length-transform}
-use Rattle.code.proofs.Lifting.{lifted-id}
-use Rattle.code.proofs.Blocks.{Level, level-at, pow-down, pow-over, words-each, each-id, each-one, both, rows-then, rows-double, OnBlock, mixing-block}
+use Rattle.code.proofs.Blocks.{Level, level-at, pow-down, pow-over, words-each, eachRows, rows-id, rows-one, both, rows-then, rows-double, OnBlock, mixing-block}
 use Rattle.code.proofs.mixing.mix_all.Statement.{statement}
 use Rattle.code.proofs.mixing.mix_all.Tie as tie
-
--- n rows, in blocks of 2 ^ l, of which each is transformed
-abbrev transformed : (width root k l blocks : ℕ) → List ℕ → List ℕ
-transformed width root k l b rows = eachBlock b (2 ^ l * width) (lifted width (2 ^ l) (2 ^ l) (transform 65537 root k l)) rows
 
 record Inv (half₀ : List ℕ) (level k width root : ℕ) (half : List ℕ) (blocks exponent m l : ℕ) : Type 0 where
   turns : l ≤ level
@@ -34,7 +29,7 @@ record Inv (half₀ : List ℕ) (level k width root : ℕ) (half : List ℕ) (bl
   blocks-is : blocks ≡ 2 ^ (level - l)
   exponent-is : exponent ≡ 2 ^ (k - l)
   m-is : m ≡ 2 ^ l
-  now : half ≡ transformed width root k l (2 ^ (level - l)) half₀
+  now : half ≡ eachRows width (2 ^ (level - l)) (2 ^ l) (transform 65537 root k l) half₀
 
 -- both halves of a column transformed, and mixed
 mixed-both : (root k l : ℕ) (c : List ℕ) → length c ≡ 2 ^ l + 2 ^ l
@@ -50,15 +45,15 @@ mixed-both root k l c e =
 
 -- a level
 mix-level : (width root k l b : ℕ) (rows : List ℕ) → b * ((2 ^ l + 2 ^ l) * width) ≤ length rows
-    → eachBlock b ((2 ^ l + 2 ^ l) * width) (lifted width (2 ^ l + 2 ^ l) (2 ^ l + 2 ^ l) (mixedHalves 65537 (power 65537 root (2 ^ k / 2 ^ l)) (2 ^ l))) (transformed width root k l (b * 2) rows)
-    ≡ transformed width root k (suc l) b rows
+    → eachRows width b (2 ^ l + 2 ^ l) (mixedHalves 65537 (power 65537 root (2 ^ k / 2 ^ l)) (2 ^ l)) (eachRows width (b * 2) (2 ^ l) (transform 65537 root k l) rows)
+    ≡ eachRows width b (2 ^ suc l) (transform 65537 root k (suc l)) rows
 mix-level width root k l b rows h =
     let m = 2 ^ l in
-    let e : m + m ≡ 2 ^ suc l = omega arith in
+    let t = transform 65537 root k l in
     let f = mixedHalves 65537 (power 65537 root (2 ^ k / m)) m in
-    ap (eachBlock b ((m + m) * width) (lifted width (m + m) (m + m) f)) (rows-double width b m (transform 65537 root k l) rows h (length-transform 65537 root k l))
-    ∙ rows-then width b (m + m) (both (transform 65537 root k l) m) f (transform 65537 root k (suc l)) rows h (λ c n. mixed-both root k l c n .0) (λ c n. mixed-both root k l c n .1)
-    ∙ ap (λ (n : ℕ). eachBlock b (n * width) (lifted width n n (transform 65537 root k (suc l))) rows) e
+    ap (eachRows width b (m + m) f) (rows-double width b m t rows h (length-transform 65537 root k l))
+    ∙ rows-then width b (m + m) (both t m) f (transform 65537 root k (suc l)) rows h (λ c e. mixed-both root k l c e .0) (λ c e. mixed-both root k l c e .1)
+    ∙ ap (λ (n : ℕ). eachRows width b n (transform 65537 root k (suc l)) rows) {x = m + m} {y = 2 ^ suc l} (omega arith)
 
 start : {half₀ : List ℕ} {level k width root blocks exponent : ℕ} → (level ≤ k) × (k ≤ 15) → length half₀ ≡ 2 ^ level * width → Words 65537 half₀
     → blocks ≡ 2 ^ level → exponent ≡ 2 ^ k → Inv half₀ level k width root half₀ blocks exponent 1 0
@@ -73,7 +68,7 @@ start {half₀} {level} {k} {width} b e w eb ee = record {
   blocks-is = rw (sub-zero level) eb;
   exponent-is = rw (sub-zero k) ee;
   m-is = refl;
-  now = rw (sub-zero level) (sym (each-id (2 ^ level) (1 * width) (lifted width 1 1 (λ c. c)) half₀ (rw (one-mul width) (omega arith)) (lifted-id width 1)));
+  now = rw (sub-zero level) (sym (rows-id width (2 ^ level) half₀ e));
 }
 
 module _ {half₀ : List ℕ} {level k width root : ℕ} {half : List ℕ} {blocks exponent m l : ℕ} where
@@ -82,7 +77,7 @@ module _ {half₀ : List ℕ} {level k width root : ℕ} {half : List ℕ} {bloc
   level-in h lt = level-at lt (omega arith) (h .same ∙ h .long) (omega (arith, pow-down lt)) (h .m-is)
 
   turn : {half′ : List ℕ} {v : ℕ} → Inv half₀ level k width root half blocks exponent m l → l < level → length half′ ≡ length half → v ≡ power 65537 root exponent
-      → half′ ≡ eachBlock (blocks / 2) ((m + m) * width) (lifted width (m + m) (m + m) (mixedHalves 65537 v m)) half
+      → half′ ≡ eachRows width (blocks / 2) (m + m) (mixedHalves 65537 v m) half
       → Inv half₀ level k width root half′ (blocks / 2) (exponent / 2) (m * 2) (l + 1)
   turn {half′} {v} h lt el ev eh =
       let s : Level width level l (length half) (blocks / 2) m = level-in h lt in
@@ -106,7 +101,7 @@ module _ {half₀ : List ℕ} {level k width root : ℕ} {half : List ℕ} {bloc
   done h le =
       let d : l ≡ level = omega arith in
       let z : level - level ≡ 0 = omega arith in
-      (rw (d, z) at (h .now)) ∙ each-one (2 ^ level * width) (lifted width (2 ^ level) (2 ^ level) (transform 65537 root k level)) half₀ (h .long)
+      (rw (d, z) at (h .now)) ∙ rows-one width (2 ^ level) (transform 65537 root k level) half₀ (h .long)
 
 abbrev Inv-loop : tie.InvT-loop
 Inv-loop half₀ level k width root blocks₀ exponent₀ m₀ l₀ half blocks exponent m l = Inv half₀ level k width root half blocks exponent m l
