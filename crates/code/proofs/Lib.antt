@@ -1,3 +1,5 @@
+pub mod Blocks
+pub mod Crossing
 pub mod Shapes
 pub mod Lifting
 pub mod RowLaws

@@ -4,7 +4,7 @@ use mathlib.Core.Logic.{⊎-elim, _≢_}
 use mathlib.Core.Bool.{true, false}
 use mathlib.Core.List.{List, _++_, append-nil}
 use Prim.Native.Nat.{ℕ, zero, suc, _+_, _*_, _-_, _/_, _≤_, _<_}
-use native.Mathlib.Nat.{eq-or-lt-of-le, mul-le-mul-right, add-zero, add-suc, add-assoc, suc-mul, zero-mul}
+use native.Mathlib.Nat.{eq-or-lt-of-le, add-zero, add-suc, add-assoc, suc-mul, zero-mul}
 use native.Mathlib.Numerals.{add-one}
 use native.Mathlib.Decide.{decLt}
 use native.Mathlib.Omega.{arith}
@@ -200,10 +200,6 @@ module _ (p width a : ℕ) (g : ℕ → ℕ) where
   pub scaleRows-after : (n : ℕ) (l : List ℕ) (k : ℕ) → a + n * width ≤ k → getD (scaleRows p width a g n l) k 0 ≡ getD l k 0
   unfolding scaleRows
   scaleRows-after n l k h = stored-after a (scaledRowsWord p width a g l) (n * width) l k h
-
--- row i of n ends within them
-pub row-in : {i n : ℕ} (width : ℕ) → i < n → i * width + width ≤ n * width
-row-in {i} width h = rw suc-mul at (mul-le-mul-right {m = suc i} width h)
 
 -- weights multiplied
 module _ (p base j : ℕ) (l : List ℕ) (i : ℕ) where

@@ -1,5 +1,6 @@
 pub mod Transform
 pub mod Rows
+pub mod MixTrace
 pub mod Stripe
 pub mod Decoding
 pub mod Decoder

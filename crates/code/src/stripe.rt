@@ -48,3 +48,20 @@ fn copy_half(part: &mut [u32], half: usize)
         part[to] = part[i];
     }
 }
+
+// Codes the 2^level blocks in the first half of the rows: X where they stand, and Y behind it. `first` is t0.
+pub fn code(stripe: &mut [u32], level: usize, k: usize, first: usize, width: usize, root: u32)
+    requires { ⌜ (level ≤ k) × (k ≤ 15) ⌝ }
+    requires { ⌜ first + 2 ^ level ≤ 65536 ⌝ }
+    requires { ⌜ length (now stripe) ≡ 2 ^ level * width + 2 ^ level * width ⌝ }
+    requires { ⌜ root < 65537 ⌝ }
+    requires { ⌜ Words 65537 (now stripe) ⌝ }
+    ensures { λ _. ⌜ now (stripe .exit) ≡ codedRows 65537 root k level first width (take (2 ^ level * width) (now (stripe .entry))) ⌝ }
+{
+    let rows = crate::number::two_to(level);
+    let half = rows * width;
+    copy_half(stripe, half);
+    crate::mixing::mix_all(&mut stripe[..half], level, k, width, root);
+    turn(&mut stripe[half..], rows, first, k, width, root);
+    crate::mixing::mix_all(&mut stripe[half..], level, k, width, root);
+}

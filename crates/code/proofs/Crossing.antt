@@ -1,0 +1,272 @@
+-- Laws of the crossings of specs/MixTrace, which mixing and unmixing share: a row, all rows, and that these are one function of each column. Assumes nothing.
+use mathlib.Core.Path.{_≡_, refl, sym, ap, ap₂, _∙_, subst}
+use mathlib.Core.Logic.{⊎-elim, _≢_}
+use mathlib.Core.List.{List}
+use Prim.Native.Nat.{ℕ, zero, suc, _+_, _-_, _*_, _/_, _≤_, _<_}
+use native.Mathlib.Nat.{eq-or-lt-of-le, add-zero, add-suc, add-mul, suc-mul, zero-mul, mul-le-mul-right}
+use native.Mathlib.Numerals.{add-one}
+use native.Mathlib.Decide.{decLt}
+use native.Mathlib.Omega.{arith}
+use lib.Arith.{digits-div, digits-lt}
+use lib.ListN.{length, getD, set, take, drop, length-set}
+use lib.Seq.{getD-set-same, getD-set-other, getD-take, getD-drop, length-take-le}
+use Rattle.field.specs.Residue.{plus, minus, times}
+use Rattle.field.specs.Power.{power}
+use Rattle.field.specs.Words.{Words}
+use Rattle.field.proofs.Laws.{times-comm}
+use Rattle.field.proofs.Powers.{power-zero, power-suc, power-lt}
+use Rattle.field.proofs.WordLists.{words-set}
+use Rattle.code.specs.Rows.{column, lifted}
+use Rattle.code.specs.Transform.{mixedHalves, unmixed}
+use Rattle.code.specs.MixTrace.{Crossing, mixing, unmixing, crossed, crossedRow}
+use Rattle.code.proofs.Shapes.{plus-lt, minus-lt, times-lt, mixed-low, mixed-high, unmixed-low, unmixed-high}
+use Rattle.code.proofs.Lifting.{column-at, length-column, is-lifted}
+
+-- both words stored are words of the field
+pub record Stores (p : ℕ) (c : Crossing) : Type 0 where
+  pub low-lt : (g a b : ℕ) → c .low g a b < p
+  pub high-lt : (g a b : ℕ) → c .high g a b < p
+
+pub mixing-stores : Stores 65537 (mixing 65537)
+mixing-stores = record { low-lt = λ g a b. plus-lt 65537 (omega arith) a _; high-lt = λ g a b. minus-lt 65537 (omega arith) a _ }
+
+pub unmixing-stores : Stores 65537 (unmixing 65537)
+unmixing-stores = record { low-lt = λ g a b. plus-lt 65537 (omega arith) a b; high-lt = λ g a b. times-lt 65537 (omega arith) g _ }
+
+-- one crossing, word by word
+module _ (c : Crossing) (g x y : ℕ) (l : List ℕ) where
+  length-crossed : length (crossed c g x y l) ≡ length l
+  unfolding crossed
+  length-crossed = simp length-set
+
+  crossed-low : x < length l → x ≢ y → getD (crossed c g x y l) x 0 ≡ c .low g (getD l x 0) (getD l y 0)
+  unfolding crossed
+  crossed-low hx ne = rw (getD-set-other, getD-set-same)
+
+  crossed-high : y < length l → getD (crossed c g x y l) y 0 ≡ c .high g (getD l x 0) (getD l y 0)
+  unfolding crossed
+  crossed-high hy =
+      let h : y < length (set l x (c .low g (getD l x 0) (getD l y 0))) = rw length-set hy in
+      rw getD-set-same
+
+  crossed-off : (k : ℕ) → k ≢ x → k ≢ y → getD (crossed c g x y l) k 0 ≡ getD l k 0
+  unfolding crossed
+  crossed-off k nx ny = rw (getD-set-other, getD-set-other)
+
+module _ {p : ℕ} (h : 0 < p) {c : Crossing} (s : Stores p c) where
+  words-crossed : (g x y : ℕ) {l : List ℕ} → Words p l → Words p (crossed c g x y l)
+  unfolding crossed
+  words-crossed g x y w = words-set p h y (words-set p h x w (s .low-lt g _ _)) (s .high-lt g _ _)
+
+  words-row : (g n low high : ℕ) {l : List ℕ} → Words p l → Words p (crossedRow c g n low high l)
+  unfolding crossedRow
+  words-row g zero low high w = w
+  words-row g (suc n) low high w = words-crossed g (low + n) (high + n) (words-row g n low high w)
+
+length-row : (c : Crossing) (g n low high : ℕ) (l : List ℕ) → length (crossedRow c g n low high l) ≡ length l
+unfolding crossedRow
+length-row c g zero low high l = refl
+length-row c g (suc n) low high l = length-crossed c g (low + n) (high + n) _ ∙ length-row c g n low high l
+
+-- THE LOOP OVER A ROW: its first j words are crossed
+pub record RowLoop (c : Crossing) (part₀ : List ℕ) (low high width g : ℕ) (part : List ℕ) (j : ℕ) : Type 0 where
+  pub turns : j ≤ width
+  pub same : length part ≡ length part₀
+  pub words : Words 65537 part
+  pub now : part ≡ crossedRow c g j low high part₀
+
+module _ {c : Crossing} {part₀ : List ℕ} {low high width g : ℕ} where
+  pub row-start : Words 65537 part₀ → RowLoop c part₀ low high width g part₀ 0
+  unfolding crossedRow
+  row-start w = record { turns = omega arith; same = refl; words = w; now = refl }
+
+  pub row-turn : {part : List ℕ} {j r s : ℕ} → Stores 65537 c → RowLoop c part₀ low high width g part j → j < width
+      → r ≡ c .low g (getD part (low + j) 0) (getD part (high + j) 0) → s ≡ c .high g (getD part (low + j) 0) (getD part (high + j) 0)
+      → RowLoop c part₀ low high width g (set (set part (low + j) r) (high + j) s) (j + 1)
+  unfolding crossedRow crossed
+  row-turn {part} {j} {r} {s} k h lt er es =
+      let e : set (set part (low + j) r) (high + j) s ≡ crossed c g (low + j) (high + j) part = rw (er, es) refl in
+      rw e (record {
+        turns = omega arith;
+        same = length-crossed c g (low + j) (high + j) part ∙ h .same;
+        words = words-crossed (omega arith) k g (low + j) (high + j) (h .words);
+        now = rw add-one (ap (crossed c g (low + j) (high + j)) (h .now));
+      })
+
+  pub row-end : {part : List ℕ} {j : ℕ} → RowLoop c part₀ low high width g part j → width ≤ j → part ≡ crossedRow c g width low high part₀
+  row-end {part} {j} h le =
+      let e : j ≡ width = omega arith in
+      rw e at (h .now)
+
+-- the words k and half + k crossed for k below n, each under its factor: what the two loops come to
+unfoldable pub pairs : (c : Crossing) → (f : ℕ → ℕ) → (half n : ℕ) → List ℕ → List ℕ
+pairs c f half zero l = l
+pairs c f half (suc n) l = crossed c (f n) n (half + n) (pairs c f half n l)
+
+-- a row is a stretch of the pairs whose factor is one
+row-pairs : (c : Crossing) (f : ℕ → ℕ) (half g n low : ℕ) (l : List ℕ) → ((j : ℕ) → j < n → f (low + j) ≡ g)
+    → crossedRow c g n low (half + low) (pairs c f half low l) ≡ pairs c f half (low + n) l
+unfolding crossedRow pairs
+row-pairs c f half g zero low l h = rw add-zero
+row-pairs c f half g (suc n) low l h =
+    let r : crossedRow c g n low (half + low) (pairs c f half low l) ≡ pairs c f half (low + n) l = row-pairs c f half g n low l (λ j lt. h j (omega arith)) in
+    let y : half + low + n ≡ half + (low + n) = omega arith in
+    let e : f (low + n) ≡ g = h n (omega arith) in
+    rw (add-suc, r, y, ← e)
+
+module _ (c : Crossing) (f : ℕ → ℕ) (half : ℕ) (l : List ℕ) where
+  length-pairs : (n : ℕ) → length (pairs c f half n l) ≡ length l
+  unfolding pairs
+  length-pairs zero = refl
+  length-pairs (suc n) = length-crossed c (f n) n (half + n) _ ∙ length-pairs n
+
+  -- words k and half + k are a and b once n pairs are crossed
+  record At (n k a b : ℕ) : Type 0 where
+    fst : getD (pairs c f half n l) k 0 ≡ a
+    snd : getD (pairs c f half n l) (half + k) 0 ≡ b
+
+  -- pair n leaves the others as they are
+  pairs-off : {n k a b : ℕ} → n < half → k < half → k ≢ n → At n k a b → At (suc n) k a b
+  unfolding pairs
+  pairs-off {n} {k} u v ne h = record {
+    fst = crossed-off c (f n) n (half + n) _ k ne (omega arith) ∙ h .fst;
+    snd = crossed-off c (f n) n (half + n) _ (half + k) (omega arith) (omega arith) ∙ h .snd;
+  }
+
+  -- a pair that is still to be crossed is as it was
+  pairs-rest : (n k : ℕ) → n ≤ k → k < half → At n k (getD l k 0) (getD l (half + k) 0)
+  unfolding pairs
+  pairs-rest zero k u v = record { fst = refl; snd = refl }
+  pairs-rest (suc n) k u v = pairs-off (omega arith) v (omega arith) (pairs-rest n k (omega arith) v)
+
+  abbrev Done : ℕ → ℕ → Type 0
+  Done n k = At n k (c .low (f k) (getD l k 0) (getD l (half + k) 0)) (c .high (f k) (getD l k 0) (getD l (half + k) 0))
+
+  pairs-last : (n : ℕ) → length l ≡ half + half → n < half → Done (suc n) n
+  unfolding pairs
+  pairs-last n e u =
+      let r : At n n (getD l n 0) (getD l (half + n) 0) = pairs-rest n n (omega arith) u in
+      let len : length (pairs c f half n l) ≡ length l = length-pairs n in
+      record {
+        fst = crossed-low c (f n) n (half + n) _ (omega arith) (omega arith) ∙ ap₂ (c .low (f n)) (r .fst) (r .snd);
+        snd = crossed-high c (f n) n (half + n) _ (omega arith) ∙ ap₂ (c .high (f n)) (r .fst) (r .snd);
+      }
+
+  -- and one that is crossed is what it is to be
+  pairs-done : (n k : ℕ) → length l ≡ half + half → n ≤ half → k < n → Done n k
+  pairs-done zero k e h lt = absurd (omega arith)
+  pairs-done (suc n) k e h lt =
+      let b : k ≤ n = omega arith in
+      ⊎-elim (λ z. rw z (pairs-last n e h)) (λ u. pairs-off h (omega arith) (omega arith) (pairs-done n k e (omega arith) u)) (eq-or-lt-of-le b)
+
+-- d, done to a column, crosses word i with word m + i under v ^ i
+pub record Crosses (c : Crossing) (v m : ℕ) (d : List ℕ → List ℕ) : Type 0 where
+  pub low-at : (a : List ℕ) (i : ℕ) → length a ≡ m + m → i < m → getD (d a) i 0 ≡ c .low (power 65537 v i) (getD a i 0) (getD a (m + i) 0)
+  pub high-at : (a : List ℕ) (i : ℕ) → length a ≡ m + m → i < m → getD (d a) (m + i) 0 ≡ c .high (power 65537 v i) (getD a i 0) (getD a (m + i) 0)
+
+pub mixing-crosses : (v m : ℕ) → Crosses (mixing 65537) v m (mixedHalves 65537 v m)
+mixing-crosses v m = record { low-at = low; high-at = high }
+  where
+    low : (a : List ℕ) (i : ℕ) → length a ≡ m + m → i < m → getD (mixedHalves 65537 v m a) i 0 ≡ plus 65537 (getD a i 0) (times 65537 (power 65537 v i) (getD a (m + i) 0))
+    low a i e h =
+        let t : length (take m a) ≡ m = length-take-le m a (omega arith) in
+        mixed-low 65537 v (take m a) (drop m a) i (omega arith) ∙ rw (getD-take m a i 0 h, getD-drop m a i 0)
+
+    high : (a : List ℕ) (i : ℕ) → length a ≡ m + m → i < m
+        → getD (mixedHalves 65537 v m a) (m + i) 0 ≡ minus 65537 (getD a i 0) (times 65537 (power 65537 v i) (getD a (m + i) 0))
+    high a i e h =
+        let t : length (take m a) ≡ m = length-take-le m a (omega arith) in
+        ap (λ (n : ℕ). getD (mixedHalves 65537 v m a) (n + i) 0) (sym t) ∙ mixed-high 65537 v (take m a) (drop m a) i (omega arith) ∙ rw (getD-take m a i 0 h, getD-drop m a i 0)
+
+pub unmixing-crosses : (v m : ℕ) → Crosses (unmixing 65537) v m (unmixed 65537 v m)
+unmixing-crosses v m = record { low-at = λ a i e h. unmixed-low 65537 v m a i h; high-at = λ a i e h. unmixed-high 65537 v m a i h }
+
+-- the factor of word k, which is in row k / width
+abbrev factor : (v width k : ℕ) → ℕ
+factor v width k = power 65537 v (k / width)
+
+-- all rows crossed
+module _ (c : Crossing) (v m width : ℕ) (d : List ℕ → List ℕ) (t : Crosses c v m d) (l : List ℕ) (e : length l ≡ m * width + m * width) where
+  abbrev whole : List ℕ
+  whole = pairs c (factor v width) (m * width) (m * width) l
+
+  pairs-at : (i j : ℕ) → i < m → j < width
+      → (getD whole (i * width + j) 0 ≡ getD (d (column width (m + m) j l)) i 0) × (getD whole ((m + i) * width + j) 0 ≡ getD (d (column width (m + m) j l)) (m + i) 0)
+  pairs-at i j h b =
+      let a : List ℕ = column width (m + m) j l in
+      let r : Done c (factor v width) (m * width) l (m * width) (i * width + j) = pairs-done c (factor v width) (m * width) l (m * width) (i * width + j) e (omega arith) (digits-lt h b) in
+      let q : m * width + (i * width + j) ≡ (m + i) * width + j = omega arith in
+      let f : (i * width + j) / width ≡ i = digits-div i b in
+      let x : getD a i 0 ≡ getD l (i * width + j) 0 = column-at width (m + m) j l i (omega arith) in
+      let y : getD a (m + i) 0 ≡ getD l ((m + i) * width + j) 0 = column-at width (m + m) j l (m + i) (omega arith) in
+      let n : length a ≡ m + m = length-column width (m + m) j l in
+      (cc (r .fst, q, f, x, y, t .low-at a i n h), cc (r .snd, q, f, x, y, t .high-at a i n h))
+
+  all-pairs : whole ≡ lifted width (m + m) (m + m) d l
+  all-pairs =
+      is-lifted width (m + m) (m + m) d l whole (length-pairs c (factor v width) (m * width) l (m * width) ∙ e ∙ sym (add-mul m m width)) (λ i j h b. at i j h b (decLt i m))
+    where
+      at : (i j : ℕ) → i < m + m → j < width → Dec (i < m) → getD whole (i * width + j) 0 ≡ getD (d (column width (m + m) j l)) i 0
+      at i j h b (yes u) = pairs-at i j u b .0
+      at i j h b (no u) =
+          let s : m + (i - m) ≡ i = omega arith in
+          subst (λ (k : ℕ). getD whole (k * width + j) 0 ≡ getD (d (column width (m + m) j l)) k 0) s (pairs-at (i - m) j (omega arith) b .1)
+
+-- row i of m is within them
+pub row-in : {i m : ℕ} (width : ℕ) → i < m → i * width + width ≤ m * width
+row-in {i} width h = rw suc-mul at (mul-le-mul-right {m = suc i} width h)
+
+-- THE LOOP OVER ROWS: the first i rows are crossed
+pub record RowsLoop (c : Crossing) (part₀ : List ℕ) (m width v : ℕ) (part : List ℕ) (g i low high : ℕ) : Type 0 where
+  pub turns : i ≤ m
+  pub same : length part ≡ length part₀
+  pub long : length part₀ ≡ m * width + m * width
+  pub words : Words 65537 part
+  pub g-is : g ≡ power 65537 v i
+  pub low-is : low ≡ i * width
+  pub high-is : high ≡ m * width + i * width
+  pub now : part ≡ pairs c (factor v width) (m * width) (i * width) part₀
+
+module _ {c : Crossing} {part₀ : List ℕ} {m width v : ℕ} where
+  pub rows-start : length part₀ ≡ (m + m) * width → Words 65537 part₀ → RowsLoop c part₀ m width v part₀ 1 0 0 (m * width)
+  unfolding pairs
+  rows-start e w = record {
+    turns = omega arith;
+    same = refl;
+    long = e ∙ add-mul m m width;
+    words = w;
+    g-is = sym (power-zero 65537 (omega arith) v);
+    low-is = sym (zero-mul width);
+    high-is = omega (arith, zero-mul width);
+    now = rw zero-mul refl;
+  }
+
+  -- row i is within its half, and that one within the part
+  pub room : {part : List ℕ} {g i low high : ℕ} → RowsLoop c part₀ m width v part g i low high → i < m → (low + width ≤ high) × (high + width ≤ length part)
+  room h lt = (omega (arith, row-in width lt), omega (arith, row-in width lt))
+
+  pub factor-lt : {part : List ℕ} {g i low high : ℕ} → RowsLoop c part₀ m width v part g i low high → g < 65537
+  factor-lt h = rw (h .g-is) (power-lt 65537 (omega arith) v _)
+
+  pub rows-turn : {part part′ : List ℕ} {g g′ i low high : ℕ} → Stores 65537 c → RowsLoop c part₀ m width v part g i low high → i < m
+      → part′ ≡ crossedRow c g width low high part → g′ ≡ times 65537 g v → RowsLoop c part₀ m width v part′ g′ (i + 1) (low + width) (high + width)
+  rows-turn {part} {part′} {g} {g′} {i} {low} {high} s h lt ep eg =
+      let e : (i + 1) * width ≡ i * width + width = omega arith in
+      let r : crossedRow c (power 65537 v i) width (i * width) (m * width + i * width) (pairs c (factor v width) (m * width) (i * width) part₀) ≡ pairs c (factor v width) (m * width) (i * width + width) part₀ =
+      row-pairs c (factor v width) (m * width) (power 65537 v i) width (i * width) part₀ (λ j b. ap (power 65537 v) (digits-div i b)) in
+      record {
+        turns = omega arith;
+        same = ap length ep ∙ length-row c g width low high part ∙ h .same;
+        long = h .long;
+        words = rw ep (words-row (omega arith) s g width low high (h .words));
+        g-is = eg ∙ rw (h .g-is, add-one) (times-comm 65537 (omega arith) _ v ∙ sym (power-suc 65537 (omega arith) v i));
+        low-is = omega arith;
+        high-is = omega arith;
+        now = ep ∙ rw (h .low-is, h .high-is, h .g-is, h .now, e) r;
+      }
+
+  pub rows-end : {d : List ℕ → List ℕ} {part : List ℕ} {g i low high : ℕ} → Crosses c v m d → RowsLoop c part₀ m width v part g i low high → m ≤ i
+      → part ≡ lifted width (m + m) (m + m) d part₀
+  rows-end {d} {part} {g} {i} t h le =
+      let e : i ≡ m = omega arith in
+      (rw e at (h .now)) ∙ all-pairs c v m width d t part₀ (h .long)

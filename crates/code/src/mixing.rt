@@ -1,0 +1,86 @@
+// Mixing in place. All mixing goes through `mix`.
+ghost use mathlib.Core.Path.{_≡_};
+ghost use Prim.Native.Nat.{_+_, _*_, _^_, _≤_, _<_};
+ghost use lib.ListN.{length};
+ghost use Rattle.field.specs.Words.{Words};
+ghost use Rattle.code.specs.Rows.{lifted};
+ghost use Rattle.code.specs.Transform.{mixedHalves, transform};
+ghost use Rattle.code.specs.MixTrace.{mixRow, eachBlock};
+
+// Mixes `width` words from index `low` with as many from index `high`, under the factor `g`.
+fn mix_row(part: &mut [u32], low: usize, high: usize, width: usize, g: u32)
+    requires { ⌜ low + width ≤ high ⌝ }
+    requires { ⌜ high + width ≤ length (now part) ⌝ }
+    requires { ⌜ g < 65537 ⌝ }
+    requires { ⌜ Words 65537 (now part) ⌝ }
+    ensures { λ _. ⌜ now (part .exit) ≡ mixRow 65537 width low high g (now (part .entry)) ⌝ }
+{
+    let mut j = 0;
+    while j < width {
+        let x = low + j;
+        let y = high + j;
+        let a = part[x];
+        let t = field::mul(g, part[y]);
+        part[x] = field::add(a, t);
+        part[y] = field::sub(a, t);
+        j += 1;
+    }
+}
+
+// Mixes the first m rows (older) with the next m rows (newer); row i of the newer has the factor v^i.
+pub fn mix(part: &mut [u32], m: usize, width: usize, v: u32)
+    requires { ⌜ length (now part) ≡ (m + m) * width ⌝ }
+    requires { ⌜ v < 65537 ⌝ }
+    requires { ⌜ Words 65537 (now part) ⌝ }
+    ensures { λ _. ⌜ now (part .exit) ≡ lifted width (m + m) (m + m) (mixedHalves 65537 v m) (now (part .entry)) ⌝ }
+{
+    let mut g: u32 = 1;
+    let mut i = 0;
+    let mut low = 0;
+    let mut high = m * width;
+    while i < m {
+        mix_row(part, low, high, width, g);
+        g = field::mul(g, v);
+        low += width;
+        high += width;
+        i += 1;
+    }
+}
+
+// Mixes each of `blocks` blocks of 2m rows.
+fn mix_each(half: &mut [u32], blocks: usize, m: usize, width: usize, v: u32)
+    requires { ⌜ length (now half) ≡ blocks * ((m + m) * width) ⌝ }
+    requires { ⌜ m < 4294967296 ⌝ }
+    requires { ⌜ (m + m) * width < 9223372036854775808 ⌝ }
+    requires { ⌜ v < 65537 ⌝ }
+    requires { ⌜ Words 65537 (now half) ⌝ }
+    ensures { λ _. ⌜ now (half .exit) ≡ eachBlock blocks ((m + m) * width) (lifted width (m + m) (m + m) (mixedHalves 65537 v m)) (now (half .entry)) ⌝ }
+{
+    let size = (m + m) * width;
+    let mut at = 0;
+    for b in 0..blocks {
+        let to = at + size;
+        mix(&mut half[at..to], m, width, v);
+        at = to;
+    }
+}
+
+// All mixing of a half of a stripe of 2^level rows, from single rows up.
+pub fn mix_all(half: &mut [u32], level: usize, k: usize, width: usize, root: u32)
+    requires { ⌜ (level ≤ k) × (k ≤ 15) ⌝ }
+    requires { ⌜ length (now half) ≡ 2 ^ level * width ⌝ }
+    requires { ⌜ root < 65537 ⌝ }
+    requires { ⌜ Words 65537 (now half) ⌝ }
+    ensures { λ _. ⌜ now (half .exit) ≡ lifted width (2 ^ level) (2 ^ level) (transform 65537 root k level) (now (half .entry)) ⌝ }
+{
+    let mut blocks = crate::number::two_to(level);
+    let mut exponent = crate::number::two_to(k);
+    let mut m: usize = 1;
+    for l in 0..level {
+        blocks = blocks / 2;
+        let v = field::power(root, exponent as u32);
+        mix_each(half, blocks, m, width, v);
+        exponent = exponent / 2;
+        m = m * 2;
+    }
+}

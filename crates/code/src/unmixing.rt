@@ -1,0 +1,87 @@
+// The inverse of mixing in place, but for a factor 2 a level.
+ghost use mathlib.Core.Path.{_≡_};
+ghost use Prim.Native.Nat.{_+_, _*_, _^_, _≤_, _<_};
+ghost use lib.ListN.{length};
+ghost use Rattle.field.specs.Words.{Words};
+ghost use Rattle.code.specs.Rows.{lifted};
+ghost use Rattle.code.specs.Transform.{unmixed, untransform};
+ghost use Rattle.code.specs.MixTrace.{unmixRow, eachBlock};
+
+// Unmixes `width` words from index `low` and as many from index `high`, under the factor `g`.
+fn unmix_row(part: &mut [u32], low: usize, high: usize, width: usize, g: u32)
+    requires { ⌜ low + width ≤ high ⌝ }
+    requires { ⌜ high + width ≤ length (now part) ⌝ }
+    requires { ⌜ g < 65537 ⌝ }
+    requires { ⌜ Words 65537 (now part) ⌝ }
+    ensures { λ _. ⌜ now (part .exit) ≡ unmixRow 65537 width low high g (now (part .entry)) ⌝ }
+{
+    let mut j = 0;
+    while j < width {
+        let x = low + j;
+        let y = high + j;
+        let a = part[x];
+        let b = part[y];
+        part[x] = field::add(a, b);
+        part[y] = field::mul(g, field::sub(a, b));
+        j += 1;
+    }
+}
+
+// Unmixes the first m rows and the next m rows; row i of the latter has the factor v^i.
+pub fn unmix(part: &mut [u32], m: usize, width: usize, v: u32)
+    requires { ⌜ length (now part) ≡ (m + m) * width ⌝ }
+    requires { ⌜ v < 65537 ⌝ }
+    requires { ⌜ Words 65537 (now part) ⌝ }
+    ensures { λ _. ⌜ now (part .exit) ≡ lifted width (m + m) (m + m) (unmixed 65537 v m) (now (part .entry)) ⌝ }
+{
+    let mut g: u32 = 1;
+    let mut i = 0;
+    let mut low = 0;
+    let mut high = m * width;
+    while i < m {
+        unmix_row(part, low, high, width, g);
+        g = field::mul(g, v);
+        low += width;
+        high += width;
+        i += 1;
+    }
+}
+
+// Unmixes each of `blocks` blocks of 2m rows.
+fn unmix_each(half: &mut [u32], blocks: usize, m: usize, width: usize, v: u32)
+    requires { ⌜ length (now half) ≡ blocks * ((m + m) * width) ⌝ }
+    requires { ⌜ m < 4294967296 ⌝ }
+    requires { ⌜ (m + m) * width < 9223372036854775808 ⌝ }
+    requires { ⌜ v < 65537 ⌝ }
+    requires { ⌜ Words 65537 (now half) ⌝ }
+    ensures { λ _. ⌜ now (half .exit) ≡ eachBlock blocks ((m + m) * width) (lifted width (m + m) (m + m) (unmixed 65537 v m)) (now (half .entry)) ⌝ }
+{
+    let size = (m + m) * width;
+    let mut at = 0;
+    for b in 0..blocks {
+        let to = at + size;
+        unmix(&mut half[at..to], m, width, v);
+        at = to;
+    }
+}
+
+// The inverse of all mixing of a half, but for the factor 2^level, from all rows down; `root` is the inverse of mixing's.
+pub fn unmix_all(half: &mut [u32], level: usize, k: usize, width: usize, root: u32)
+    requires { ⌜ (level ≤ k) × (k ≤ 15) ⌝ }
+    requires { ⌜ length (now half) ≡ 2 ^ level * width ⌝ }
+    requires { ⌜ root < 65537 ⌝ }
+    requires { ⌜ Words 65537 (now half) ⌝ }
+    ensures { λ _. ⌜ now (half .exit) ≡ lifted width (2 ^ level) (2 ^ level) (untransform 65537 root k level) (now (half .entry)) ⌝ }
+{
+    let mut blocks: usize = 1;
+    let mut m = crate::number::two_to(level);
+    let mut left = level;
+    while 0 < left {
+        m = m / 2;
+        left = left - 1;
+        let exponent = crate::number::two_to(k - left);
+        let v = field::power(root, exponent as u32);
+        unmix_each(half, blocks, m, width, v);
+        blocks = blocks * 2;
+    }
+}
