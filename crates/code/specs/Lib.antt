@@ -4,5 +4,6 @@ pub mod Decoding
 pub mod MixTrace
 pub mod Promises
 pub mod Rows
+pub mod MixTrace
 pub mod Stripe
 pub mod Transform

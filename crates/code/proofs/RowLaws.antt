@@ -1,0 +1,212 @@
+-- Laws of specs/RowTrace: the length of what is stored, its words, and the words around it. Assumes nothing.
+use mathlib.Core.Path.{_≡_, refl, sym, ap, _∙_}
+use mathlib.Core.Logic.{⊎-elim, _≢_}
+use mathlib.Core.Bool.{true, false}
+use mathlib.Core.List.{List, _++_, append-nil}
+use Prim.Native.Nat.{ℕ, zero, suc, _+_, _*_, _-_, _/_, _≤_, _<_}
+use native.Mathlib.Nat.{eq-or-lt-of-le, add-zero, add-suc, add-assoc, suc-mul, zero-mul}
+use native.Mathlib.Numerals.{add-one}
+use native.Mathlib.Decide.{decLt}
+use native.Mathlib.Omega.{arith}
+use lib.ListN.{length, getD, set, take, drop, length-set, length-append, length-drop, List·getD-append}
+use lib.Seq.{set-comm, drop-length, getD-set-same, getD-set-other, getD-append-add, getD-take, getD-drop, length-take-le, ext-getD}
+use lib.Arith.{digits-div, digits-lt}
+use lib.Dec.{eqb}
+use Rattle.field.specs.Residue.{minus, times}
+use Rattle.field.specs.Words.{Words, table}
+use Rattle.field.proofs.WordLists.{words-set, length-table, getD-table}
+use Rattle.code.specs.RowTrace.{stored, scaledWord, scaleRow, weighedBy}
+use Rattle.code.proofs.Shapes.{times-lt}
+
+pub length-stored : (a : ℕ) (f : ℕ → ℕ) (n : ℕ) (l : List ℕ) → length (stored a f n l) ≡ length l
+unfolding stored
+length-stored a f zero l = refl
+length-stored a f (suc n) l = length-set (stored a f n l) (a + n) (f n) ∙ length-stored a f n l
+
+pub words-stored : (p : ℕ) → 0 < p → (a : ℕ) (f : ℕ → ℕ) (n : ℕ) {l : List ℕ} → Words p l → ((i : ℕ) → i < n → f i < p) → Words p (stored a f n l)
+unfolding stored
+words-stored p h a f zero w b = w
+words-stored p h a f (suc n) w b = words-set p h (a + n) (words-stored p h a f n w (λ i t. b i (omega arith))) (b n (omega arith))
+
+-- the words off those stored are as they were
+pub stored-off : (a : ℕ) (f : ℕ → ℕ) (n : ℕ) (l : List ℕ) (k : ℕ) → ((i : ℕ) → i < n → k ≢ a + i) → getD (stored a f n l) k 0 ≡ getD l k 0
+unfolding stored
+stored-off a f zero l k h = refl
+stored-off a f (suc n) l k h =
+    getD-set-other (stored a f n l) (a + n) k (f n) 0 (h n (omega arith)) ∙ stored-off a f n l k (λ i t. h i (omega arith))
+
+pub stored-before : (a : ℕ) (f : ℕ → ℕ) (n : ℕ) (l : List ℕ) (k : ℕ) → k < a → getD (stored a f n l) k 0 ≡ getD l k 0
+stored-before a f n l k h = stored-off a f n l k (λ i t e. omega arith)
+
+pub stored-after : (a : ℕ) (f : ℕ → ℕ) (n : ℕ) (l : List ℕ) (k : ℕ) → a + n ≤ k → getD (stored a f n l) k 0 ≡ getD l k 0
+stored-after a f n l k h = stored-off a f n l k (λ i t e. omega arith)
+
+pub stored-at : (a : ℕ) (f : ℕ → ℕ) (n : ℕ) (l : List ℕ) (i : ℕ) → a + n ≤ length l → i < n → getD (stored a f n l) (a + i) 0 ≡ f i
+unfolding stored
+stored-at a f zero l i h b = absurd (omega arith)
+stored-at a f (suc n) l i h b =
+    let r = stored-at a f n l in
+    let le : i ≤ n = omega arith in
+    let long : length (stored a f n l) ≡ length l = length-stored a f n l in
+    ⊎-elim (λ e. rw e (getD-set-same (stored a f n l) (a + n) (f n) 0 (omega arith)))
+    (λ t. getD-set-other (stored a f n l) (a + n) (a + i) (f n) 0 (λ e. omega arith) ∙ r i (omega arith) t) (eq-or-lt-of-le le)
+
+-- a list that is, word by word, what is stored and the words around it
+module _ (a : ℕ) (f : ℕ → ℕ) (n : ℕ) (l r : List ℕ) (fits : a + n ≤ length l) (same : length r ≡ length l) (before : (k : ℕ) → k < a → getD r k 0 ≡ getD l k 0)
+    (inside : (i : ℕ) → i < n → getD r (a + i) 0 ≡ f i) (after : (k : ℕ) → a + n ≤ k → getD r k 0 ≡ getD l k 0) where
+  front : length (take a l) ≡ a
+  front = length-take-le a l (omega arith)
+
+  two : length (take a l ++ table n f) ≡ a + n
+  two = simp (length-append, length-table, front)
+
+  long : length (take a l ++ table n f ++ drop (a + n) l) ≡ length l
+  long = simp (length-append, length-table, length-drop, front) (omega arith)
+
+  at : (k : ℕ) → Dec (k < a) → Dec (k < a + n) → getD r k 0 ≡ getD (take a l ++ table n f ++ drop (a + n) l) k 0
+  at k (yes b) d =
+      before k b
+      ∙ sym (List·getD-append (take a l ++ table n f) (drop (a + n) l) 0 k (omega (arith, two)) ∙ List·getD-append (take a l) (table n f) 0 k (omega (arith, front)) ∙ getD-take a l k 0 b)
+  at k (no b) (yes d) =
+      let i : ℕ = k - a in
+      let e : k ≡ a + i = omega arith in
+      let e′ : k ≡ length (take a l) + i = omega (arith, front) in
+      ap (λ (x : ℕ). getD r x 0) e ∙ inside i (omega arith)
+      ∙ sym (List·getD-append (take a l ++ table n f) (drop (a + n) l) 0 k (omega (arith, two)) ∙ ap (λ (x : ℕ). getD (take a l ++ table n f) x 0) e′
+      ∙ getD-append-add (take a l) (table n f) i 0 ∙ getD-table n i f (omega arith))
+  at k (no b) (no d) =
+      let i : ℕ = k - (a + n) in
+      let e : a + n + i ≡ k = omega arith in
+      let e′ : k ≡ length (take a l ++ table n f) + i = omega (arith, two) in
+      after k (omega arith)
+      ∙ sym (ap (λ (x : ℕ). getD (take a l ++ table n f ++ drop (a + n) l) x 0) e′ ∙ getD-append-add (take a l ++ table n f) (drop (a + n) l) i 0 ∙ getD-drop (a + n) l i 0 ∙ ap (λ (x : ℕ). getD l x 0) e)
+
+  pub is-stored : r ≡ take a l ++ table n f ++ drop (a + n) l
+  is-stored = ext-getD 0 r (take a l ++ table n f ++ drop (a + n) l) (same ∙ sym long) (λ k b. at k (decLt k a) (decLt k (a + n)))
+
+pub stored-is : (a : ℕ) (f : ℕ → ℕ) (n : ℕ) (l : List ℕ) → a + n ≤ length l → stored a f n l ≡ take a l ++ table n f ++ drop (a + n) l
+stored-is a f n l h =
+    is-stored a f n l (stored a f n l) h (length-stored a f n l) (stored-before a f n l) (λ i b. stored-at a f n l i h b) (stored-after a f n l)
+
+-- nothing stands behind the end
+pub no-rest : (x l : List ℕ) (n : ℕ) → length l ≡ n → x ++ drop n l ≡ x
+no-rest x l n e = rw (← e, drop-length, append-nil)
+
+pub stored-last : (a : ℕ) (f : ℕ → ℕ) (n : ℕ) (l : List ℕ) → length l ≡ a + n → stored a f n l ≡ take a l ++ table n f
+stored-last a f n l e = stored-is a f n l (omega arith) ∙ no-rest (take a l ++ table n f) l (a + n) e
+
+-- one stretch after the other
+pub stored-more : (a : ℕ) (f g : ℕ → ℕ) (n m : ℕ) (l : List ℕ) → ((i : ℕ) → i < m → g i ≡ f (n + i)) → stored (a + n) g m (stored a f n l) ≡ stored a f (n + m) l
+unfolding stored
+stored-more a f g n zero l e = rw add-zero
+stored-more a f g n (suc m) l e =
+    let r : stored (a + n) g m (stored a f n l) ≡ stored a f (n + m) l = stored-more a f g n m l (λ i t. e i (omega arith)) in
+    rw (add-suc, r, e m (omega arith), add-assoc)
+
+-- a word off those stored that is stored after them, or before
+pub set-stored : (a : ℕ) (f : ℕ → ℕ) (n : ℕ) (l : List ℕ) (k x : ℕ) → ((i : ℕ) → i < n → k ≢ a + i) → set (stored a f n l) k x ≡ stored a f n (set l k x)
+unfolding stored
+set-stored a f zero l k x h = refl
+set-stored a f (suc n) l k x h =
+    set-comm (stored a f n l) (a + n) k (f n) x (λ e. h n (omega arith) (sym e)) ∙ ap (λ (r : List ℕ). set r (a + n) (f n)) (set-stored a f n l k x (λ i t. h i (omega arith)))
+
+-- A LOOP that stores: what holds after i of its n turns
+pub record Storing (a : ℕ) (f : ℕ → ℕ) (n : ℕ) (l₀ l : List ℕ) (i : ℕ) : Type 0 where
+  pub turns : i ≤ n
+  pub same : length l ≡ length l₀
+  pub now : l ≡ stored a f i l₀
+
+pub storing-start : (a : ℕ) (f : ℕ → ℕ) (n : ℕ) (l : List ℕ) → Storing a f n l l 0
+unfolding stored
+storing-start a f n l = record { turns = omega arith; same = refl; now = refl }
+
+pub storing-turn : {a : ℕ} {f : ℕ → ℕ} {n : ℕ} {l₀ l : List ℕ} {i x : ℕ} → Storing a f n l₀ l i → i < n → x ≡ f i → Storing a f n l₀ (set l (a + i) x) (i + 1)
+unfolding stored
+storing-turn {a} {l} {i} {x} h b e = record { turns = omega arith; same = length-set l (a + i) x ∙ h .same; now = rw (add-one, e, h .now) }
+
+pub storing-done : {a : ℕ} {f : ℕ → ℕ} {n : ℕ} {l₀ l : List ℕ} {i : ℕ} → Storing a f n l₀ l i → n ≤ i → l ≡ stored a f n l₀
+storing-done {n} {i} h b =
+    let e : i ≡ n = omega arith in
+    rw e at (h .now)
+
+-- the words that are not stored yet, and those before, are as they were
+pub storing-rest : {a : ℕ} {f : ℕ → ℕ} {n : ℕ} {l₀ l : List ℕ} {i : ℕ} → Storing a f n l₀ l i → (k : ℕ) → a + i ≤ k → getD l k 0 ≡ getD l₀ k 0
+storing-rest {a} {f} {l₀ = l₀} {i = i} h k b = ap (λ (m : List ℕ). getD m k 0) (h .now) ∙ stored-after a f i l₀ k b
+
+pub storing-front : {a : ℕ} {f : ℕ → ℕ} {n : ℕ} {l₀ l : List ℕ} {i : ℕ} → Storing a f n l₀ l i → (k : ℕ) → k < a → getD l k 0 ≡ getD l₀ k 0
+storing-front {a} {f} {l₀ = l₀} {i = i} h k b = ap (λ (m : List ℕ). getD m k 0) (h .now) ∙ stored-before a f i l₀ k b
+
+-- a row that is scaled
+module _ (p width a g : ℕ) where
+  pub length-scaleRow : (l : List ℕ) → length (scaleRow p width a g l) ≡ length l
+  unfolding scaleRow
+  length-scaleRow l = length-stored a (scaledWord p a g l) width l
+
+  pub words-scaleRow : 0 < p → {l : List ℕ} → Words p l → Words p (scaleRow p width a g l)
+  unfolding scaleRow scaledWord
+  words-scaleRow h {l} w = words-stored p h a (scaledWord p a g l) width w (λ i t. times-lt p h g (getD l (a + i) 0))
+
+  pub scaleRow-at : (l : List ℕ) (j : ℕ) → a + width ≤ length l → j < width → getD (scaleRow p width a g l) (a + j) 0 ≡ times p g (getD l (a + j) 0)
+  unfolding scaleRow scaledWord
+  scaleRow-at l j h b = stored-at a (scaledWord p a g l) width l j h b
+
+  pub scaleRow-before : (l : List ℕ) (k : ℕ) → k < a → getD (scaleRow p width a g l) k 0 ≡ getD l k 0
+  unfolding scaleRow
+  scaleRow-before l k h = stored-before a (scaledWord p a g l) width l k h
+
+  pub scaleRow-after : (l : List ℕ) (k : ℕ) → a + width ≤ k → getD (scaleRow p width a g l) k 0 ≡ getD l k 0
+  unfolding scaleRow
+  scaleRow-after l k h = stored-after a (scaledWord p a g l) width l k h
+
+-- ROWS scaled one after the other, n of them from index a on; row i by g i
+unfoldable pub scaledRowsWord : (p width a : ℕ) → (g : ℕ → ℕ) → (l : List ℕ) → (x : ℕ) → ℕ
+scaledRowsWord p width a g l x = times p (g (x / width)) (getD l (a + x) 0)
+
+unfoldable pub scaleRows : (p width a : ℕ) → (g : ℕ → ℕ) → (n : ℕ) → (l : List ℕ) → List ℕ
+scaleRows p width a g n l = stored a (scaledRowsWord p width a g l) (n * width) l
+
+module _ (p width a : ℕ) (g : ℕ → ℕ) where
+  pub length-scaleRows : (n : ℕ) (l : List ℕ) → length (scaleRows p width a g n l) ≡ length l
+  unfolding scaleRows
+  length-scaleRows n l = length-stored a (scaledRowsWord p width a g l) (n * width) l
+
+  pub words-scaleRows : 0 < p → (n : ℕ) {l : List ℕ} → Words p l → Words p (scaleRows p width a g n l)
+  unfolding scaleRows scaledRowsWord
+  words-scaleRows h n {l} w = words-stored p h a (scaledRowsWord p width a g l) (n * width) w (λ i t. times-lt p h (g (i / width)) (getD l (a + i) 0))
+
+  pub scaleRows-none : (l : List ℕ) → scaleRows p width a g 0 l ≡ l
+  unfolding scaleRows stored
+  scaleRows-none l = rw zero-mul
+
+  -- one row more
+  pub scaleRows-more : (n : ℕ) (l : List ℕ) → scaleRow p width (a + n * width) (g n) (scaleRows p width a g n l) ≡ scaleRows p width a g (suc n) l
+  unfolding scaleRow scaleRows scaledRowsWord scaledWord
+  scaleRows-more n l =
+      stored-more a (scaledRowsWord p width a g l) (scaledWord p (a + n * width) (g n) (stored a (scaledRowsWord p width a g l) (n * width) l)) (n * width) width l at
+      ∙ ap (λ (m : ℕ). stored a (scaledRowsWord p width a g l) m l) (sym (suc-mul n width))
+    where
+      at : (i : ℕ) → i < width → times p (g n) (getD (stored a (scaledRowsWord p width a g l) (n * width) l) (a + n * width + i) 0) ≡ times p (g ((n * width + i) / width)) (getD l (a + (n * width + i)) 0)
+      at i b = rw (digits-div n b, stored-after a (scaledRowsWord p width a g l) (n * width) l (a + n * width + i) (omega arith), add-assoc)
+
+  pub scaleRows-at : (n : ℕ) (l : List ℕ) (i j : ℕ) → a + n * width ≤ length l → i < n → j < width
+      → getD (scaleRows p width a g n l) (a + (i * width + j)) 0 ≡ times p (g i) (getD l (a + (i * width + j)) 0)
+  unfolding scaleRows scaledRowsWord
+  scaleRows-at n l i j h b t = stored-at a (scaledRowsWord p width a g l) (n * width) l (i * width + j) h (digits-lt b t) ∙ rw (digits-div i t)
+
+  pub scaleRows-before : (n : ℕ) (l : List ℕ) (k : ℕ) → k < a → getD (scaleRows p width a g n l) k 0 ≡ getD l k 0
+  unfolding scaleRows
+  scaleRows-before n l k h = stored-before a (scaledRowsWord p width a g l) (n * width) l k h
+
+  pub scaleRows-after : (n : ℕ) (l : List ℕ) (k : ℕ) → a + n * width ≤ k → getD (scaleRows p width a g n l) k 0 ≡ getD l k 0
+  unfolding scaleRows
+  scaleRows-after n l k h = stored-after a (scaledRowsWord p width a g l) (n * width) l k h
+
+-- weights multiplied
+module _ (p base j : ℕ) (l : List ℕ) (i : ℕ) where
+  pub weighedBy-own : eqb j i ≡ true → weighedBy p base j l i ≡ getD l (base + i) 0
+  unfolding weighedBy
+  weighedBy-own e = rw (e, weighedBy)
+
+  pub weighedBy-other : eqb j i ≡ false → weighedBy p base j l i ≡ times p (getD l (base + i) 0) (minus p (getD l i 0) (getD l j 0))
+  unfolding weighedBy
+  weighedBy-other e = rw (e, weighedBy)
