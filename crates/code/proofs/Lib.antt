@@ -4,7 +4,10 @@ pub mod Blocks
 pub mod Coefficients
 pub mod Columns
 pub mod Crossing
+pub mod DecodeSteps
+pub mod DecodeTraces
 pub mod Decoder
+pub mod DecoderShapes
 pub mod Evaluation
 pub mod Folding
 pub mod Half
@@ -13,10 +16,9 @@ pub mod Lifting
 pub mod Points
 pub mod Products
 pub mod Proved
+pub mod RowLaws
 pub mod Shapes
 pub mod Survivors
 pub mod Values
+pub mod WeightLaws
 pub mod Worked
-pub mod DecodeTraces
-pub mod DecoderShapes
-pub mod DecodeSteps

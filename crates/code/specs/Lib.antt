@@ -3,7 +3,7 @@ pub mod Decoder
 pub mod Decoding
 pub mod MixTrace
 pub mod Promises
+pub mod RowTrace
 pub mod Rows
-pub mod MixTrace
 pub mod Stripe
 pub mod Transform

@@ -3,4 +3,6 @@
 pub mod decoding;
 pub mod mixing;
 pub mod number;
+pub mod stripe;
 pub mod unmixing;
+pub mod weights;
