@@ -14,10 +14,11 @@ use Rattle.code.specs.Transform.{reversed}
 use Rattle.code.specs.Rows.{column, lifted}
 use Rattle.field.specs.Power.{inverse}
 use Rattle.code.specs.Decoder.{halfOf, derivedAt, derived, divisorAt, chosenAt, chosen}
-use Rattle.code.specs.DecodeTrace.{written}
+use Rattle.code.specs.RowTrace.{stored}
 use Rattle.code.proofs.Lifting.{length-column, column-at, is-lifted}
 use Rattle.code.proofs.DecoderShapes.{derived-low, derived-high, chosen-at}
-use Rattle.code.proofs.DecodeTraces.{length-written, written-before, written-in, written-is, table-lifted, two-halves}
+use Rattle.code.proofs.RowLaws.{length-stored, stored-before, stored-at, stored-is}
+use Rattle.code.proofs.DecodeTraces.{table-lifted, two-halves}
 
 -- STEP 3, word q of the second half
 unfoldable pub deriveWord : (p level width : ℕ) → (rows : List ℕ) → (q : ℕ) → ℕ
@@ -35,22 +36,22 @@ module _ (p l width : ℕ) (r : List ℕ) (long : length r ≡ 2 ^ suc l * width
       let y : getD (column width (2 ^ suc l) j r) (2 ^ l + a) 0 ≡ getD r ((2 ^ l + a) * width + j) 0 = column-at width (2 ^ suc l) j r (2 ^ l + a) (omega arith) in
       rw (digits-div a b, x, y, high-row)
 
-  pub derive-rows : written (2 ^ l * width) (2 ^ l * width) (deriveWord p l width r) r ≡ lifted width (2 ^ suc l) (2 ^ suc l) (derived p l) r
+  pub derive-rows : stored (2 ^ l * width) (deriveWord p l width r) (2 ^ l * width) r ≡ lifted width (2 ^ suc l) (2 ^ suc l) (derived p l) r
   derive-rows =
       let f = deriveWord p l width r in
-      is-lifted width (2 ^ suc l) (2 ^ suc l) (derived p l) r (written (2 ^ l * width) (2 ^ l * width) f r) (length-written (2 ^ l * width) f r (2 ^ l * width) ∙ long)
+      is-lifted width (2 ^ suc l) (2 ^ suc l) (derived p l) r (stored (2 ^ l * width) f (2 ^ l * width) r) (length-stored (2 ^ l * width) f (2 ^ l * width) r ∙ long)
       (λ i j h b. word i j h b (decLt i (2 ^ l)))
     where
       word : (i j : ℕ) → i < 2 ^ suc l → j < width → Dec (i < 2 ^ l)
-          → getD (written (2 ^ l * width) (2 ^ l * width) (deriveWord p l width r) r) (i * width + j) 0 ≡ getD (derived p l (column width (2 ^ suc l) j r)) i 0
+          → getD (stored (2 ^ l * width) (deriveWord p l width r) (2 ^ l * width) r) (i * width + j) 0 ≡ getD (derived p l (column width (2 ^ suc l) j r)) i 0
       word i j h b (yes t) =
-          written-before (2 ^ l * width) (deriveWord p l width r) r (2 ^ l * width) (i * width + j) (digits-lt t b) ∙ sym (column-at width (2 ^ suc l) j r i h)
+          stored-before (2 ^ l * width) (deriveWord p l width r) (2 ^ l * width) r (i * width + j) (digits-lt t b) ∙ sym (column-at width (2 ^ suc l) j r i h)
           ∙ sym (derived-low p l (column width (2 ^ suc l) j r) i (length-column width (2 ^ suc l) j r) t)
       word i j h b (no t) =
           let a : ℕ = i - 2 ^ l in
           let e : 2 ^ l + a ≡ i = omega arith in
           rw (← e, high-row)
-          (written-in (2 ^ l * width) (deriveWord p l width r) r (2 ^ l * width) (a * width + j) (digits-lt (omega arith) b) (omega (arith, long, two-halves l width))
+          (stored-at (2 ^ l * width) (deriveWord p l width r) (2 ^ l * width) r (a * width + j) (omega (arith, long, two-halves l width)) (digits-lt (omega arith) b)
           ∙ derive-word a j (omega arith) b ∙ sym (derived-high p l (column width (2 ^ suc l) j r) a (length-column width (2 ^ suc l) j r) (omega arith)))
 
 -- STEP 5, word q of the first half; the weights stand behind the rows
@@ -77,9 +78,9 @@ module _ (p w k l width : ℕ) (ms : List Bool) (part : List ℕ) (long : 2 ^ su
       (ap₂ (λ (a e : ℕ). times p (inverse p (divisorAt p w k l ms (drop (2 ^ suc l * width) part) i)) (elim (getD ms i false) [ true ↦ e | false ↦ a ])) (sym x) (sym y)
       ∙ sym (chosen-at p l w k ms (drop (2 ^ suc l * width) part) c i h))
 
-  pub choose-rows : written (2 ^ l * width) 0 (chooseWord p w k l width ms part) part
+  pub choose-rows : stored 0 (chooseWord p w k l width ms part) (2 ^ l * width) part
       ≡ lifted width (2 ^ suc l) (2 ^ l) (chosen p w k l ms (drop (2 ^ suc l * width) part)) (take (2 ^ suc l * width) part) ++ drop (2 ^ l * width) part
   choose-rows =
       let f = chooseWord p w k l width ms part in
-      written-is 0 f part (2 ^ l * width) (omega (arith, two-halves l width))
+      stored-is 0 f (2 ^ l * width) part (omega (arith, two-halves l width))
       ∙ rw (zero-add, table-lifted width (2 ^ suc l) (2 ^ l) (chosen p w k l ms (drop (2 ^ suc l * width) part)) f (take (2 ^ suc l * width) part) choose-word)

@@ -1,24 +1,15 @@
--- What the decoder's loops leave, turn by turn: a run of words written, and a test of rows. Assumes nothing: these are definitions.
+-- What the decoder's loops on rows come to: the words of a derived row, and a test of rows. Assumes nothing: these are definitions.
 use mathlib.Core.Bool.{Bool, true, _&&_, _||_}
 use mathlib.Core.List.{List}
 use Prim.Native.Nat.{ℕ, zero, suc, _+_, _*_, _^_}
 use lib.Dec.{ltb, eqb}
-use lib.ListN.{getD, set}
+use lib.ListN.{getD}
 use Rattle.field.specs.Residue.{minus, times}
 use Rattle.code.specs.Transform.{reversed}
-
--- n words from index `at` written, f 0, f 1, ..
-unfoldable pub written : (n at : ℕ) → (f : ℕ → ℕ) → (words : List ℕ) → List ℕ
-written zero at f l = l
-written (suc n) at f l = set (written n at f l) (at + n) (f n)
 
 -- word j of a times the row at `low` less b times the row at `high`
 unfoldable pub deriveAt : (p low high a b : ℕ) → (words : List ℕ) → (j : ℕ) → ℕ
 deriveAt p low high a b l j = minus p (times p a (getD l (low + j) 0)) (times p b (getD l (high + j) 0))
-
--- word j of g times the row at `from`
-unfoldable pub scaleAt : (p from g : ℕ) → (words : List ℕ) → (j : ℕ) → ℕ
-scaleAt p from g l j = times p g (getD l (from + j) 0)
 
 -- whether f holds of n - 1, .., 0
 unfoldable pub allTo : (n : ℕ) → (f : ℕ → Bool) → Bool

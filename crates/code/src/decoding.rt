@@ -9,7 +9,8 @@ ghost use Rattle.field.specs.Field.{Root};
 ghost use Rattle.code.specs.Rows.{lifted};
 ghost use Rattle.code.specs.Decoding.{consistent, decodeLeaves};
 ghost use Rattle.code.specs.Decoder as Decoder;
-ghost use Rattle.code.specs.DecodeTrace.{written, deriveAt, scaleAt, allTo, sameAt, lowRows};
+ghost use Rattle.code.specs.RowTrace.{stored, scaledWord};
+ghost use Rattle.code.specs.DecodeTrace.{deriveAt, allTo, sameAt, lowRows};
 ghost use Rattle.code.specs.Promises.{Enough};
 
 // Whether two rows are equal.
@@ -53,7 +54,7 @@ fn derive_row(part: &mut [u32], low: usize, high: usize, width: usize, a: u32, b
     requires { ⌜ (low + width ≤ high) × (high + width ≤ length (now part)) ⌝ }
     requires { ⌜ (a < 65537) × (b < 65537) ⌝ }
     requires { ⌜ Words 65537 (now part) ⌝ }
-    ensures { λ _. ⌜ now (part .exit) ≡ written width high (deriveAt 65537 low high a b (now (part .entry))) (now (part .entry)) ⌝ }
+    ensures { λ _. ⌜ now (part .exit) ≡ stored high (deriveAt 65537 low high a b (now (part .entry))) width (now (part .entry)) ⌝ }
 {
     for j in 0..width {
         let x = low + j;
@@ -87,7 +88,7 @@ fn choose_row(part: &mut [u32], to: usize, from: usize, width: usize, g: u32)
     requires { ⌜ (to ≤ from) × (from + width ≤ length (now part)) ⌝ }
     requires { ⌜ g < 65537 ⌝ }
     requires { ⌜ Words 65537 (now part) ⌝ }
-    ensures { λ _. ⌜ now (part .exit) ≡ written width to (scaleAt 65537 from g (now (part .entry))) (now (part .entry)) ⌝ }
+    ensures { λ _. ⌜ now (part .exit) ≡ stored to (scaledWord 65537 from g (now (part .entry))) width (now (part .entry)) ⌝ }
 {
     for j in 0..width {
         let x = to + j;

@@ -20,9 +20,11 @@ use Rattle.field.proofs.Powers.{power-lt}
 use Rattle.code.specs.Rows.{lifted}
 use Rattle.code.specs.Decoding.{pointAt}
 use Rattle.code.specs.Decoder.{divisorAt, chosen}
-use Rattle.code.specs.DecodeTrace.{written, scaleAt}
+use Rattle.code.specs.RowTrace.{stored, scaledWord}
 use Rattle.code.proofs.Shapes.{times-lt}
-use Rattle.code.proofs.DecodeTraces.{Writes, writes-start, after-writes, writes-row, two-halves, row-in, row-next}
+use Rattle.code.proofs.Crossing.{row-in}
+use Rattle.code.proofs.RowLaws.{Storing, storing-start, storing-rest}
+use Rattle.code.proofs.DecodeTraces.{storing-words, storing-row, two-halves, row-next}
 use Rattle.code.proofs.DecodeSteps.{chooseWord, choose-rows}
 use Rattle.code.proofs.decoding.choose.Statement.{statement}
 use Rattle.code.proofs.decoding.choose.Tie as tie
@@ -34,7 +36,8 @@ record Inv (part₀ : List ℕ) (marks : List Bool) (level k width root rows squ
   square-is : square ≡ times 65537 (2 ^ level) (2 ^ level)
   u-is : u ≡ power 65537 root (2 ^ k / 2 ^ level)
   at-is : at ≡ i * width
-  writes : Writes 65537 (i * width) 0 (chooseWord 65537 root k level width marks part₀) part₀ part
+  words₀ : Words 65537 part₀
+  storing : Storing 0 (chooseWord 65537 root k level width marks part₀) (rows * width) part₀ part (i * width)
 
 start : (part : List ℕ) (marks : List Bool) (level k width root rows square u e : ℕ) → level ≤ k → rows ≡ 2 ^ level → length part ≡ 2 ^ suc level * width + 2 ^ suc level
     → square ≡ times 65537 rows rows → e ≡ 2 ^ (k - level) → u ≡ power 65537 root e → Words 65537 part → Inv part marks level k width root rows square u part 0 0
@@ -45,7 +48,8 @@ start part marks level k width root rows square u e le er l es ee eu w = record 
   square-is = es ∙ rw er;
   u-is = eu ∙ ap (power 65537 root) (ee ∙ sym (two-div k level le));
   at-is = sym (zero-mul width);
-  writes = rw zero-mul (writes-start 0 (chooseWord 65537 root k level width marks part) w);
+  words₀ = w;
+  storing = rw (zero-mul width) (storing-start 0 (chooseWord 65537 root k level width marks part) (rows * width) part);
 }
 
 inverse-lt : (x : ℕ) → inverse 65537 x < 65537
@@ -65,10 +69,14 @@ module _ {part₀ : List ℕ} {marks : List Bool} {level k width root rows squar
   room : at + width ≤ rows * width
   room = omega (arith, row-in width l)
 
+  words : Words 65537 part
+  unfolding chooseWord
+  words = storing-words (h .storing) (lit< tt) (h .words₀) (λ q. times-lt 65537 (lit< tt) _ _)
+
   -- the position's weight
   weight : getD part (rows * width + rows * width + i) 0 ≡ getD (drop (2 ^ suc level * width) part₀) i 0
   weight =
-      after-writes (lit< tt) (h .writes) (rows * width + rows * width + i) (omega (arith, room, h .at-is))
+      storing-rest (h .storing) (rows * width + rows * width + i) (omega (arith, room, h .at-is))
       ∙ sym (getD-drop (2 ^ suc level * width) part₀ i 0 ∙ rw (two-halves, h .rows-is))
 
   point : pointAt 65537 root k level i ≡ power 65537 u (2 * i)
@@ -77,7 +85,7 @@ module _ {part₀ : List ℕ} {marks : List Bool} {level k width root rows squar
 
   -- a word of the row at `at`, or at the same place of the second half
   word : (b c : ℕ) → at + c ≤ b → getD part b 0 ≡ getD part₀ b 0
-  word b c le = after-writes (lit< tt) (h .writes) b (omega (arith, h .at-is))
+  word b c le = storing-rest (h .storing) b (omega (arith, h .at-is))
 
   erased : {e d from : ℕ} → getD marks i false ≡ true → e ≡ power 65537 u (2 * i) → d ≡ times 65537 e (getD part (rows * width + rows * width + i) 0) → from ≡ rows * width + at
       → Picked part₀ marks level k width root rows square part at i d from
@@ -93,7 +101,7 @@ module _ {part₀ : List ℕ} {marks : List Bool} {level k width root rows squar
   survives : {d from : ℕ} → getD marks i false ≡ false → d ≡ getD part (rows * width + rows * width + i) 0 → from ≡ at → Picked part₀ marks level k width root rows square part at i d from
   unfolding divisorAt
   survives {from} m ed ef = record {
-    small = rw ed (h .writes .words .word (rows * width + rows * width + i));
+    small = rw ed (words .word (rows * width + rows * width + i));
     low = omega arith;
     within = omega (arith, room);
     divisor = rw (m, h .square-is, ed, weight);
@@ -102,12 +110,12 @@ module _ {part₀ : List ℕ} {marks : List Bool} {level k width root rows squar
 
   module _ {d from g : ℕ} (p : Picked part₀ marks level k width root rows square part at i d from) (eg : g ≡ inverse 65537 (times 65537 square d)) where
     -- a word of the row that is written
-    written-word : (c : ℕ) → c < width → scaleAt 65537 from g part c ≡ chooseWord 65537 root k level width marks part₀ (i * width + c)
-    unfolding scaleAt chooseWord
-    written-word c t = rw (digits-div i t, eg, p .divisor) (ap (times 65537 (inverse 65537 (divisorAt 65537 root k level marks (drop (2 ^ suc level * width) part₀) i))) (p .read c t))
+    stored-word : (c : ℕ) → c < width → scaledWord 65537 from g part c ≡ chooseWord 65537 root k level width marks part₀ (i * width + c)
+    unfolding scaledWord chooseWord
+    stored-word c t = rw (digits-div i t, eg, p .divisor) (ap (times 65537 (inverse 65537 (divisorAt 65537 root k level marks (drop (2 ^ suc level * width) part₀) i))) (p .read c t))
 
-    turn : {part′ : List ℕ} → part′ ≡ written width at (scaleAt 65537 from g part) part → Inv part₀ marks level k width root rows square u part′ (at + width) (i + 1)
-    unfolding scaleAt
+    turn : {part′ : List ℕ} → part′ ≡ stored at (scaledWord 65537 from g part) width part → Inv part₀ marks level k width root rows square u part′ (at + width) (i + 1)
+    unfolding scaledWord
     turn e = record {
       turns = omega arith;
       rows-is = h .rows-is;
@@ -115,14 +123,15 @@ module _ {part₀ : List ℕ} {marks : List Bool} {level k width root rows squar
       square-is = h .square-is;
       u-is = h .u-is;
       at-is = omega (arith, row-next i width);
-      writes = rw row-next (writes-row (lit< tt) (h .writes) width _ (h .at-is ∙ sym (zero-add (i * width))) e written-word (λ c. times-lt 65537 (lit< tt) _ _));
+      words₀ = h .words₀;
+      storing = rw row-next (storing-row (h .storing) width _ (row-in width l) (h .at-is ∙ sym (zero-add (i * width))) e stored-word);
     }
 
 done : {part₀ : List ℕ} {marks : List Bool} {level k width root rows square u : ℕ} {part : List ℕ} {at i : ℕ} → Inv part₀ marks level k width root rows square u part at i → rows ≤ i
     → part ≡ lifted width (2 ^ suc level) (2 ^ level) (chosen 65537 root k level marks (drop (2 ^ suc level * width) part₀)) (take (2 ^ suc level * width) part₀) ++ drop (2 ^ level * width) part₀
 done {part₀} {marks} {level} {k} {width} {root} {rows} {i} h l =
     let e : i ≡ 2 ^ level = omega (arith, h .rows-is) in
-    h .writes .now ∙ rw e (choose-rows 65537 root k level width marks part₀ (omega (arith, h .long, two-halves level width, ap (λ (n : ℕ). n * width) (h .rows-is))))
+    h .storing .now ∙ rw e (choose-rows 65537 root k level width marks part₀ (omega (arith, h .long, two-halves level width, ap (λ (n : ℕ). n * width) (h .rows-is))))
 
 abbrev Inv-loop : tie.InvT-loop
 Inv-loop part₀ marks level k width root rows half base square u at₀ i₀ part at i = Inv part₀ marks level k width root rows square u part at i
@@ -193,7 +202,7 @@ mul-d : tie.Need-mul-d Inv-loop μ-loop
 mul-d c = omega (arith, c .before .loop .inv .long)
 
 slice-read-d : tie.Need-slice-read-d Inv-loop μ-loop
-slice-read-d c = let h = c .before .before .loop .inv in omega (arith, h .long, h .writes .same)
+slice-read-d c = let h = c .before .before .loop .inv in omega (arith, h .long, h .storing .same)
 
 shared-slice-read-if1 : tie.Need-shared-slice-read-if1 Inv-loop μ-loop
 shared-slice-read-if1 c = omega (arith, c .before .before .before .loop .inv .rows-is)
@@ -208,7 +217,9 @@ power-requires-2 : tie.Need-power-requires-2 Inv-loop μ-loop
 power-requires-2 c κs = rw (c .before .before .before .before .before .power .ensures) (power-lt 65537 (lit< tt) _ _)
 
 mul-requires-2 : tie.Need-mul-requires-2 Inv-loop μ-loop
-mul-requires-2 c κs = (rw (c .power2 .ensures) (power-lt 65537 (lit< tt) _ _), c .before .before .before .before .before .loop .inv .writes .words .word _)
+mul-requires-2 c κs =
+    let at = c .before .before .before .before in
+    (rw (c .power2 .ensures) (power-lt 65537 (lit< tt) _ _), words (at .before .loop .inv) (at .loop-test .taken) .word _)
 
 add-from : tie.Need-add-from Inv-loop μ-loop
 add-from c =
@@ -227,7 +238,7 @@ choose-row-requires c κs =
     let join = c .before .before .before in
     let h = join .before .before .before .before .loop .inv in
     let p = picked join in
-    ((p .low, omega (arith, p .within, h .long, h .writes .same)), (rw (c .inverse .ensures) (inverse-lt _), h .writes .words))
+    ((p .low, omega (arith, p .within, h .long, h .storing .same)), (rw (c .inverse .ensures) (inverse-lt _), words h (join .before .before .before .loop-test .taken)))
 
 add-at : tie.Need-add-at Inv-loop μ-loop
 add-at c =
@@ -249,7 +260,7 @@ loop-again c =
     turn (at .before .loop .inv) (at .loop-test .taken) (picked join) (row .before .inverse .ensures ∙ ap (inverse 65537) (row .before .before .mul3 .ensures)) (row .choose-row .ensures)
 
 same-length : tie.Need-same-length Inv-loop μ-loop
-same-length c = c .before .loop .inv .writes .same
+same-length c = c .before .loop .inv .storing .same
 
 returns : tie.Need-returns Inv-loop μ-loop
 returns c = done (c .before .loop .inv) (c .loop-test .left)

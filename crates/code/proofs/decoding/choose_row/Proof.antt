@@ -1,40 +1,23 @@
 -- `code::decoding::choose_row` meets its contract. The invariant: the first j words of the row at `to` are written. Assumes nothing.
-use mathlib.Core.Path.{_≡_, refl, sym, ap, _∙_}
+use mathlib.Core.Path.{_≡_, ap, _∙_}
 use mathlib.Core.List.{List}
 use Prim.Native.Nat.{ℕ, _+_, _-_, _≤_, _<_}
 use native.Mathlib.Omega.{arith}
-use lib.Dec.{lit<}
-use lib.ListN.{getD, set}
+use lib.ListN.{getD}
 use Rattle.field.specs.Residue.{times}
-use Rattle.code.specs.DecodeTrace.{written, scaleAt}
-use Rattle.code.proofs.Shapes.{times-lt}
-use Rattle.code.proofs.DecodeTraces.{Writes, writes-start, after-writes, writes-word}
+use Rattle.code.specs.RowTrace.{scaledWord}
+use Rattle.code.proofs.RowLaws.{Storing, storing-start, storing-turn, storing-done, storing-rest}
 use Rattle.code.proofs.decoding.choose_row.Statement.{statement}
 use Rattle.code.proofs.decoding.choose_row.Tie as tie
 
-record Inv (part₀ : List ℕ) (to from width g : ℕ) (part : List ℕ) (j : ℕ) : Type 0 where
-  turns : j ≤ width
-  writes : Writes 65537 j to (scaleAt 65537 from g part₀) part₀ part
-
-turn : {part₀ : List ℕ} {to from width g : ℕ} {part : List ℕ} {j r : ℕ} → Inv part₀ to from width g part j → to ≤ from → j < width
-    → r ≡ times 65537 g (getD part (from + j) 0) → Inv part₀ to from width g (set part (to + j) r) (j + 1)
-unfolding scaleAt
-turn {from} {g} {part} {j} h le l e =
-    let y = after-writes (lit< tt) (h .writes) (from + j) (omega arith) in
-    record { turns = omega arith; writes = writes-word (lit< tt) (h .writes) (e ∙ ap (times 65537 g) y) (rw e (times-lt 65537 (lit< tt) g (getD part (from + j) 0))) }
-
-done : {part₀ : List ℕ} {to from width g : ℕ} {part : List ℕ} {j : ℕ} → Inv part₀ to from width g part j → width ≤ j
-    → part ≡ written width to (scaleAt 65537 from g part₀) part₀
-done {part₀} {to} {from} {width} {g} {j} h l = h .writes .now ∙ ap (λ (n : ℕ). written n to (scaleAt 65537 from g part₀) part₀) {x = j} {y = width} (omega arith)
-
 abbrev Inv-loop : tie.InvT-loop
-Inv-loop part₀ to from width g j₀ part j = Inv part₀ to from width g part j
+Inv-loop part₀ to from width g j₀ part j = Storing to (scaledWord 65537 from g part₀) width part₀ part j
 
 abbrev μ-loop : tie.MeasureT-loop
 μ-loop part₀ to from width g j₀ part j = width - j
 
 loop-holds : tie.Need-loop-holds Inv-loop μ-loop
-loop-holds c = record { turns = omega arith; writes = writes-start (c .before .args .to) _ (c .before .pre .1 .1) }
+loop-holds c = storing-start _ _ _ _
 
 add-x : tie.Need-add-x Inv-loop μ-loop
 add-x c = omega arith
@@ -49,7 +32,10 @@ slice-read-mul : tie.Need-slice-read-mul Inv-loop μ-loop
 slice-read-mul c = omega arith
 
 mul-requires : tie.Need-mul-requires Inv-loop μ-loop
-mul-requires c κs = (omega arith, c .before .before .loop .inv .writes .words .word _)
+mul-requires c κs =
+    let at = c .before in
+    let s = at .before .before .before in
+    (omega arith, rw (storing-rest (at .before .loop .inv) (s .args .from + at .before .loop .j) (omega arith)) (s .pre .1 .1 .word _))
 
 mul-part : tie.Need-mul-part Inv-loop μ-loop
 mul-part c = omega arith
@@ -64,15 +50,17 @@ loop-less : tie.Need-loop-less Inv-loop μ-loop
 loop-less c = omega arith
 
 loop-again : tie.Need-loop-again Inv-loop μ-loop
+unfolding scaledWord
 loop-again c =
     let at = c .before .before in
-    turn (at .before .loop .inv) (at .before .before .before .pre .0 .0) (at .loop-test .taken) (c .mul .ensures)
+    let s = at .before .before .before in
+    storing-turn (at .before .loop .inv) (at .loop-test .taken) (c .mul .ensures ∙ ap (times 65537 (s .args .g)) (storing-rest (at .before .loop .inv) (s .args .from + at .before .loop .j) (omega arith)))
 
 same-length : tie.Need-same-length Inv-loop μ-loop
-same-length c = c .before .loop .inv .writes .same
+same-length c = c .before .loop .inv .same
 
 returns : tie.Need-returns Inv-loop μ-loop
-returns c = done (c .before .loop .inv) (c .loop-test .left)
+returns c = storing-done (c .before .loop .inv) (c .loop-test .left)
 
 pub choose-row-spec : {M : Type 1} → statement M
 choose-row-spec =

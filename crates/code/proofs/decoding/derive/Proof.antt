@@ -13,9 +13,12 @@ use Rattle.field.specs.Words.{Words}
 use Rattle.code.specs.Transform as Transform
 use Rattle.code.specs.Rows.{lifted}
 use Rattle.code.specs.Decoder.{halfOf, derived}
-use Rattle.code.specs.DecodeTrace.{written, deriveAt}
+use Rattle.code.specs.RowTrace.{stored}
+use Rattle.code.specs.DecodeTrace.{deriveAt}
 use Rattle.code.proofs.Shapes.{plus-lt, minus-lt, times-lt, reversed-lt}
-use Rattle.code.proofs.DecodeTraces.{Writes, writes-start, before-writes, after-writes, writes-row, two-halves, row-in, row-next}
+use Rattle.code.proofs.Crossing.{row-in}
+use Rattle.code.proofs.RowLaws.{Storing, storing-start, storing-front, storing-rest, storing-done}
+use Rattle.code.proofs.DecodeTraces.{storing-words, storing-row, two-halves, row-next}
 use Rattle.code.proofs.DecodeSteps.{deriveWord, derive-rows}
 use Rattle.code.proofs.decoding.derive.Statement.{statement}
 use Rattle.code.proofs.decoding.derive.Tie as tie
@@ -27,19 +30,19 @@ record Inv (part₀ : List ℕ) (level width rows b : ℕ) (part : List ℕ) (lo
   b-is : b ≡ halfOf 65537 level
   low-is : low ≡ j * width
   high-is : high ≡ rows * width + j * width
-  writes : Writes 65537 (j * width) (rows * width) (deriveWord 65537 level width part₀) part₀ part
+  storing : Storing (rows * width) (deriveWord 65537 level width part₀) (rows * width) part₀ part (j * width)
 
-start : (part : List ℕ) (level width rows b : ℕ) → rows ≡ 2 ^ level → length part ≡ 2 ^ suc level * width → b ≡ times 65537 32769 rows → Words 65537 part
+start : (part : List ℕ) (level width rows b : ℕ) → rows ≡ 2 ^ level → length part ≡ 2 ^ suc level * width → b ≡ times 65537 32769 rows
     → Inv part level width rows b part 0 (rows * width) 0
 unfolding halfOf
-start part level width rows b e l eb u = record {
+start part level width rows b e l eb = record {
   turns = omega arith;
   rows-is = e;
   long = l ∙ rw e (two-halves level width);
   b-is = eb ∙ ap (times 65537 32769) e;
   low-is = sym (zero-mul width);
   high-is = omega (arith, zero-mul width);
-  writes = rw zero-mul (writes-start (rows * width) (deriveWord 65537 level width part) u);
+  storing = rw (zero-mul width) (storing-start (rows * width) (deriveWord 65537 level width part) (rows * width) part);
 }
 
 module _ {part₀ : List ℕ} {level width rows b : ℕ} {part : List ℕ} {low high j : ℕ} (h : Inv part₀ level width rows b part low high j) where
@@ -47,18 +50,21 @@ module _ {part₀ : List ℕ} {level width rows b : ℕ} {part : List ℕ} {low 
   room : j < rows → low + width ≤ rows * width
   room l = omega (arith, row-in width l)
 
+  words : Words 65537 part₀ → Words 65537 part
+  unfolding deriveWord
+  words u = storing-words (h .storing) (lit< tt) u (λ q. minus-lt 65537 (lit< tt) _ _)
+
   -- a word of the row that is written
   word : {a : ℕ} → j < rows → a ≡ plus 65537 (Transform.reversed level j) b → (c : ℕ) → c < width → deriveAt 65537 low high a b part c ≡ deriveWord 65537 level width part₀ (j * width + c)
   unfolding deriveAt deriveWord
   word l e c t =
-      let x : getD part (low + c) 0 ≡ getD part₀ (low + c) 0 = before-writes (lit< tt) (h .writes) (low + c) (omega (arith, room l)) in
-      let y : getD part (high + c) 0 ≡ getD part₀ (high + c) 0 = after-writes (lit< tt) (h .writes) (high + c) (omega arith) in
+      let x : getD part (low + c) 0 ≡ getD part₀ (low + c) 0 = storing-front (h .storing) (low + c) (omega (arith, room l)) in
+      let y : getD part (high + c) 0 ≡ getD part₀ (high + c) 0 = storing-rest (h .storing) (high + c) (omega arith) in
       let m : high + c ≡ 2 ^ level * width + (j * width + c) = omega (arith, h .high-is, ap (λ (n : ℕ). n * width) (h .rows-is)) in
       rw (x, y, m, e, digits-div j t, h .low-is, h .b-is)
 
-  turn : {a : ℕ} {part′ : List ℕ} → j < rows → a ≡ plus 65537 (Transform.reversed level j) b → part′ ≡ written width high (deriveAt 65537 low high a b part) part
+  turn : {a : ℕ} {part′ : List ℕ} → j < rows → a ≡ plus 65537 (Transform.reversed level j) b → part′ ≡ stored high (deriveAt 65537 low high a b part) width part
       → Inv part₀ level width rows b part′ (low + width) (high + width) (j + 1)
-  unfolding deriveAt
   turn l e p = record {
     turns = omega arith;
     rows-is = h .rows-is;
@@ -66,13 +72,13 @@ module _ {part₀ : List ℕ} {level width rows b : ℕ} {part : List ℕ} {low 
     b-is = h .b-is;
     low-is = omega (arith, row-next j width);
     high-is = omega (arith, row-next j width);
-    writes = rw row-next (writes-row (lit< tt) (h .writes) width _ (h .high-is) p (word l e) (λ c. minus-lt 65537 (lit< tt) _ _));
+    storing = rw row-next (storing-row (h .storing) width _ (row-in width l) (h .high-is) p (word l e));
   }
 
   done : rows ≤ j → part ≡ lifted width (2 ^ suc level) (2 ^ suc level) (derived 65537 level) part₀
   done l =
       let e : j ≡ rows = omega arith in
-      h .writes .now ∙ rw (e, h .rows-is) (derive-rows 65537 level width part₀ (h .long ∙ rw (h .rows-is) (sym (two-halves level width))))
+      h .storing .now ∙ rw (e, h .rows-is) (derive-rows 65537 level width part₀ (h .long ∙ rw (h .rows-is) (sym (two-halves level width))))
 
 abbrev Inv-loop : tie.InvT-loop
 Inv-loop part₀ level width rows b low₀ high₀ j₀ part low high j = Inv part₀ level width rows b part low high j
@@ -105,7 +111,7 @@ mul-high c = omega (arith, long (c .before))
 loop-holds : tie.Need-loop-holds Inv-loop μ-loop
 loop-holds c =
     let s = c .before .before .before in
-    start (s .args .part .now) (s .args .level) (s .args .width) (c .before .two-to .result) (c .mul .result) (c .before .two-to .ensures) (s .pre .1 .0) (c .mul .ensures) (s .pre .1 .1)
+    start (s .args .part .now) (s .args .level) (s .args .width) (c .before .two-to .result) (c .mul .result) (c .before .two-to .ensures) (s .pre .1 .0) (c .mul .ensures)
 
 reversed-requires : tie.Need-reversed-requires Inv-loop μ-loop
 reversed-requires c κs = omega arith
@@ -121,7 +127,7 @@ derive-row-requires c κs =
     let at = c .before .before .before in
     let h = at .before .loop .inv in
     let r = room h (at .loop-test .taken) in
-    ((omega (arith, r, h .high-is), omega (arith, r, h .high-is, h .low-is, h .writes .same, h .long)), ((rw (c .before .add .ensures) (plus-lt 65537 (lit< tt) _ _), factor (at .before .before)), h .writes .words))
+    ((omega (arith, r, h .high-is), omega (arith, r, h .high-is, h .low-is, h .storing .same, h .long)), ((rw (c .before .add .ensures) (plus-lt 65537 (lit< tt) _ _), factor (at .before .before)), words h (at .before .before .before .before .before .pre .1 .1)))
 
 add-low : tie.Need-add-low Inv-loop μ-loop
 add-low c =
@@ -149,7 +155,7 @@ loop-again c =
     turn h (at .loop-test .taken) (add .add .ensures ∙ ap (λ (n : ℕ). plus 65537 n (c .before .before .before .before .before .before .before .before .mul .result)) (add .before .reversed .ensures)) (row .derive-row .ensures)
 
 same-length : tie.Need-same-length Inv-loop μ-loop
-same-length c = c .before .loop .inv .writes .same
+same-length c = c .before .loop .inv .storing .same
 
 returns : tie.Need-returns Inv-loop μ-loop
 returns c = done (c .before .loop .inv) (c .loop-test .left)
