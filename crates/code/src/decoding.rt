@@ -13,6 +13,49 @@ ghost use Rattle.code.specs.RowTrace.{stored, scaledWord};
 ghost use Rattle.code.specs.DecodeTrace.{deriveAt, allTo, sameAt, lowRows};
 ghost use Rattle.code.specs.Promises.{Enough};
 
+// Step 1: multiplies each row by its position's weight, and clears the rows of erased positions.
+fn weigh(part: &mut [u32], marks: &[bool], level: usize, width: usize)
+    requires { ⌜ level ≤ 15 ⌝ }
+    requires { ⌜ 2 ^ suc level ≤ length (now marks) ⌝ }
+    requires { ⌜ length (now part) ≡ 2 ^ suc level * width + 2 ^ suc level ⌝ }
+    requires { ⌜ Words 65537 (now part) ⌝ }
+    ensures { λ _. ⌜ now (part .exit) ≡
+        lifted width (2 ^ suc level) (2 ^ suc level)
+        (Decoder.weighed 65537 level (now (marks .entry)) (drop (2 ^ suc level * width) (now (part .entry))))
+        (take (2 ^ suc level * width) (now (part .entry))) ++
+        drop (2 ^ suc level * width) (now (part .entry)) ⌝ }
+{
+    let rows = crate::number::two_to(level + 1);
+    let base = rows * width;
+    let mut at = 0;
+    for i in 0..rows {
+        let x = base + i;
+        let mut g: u32 = 0;
+        if !marks[i] {
+            g = part[x];
+        }
+        crate::stripe::scale_row(part, at, width, g);
+        at += width;
+    }
+}
+
+// Step 2: the inverse transforms of X and of Y, and Y's turned back. `back` is the inverse of the root.
+fn split(part: &mut [u32], level: usize, k: usize, first: usize, width: usize, back: u32)
+    requires { ⌜ (level ≤ k) × (k ≤ 15) ⌝ }
+    requires { ⌜ first + 2 ^ level ≤ 65536 ⌝ }
+    requires { ⌜ length (now part) ≡ 2 ^ suc level * width ⌝ }
+    requires { ⌜ back < 65537 ⌝ }
+    requires { ⌜ Words 65537 (now part) ⌝ }
+    ensures { λ _. ⌜ now (part .exit) ≡
+        lifted width (2 ^ suc level) (2 ^ suc level) (Decoder.split 65537 back k level first) (now (part .entry)) ⌝ }
+{
+    let rows = crate::number::two_to(level);
+    let half = rows * width;
+    crate::unmixing::unmix_all(&mut part[..half], level, k, width, back);
+    crate::unmixing::unmix_all(&mut part[half..], level, k, width, back);
+    crate::stripe::turn(&mut part[half..], rows, first, k, width, back);
+}
+
 // Whether two rows are equal.
 fn same_row(part: &[u32], low: usize, high: usize, width: usize) -> bool
     requires { ⌜ (low + width ≤ length (now part)) × (high + width ≤ length (now part)) ⌝ }
@@ -81,6 +124,19 @@ fn derive(part: &mut [u32], level: usize, width: usize)
         low += width;
         high += width;
     }
+}
+
+// Step 4: both halves transformed.
+fn evaluate(part: &mut [u32], level: usize, k: usize, width: usize, root: u32)
+    requires { ⌜ (level ≤ k) × (k ≤ 15) ⌝ }
+    requires { ⌜ length (now part) ≡ 2 ^ suc level * width ⌝ }
+    requires { ⌜ root < 65537 ⌝ }
+    requires { ⌜ Words 65537 (now part) ⌝ }
+    ensures { λ _. ⌜ now (part .exit) ≡ lifted width (2 ^ suc level) (2 ^ suc level) (Decoder.evaluated 65537 root k level) (now (part .entry)) ⌝ }
+{
+    let half = crate::number::two_to(level) * width;
+    crate::mixing::mix_all(&mut part[..half], level, k, width, root);
+    crate::mixing::mix_all(&mut part[half..], level, k, width, root);
 }
 
 // g times the row at `from`, in the place of the row at `to`.
