@@ -1,4 +1,5 @@
--- Laws of specs/RowTrace: the length of what is stored, its words, and the words around it. Assumes nothing.
+-- Laws of specs/RowTrace: the length of what is stored, its words, and the words around it, and the loops that store. Rows that are scaled one after the
+-- other; a list in two parts that are lent; two functions done to the same rows. Assumes nothing.
 use mathlib.Core.Path.{_≡_, refl, sym, ap, ap₂, _∙_}
 use mathlib.Core.Logic.{⊎-elim, _≢_}
 use mathlib.Core.Bool.{true, false}
@@ -8,16 +9,16 @@ use native.Mathlib.Nat.{eq-or-lt-of-le, add-zero, add-suc, add-assoc, suc-mul, z
 use native.Mathlib.Numerals.{add-one}
 use native.Mathlib.Decide.{decLt}
 use native.Mathlib.Omega.{arith}
-use lib.ListN.{drop-of-length-le, length, getD, set, take, drop, length-set, length-append, length-drop, List·getD-append}
+use borrow.Rule.Slice.PartMut.{putMid}
+use lib.ListN.{length, getD, set, take, drop, replicate, drop-of-length-le, length-replicate, getD-replicate, length-set, length-append, length-drop, List·getD-append}
 use lib.Seq.{take-all, take-at, drop-at, set-comm, drop-length, getD-set-same, getD-set-other, getD-append-add, getD-take, getD-drop, length-take-le, ext-getD}
 use lib.Arith.{digits-div, digits-lt}
 use lib.Dec.{eqb}
 use Rattle.field.specs.Residue.{minus, times}
 use Rattle.field.specs.Words.{Words, table}
-use Rattle.field.proofs.WordLists.{words-set, length-table, getD-table}
+use Rattle.field.proofs.WordLists.{words-set, length-table, getD-table, is-table}
 use Rattle.code.specs.Rows.{column, lifted}
 use Rattle.code.specs.RowTrace.{stored, scaledWord, scaleRow, weighedBy}
-use borrow.Rule.Slice.PartMut.{putMid}
 use Rattle.code.proofs.Shapes.{times-lt}
 use Rattle.code.proofs.Lifting.{length-column, length-lifted, lifted-at, is-lifted, column-append, lifted-append}
 
@@ -97,6 +98,9 @@ no-rest x l n e = rw (← e, drop-length, append-nil)
 
 pub stored-last : (a : ℕ) (f : ℕ → ℕ) (n : ℕ) (l : List ℕ) → length l ≡ a + n → stored a f n l ≡ take a l ++ table n f
 stored-last a f n l e = stored-is a f n l (omega arith) ∙ no-rest (take a l ++ table n f) l (a + n) e
+
+pub replicate-table : (n x : ℕ) → replicate n x ≡ table n (λ _. x)
+replicate-table n x = is-table (replicate n x) n (λ _. x) (length-replicate n x) (λ k b. getD-replicate n k x 0 b)
 
 -- one stretch after the other
 pub stored-more : (a : ℕ) (f g : ℕ → ℕ) (n m : ℕ) (l : List ℕ) → ((i : ℕ) → i < m → g i ≡ f (n + i)) → stored (a + n) g m (stored a f n l) ≡ stored a f (n + m) l

@@ -1,16 +1,15 @@
 -- `code::stripe::code` meets its contract: the blocks are copied, each half is mixed in its place, the second turned before. Assumes nothing.
-use mathlib.Core.Path.{_≡_, refl, sym, ap, ap₂, _∙_}
+use mathlib.Core.Path.{_≡_, sym, ap, ap₂, _∙_}
 use mathlib.Core.List.{List, _++_}
-use Prim.Native.Nat.{ℕ, suc, _+_, _*_, _-_, _^_, _≤_, _<_}
+use Prim.Native.Nat.{ℕ, suc, _+_, _*_, _-_, _^_, _<_}
 use native.Mathlib.Omega.{arith}
 use borrow.Author.Needs.{needs}
 use borrow.Rule.Slice.PartMut.{putMid}
 use lib.Dec.{lit<}
 use lib.ListN.{length, take, drop}
 use lib.Seq.{length-take-le}
-use Rattle.field.specs.Words.{Words}
 use Rattle.field.proofs.WordLists.{words-take}
-use Rattle.code.specs.Rows.{column, lifted}
+use Rattle.code.specs.Rows.{lifted}
 use Rattle.code.specs.Transform.{transform, turned}
 use Rattle.code.specs.Stripe.{coded, codedRows}
 use Rattle.code.proofs.Shapes.{length-transform, length-turned, words-turned}
@@ -18,12 +17,6 @@ use Rattle.code.proofs.Lifting.{length-lifted, words-lifted, lifted-the
 use Rattle.code.proofs.RowLaws.{Parts, length-parts, lent-front, lent-rest, put-front, put-rest, lifted-both}
 use Rattle.code.proofs.stripe.code.Statement.{statement}
 use Rattle.code.proofs.stripe.code.Tie as tie
-use Rattle.code.proofs.stripe.code.Reads as reads
-use Rattle.code.proofs.stripe.code.Lts as lts
-use Rattle.code.proofs.mixing.mix_all.Reads as mix-all-reads
-use Rattle.code.proofs.number.two_to.Reads as two-to-reads
-use Rattle.code.proofs.stripe.copy_half.Reads as copy-half-reads
-use Rattle.code.proofs.stripe.turn.Reads as turn-reads
 
 -- X and Y of all columns
 coded-rows : (w k l t width : ℕ) (bs x y z : List ℕ) → length bs ≡ 2 ^ l * width → x ≡ lifted width (2 ^ l) (2 ^ l) (transform 65537 w k l) bs
@@ -110,10 +103,13 @@ mix-all-requires : tie.Need-mix-all-requires
 mix-all-requires c κs =
     let at-copy = c .before .before .before in
     let at-two = at-copy .before .before in
-    let pre = at-two .before .before .pre in
-    (pre .0,
-    (ap length (lent-front (copied at-copy)) ∙ length-blocks at-two ∙ half-is at-two,
-    (pre .1 .1 .1 .0, rw (lent-front (copied at-copy)) (words-take 65537 (lit< tt) (half at-two) (pre .1 .1 .1 .1)))))
+    let pre = at-two .before .before .pre in (
+      pre .0,
+      (
+        ap length (lent-front (copied at-copy)) ∙ length-blocks at-two ∙ half-is at-two,
+        (pre .1 .1 .1 .0, rw (lent-front (copied at-copy)) (words-take 65537 (lit< tt) (half at-two) (pre .1 .1 .1 .1))),
+      ),
+    )
 
 mul-turn : tie.Need-mul-turn
 mul-turn c = omega (arith, long (c .before .before .before .before .before .before .before .before))
@@ -131,10 +127,13 @@ turn-requires : tie.Need-turn-requires
 turn-requires c κs =
     let at-mix = c .before .before .before in
     let at-two = at-mix .before .before .before .before .before .before in
-    let pre = at-two .before .before .pre in
-    (ap length (lent-rest (mixed-parts at-mix)) ∙ length-blocks at-two,
-    ((pre .0 .1, omega (arith, at-two .two-to .ensures, pre .1 .0)),
-    (pre .1 .1 .1 .0, rw (lent-rest (mixed-parts at-mix)) (words-take 65537 (lit< tt) (half at-two) (pre .1 .1 .1 .1)))))
+    let pre = at-two .before .before .pre in (
+      ap length (lent-rest (mixed-parts at-mix)) ∙ length-blocks at-two,
+      (
+        (pre .0 .1, omega (arith, at-two .two-to .ensures, pre .1 .0)),
+        (pre .1 .1 .1 .0, rw (lent-rest (mixed-parts at-mix)) (words-take 65537 (lit< tt) (half at-two) (pre .1 .1 .1 .1))),
+      ),
+    )
 
 mul-mix-all : tie.Need-mul-mix-all
 mul-mix-all c = omega (arith, long (c .before .before .before .before .before .before .before .before .before .before .before .before))
