@@ -1,5 +1,6 @@
--- Laws of specs/RowTrace: the length of what is stored, its words, and the words around it. Assumes nothing.
-use mathlib.Core.Path.{_≡_, refl, sym, ap, _∙_}
+-- Laws of specs/RowTrace: the length of what is stored, its words, and the words around it, and the loops that store. Rows that are scaled one after the
+-- other; a list in two parts that are lent; two functions done to the same rows. Assumes nothing.
+use mathlib.Core.Path.{_≡_, refl, sym, ap, ap₂, _∙_}
 use mathlib.Core.Logic.{⊎-elim, _≢_}
 use mathlib.Core.Bool.{true, false}
 use mathlib.Core.List.{List, _++_, append-nil}
@@ -8,15 +9,18 @@ use native.Mathlib.Nat.{eq-or-lt-of-le, add-zero, add-suc, add-assoc, suc-mul, z
 use native.Mathlib.Numerals.{add-one}
 use native.Mathlib.Decide.{decLt}
 use native.Mathlib.Omega.{arith}
-use lib.ListN.{length, getD, set, take, drop, length-set, length-append, length-drop, List·getD-append}
-use lib.Seq.{set-comm, drop-length, getD-set-same, getD-set-other, getD-append-add, getD-take, getD-drop, length-take-le, ext-getD}
+use borrow.Rule.Slice.PartMut.{putMid}
+use lib.ListN.{length, getD, set, take, drop, replicate, drop-of-length-le, length-replicate, getD-replicate, length-set, length-append, length-drop, List·getD-append}
+use lib.Seq.{take-all, take-at, drop-at, set-comm, drop-length, getD-set-same, getD-set-other, getD-append-add, getD-take, getD-drop, length-take-le, ext-getD}
 use lib.Arith.{digits-div, digits-lt}
 use lib.Dec.{eqb}
 use Rattle.field.specs.Residue.{minus, times}
 use Rattle.field.specs.Words.{Words, table}
-use Rattle.field.proofs.WordLists.{words-set, length-table, getD-table}
+use Rattle.field.proofs.WordLists.{words-set, length-table, getD-table, is-table}
+use Rattle.code.specs.Rows.{column, lifted}
 use Rattle.code.specs.RowTrace.{stored, scaledWord, scaleRow, weighedBy}
 use Rattle.code.proofs.Shapes.{times-lt}
+use Rattle.code.proofs.Lifting.{length-column, length-lifted, lifted-at, is-lifted, column-append, lifted-append}
 
 pub length-stored : (a : ℕ) (f : ℕ → ℕ) (n : ℕ) (l : List ℕ) → length (stored a f n l) ≡ length l
 unfolding stored
@@ -94,6 +98,9 @@ no-rest x l n e = rw (← e, drop-length, append-nil)
 
 pub stored-last : (a : ℕ) (f : ℕ → ℕ) (n : ℕ) (l : List ℕ) → length l ≡ a + n → stored a f n l ≡ take a l ++ table n f
 stored-last a f n l e = stored-is a f n l (omega arith) ∙ no-rest (take a l ++ table n f) l (a + n) e
+
+pub replicate-table : (n x : ℕ) → replicate n x ≡ table n (λ _. x)
+replicate-table n x = is-table (replicate n x) n (λ _. x) (length-replicate n x) (λ k b. getD-replicate n k x 0 b)
 
 -- one stretch after the other
 pub stored-more : (a : ℕ) (f g : ℕ → ℕ) (n m : ℕ) (l : List ℕ) → ((i : ℕ) → i < m → g i ≡ f (n + i)) → stored (a + n) g m (stored a f n l) ≡ stored a f (n + m) l
@@ -210,3 +217,43 @@ module _ (p base j : ℕ) (l : List ℕ) (i : ℕ) where
   pub weighedBy-other : eqb j i ≡ false → weighedBy p base j l i ≡ times p (getD l (base + i) 0) (minus p (getD l i 0) (getD l j 0))
   unfolding weighedBy
   weighedBy-other e = rw (e, weighedBy)
+
+-- A LIST IN TWO PARTS, a of n words and b behind it: what is lent as either part, and the list once that comes back
+pub record Parts (n : ℕ) (l a b : List ℕ) : Type 0 where
+  pub is : l ≡ a ++ b
+  pub long : length a ≡ n
+
+module _ {n : ℕ} {l a b : List ℕ} (h : Parts n l a b) where
+  pub length-parts : length l ≡ n + length b
+  length-parts = ap length (h .is) ∙ length-append a b ∙ ap (λ (m : ℕ). m + length b) (h .long)
+
+  rest-is : drop n l ≡ b
+  rest-is = ap (drop n) (h .is) ∙ drop-at a b n (h .long)
+
+  pub lent-front : take n l ≡ a
+  lent-front = ap (take n) (h .is) ∙ take-at a b n (h .long)
+
+  pub lent-rest : take (length l - n) (drop n l) ≡ b
+  lent-rest = ap (take (length l - n)) rest-is ∙ take-all (length l - n) b (omega (arith, length-parts))
+
+  pub put-front : {x : List ℕ} → length x ≡ n → Parts n (x ++ drop n l) x b
+  put-front {x} e = record { is = ap (λ (r : List ℕ). x ++ r) rest-is; long = e }
+
+  pub put-rest : (x : List ℕ) → Parts n (putMid n (length l - n) l x) a x
+  put-rest x = record {
+    is = ap₂ (λ (y z : List ℕ). y ++ (x ++ z)) lent-front (ap (drop (length l - n)) rest-is ∙ drop-of-length-le b {i = length l - n} (omega (arith, length-parts))) ∙ ap (λ (r : List ℕ). a ++ r) (append-nil x);
+    long = h .long;
+  }
+
+-- f and g done to the same rows, what f gives first
+pub lifted-both : (width n m m′ : ℕ) (f g : List ℕ → List ℕ) (l : List ℕ) → length l ≡ n * width → ((c : List ℕ) → length c ≡ n → length (f c) ≡ m)
+    → lifted width n (m + m′) (λ c. f c ++ g c) l ≡ lifted width n m f l ++ lifted width n m′ g l
+lifted-both width n m m′ f g l e keeps =
+    sym (lifted-append width n m n m′ f g l l e keeps
+    ∙ is-lifted width n (m + m′) (λ c. f c ++ g c) l (lifted width (n + n) (m + m′) (λ c. f (take n c) ++ g (drop n c)) (l ++ l)) (length-lifted width (n + n) (m + m′) (λ c. f (take n c) ++ g (drop n c)) (l ++ l))
+    (λ i j h t. lifted-at width (n + n) (m + m′) (λ c. f (take n c) ++ g (drop n c)) (l ++ l) i j h t ∙ at i j t))
+  where
+    at : (i j : ℕ) → j < width → getD (f (take n (column width (n + n) j (l ++ l))) ++ g (drop n (column width (n + n) j (l ++ l)))) i 0 ≡ getD (f (column width n j l) ++ g (column width n j l)) i 0
+    at i j t =
+        let c = column width n j l in
+        rw (column-append width n n j l l t e, take-at c c n (length-column width n j l), drop-at c c n (length-column width n j l))

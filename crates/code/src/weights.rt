@@ -1,7 +1,7 @@
 // The points of a stripe's positions, and the decoder's weights.
 ghost use mathlib.Core.Path.{_≡_};
 ghost use mathlib.Core.List.{_++_};
-ghost use Prim.Native.Nat.{_+_, _*_, _-_, _^_, _≤_, _<_, suc};
+ghost use Prim.Native.Nat.{_+_, _-_, _^_, _≤_, _<_, suc};
 ghost use lib.ListN.{length, take, drop, replicate};
 ghost use Rattle.field.specs.Words.{Words, table};
 ghost use Rattle.code.specs.Decoding.{pointAt};

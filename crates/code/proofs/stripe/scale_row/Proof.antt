@@ -1,18 +1,12 @@
 -- `code::stripe::scale_row` meets its contract. The invariant: the first j words of the row are scaled. Assumes nothing.
-use mathlib.Core.Path.{_≡_, refl, sym, ap, _∙_}
-use mathlib.Core.List.{List}
-use Prim.Native.Nat.{ℕ, _+_, _-_, _≤_, _<_}
+use mathlib.Core.Path.{ap, _∙_}
+use Prim.Native.Nat.{_+_, _-_}
 use native.Mathlib.Omega.{arith}
-use lib.ListN.{length, getD}
 use Rattle.field.specs.Residue.{times}
-use Rattle.field.specs.Words.{Words}
 use Rattle.code.specs.RowTrace.{scaledWord, scaleRow}
 use Rattle.code.proofs.RowLaws.{Storing, storing-start, storing-turn, storing-done, storing-rest}
 use Rattle.code.proofs.stripe.scale_row.Statement.{statement}
 use Rattle.code.proofs.stripe.scale_row.Tie as tie
-use Rattle.code.proofs.stripe.scale_row.Reads as reads
-use Rattle.code.proofs.stripe.scale_row.Lts as lts
-use Rattle.field.proofs.mul.Reads as mul-reads
 
 abbrev Inv-loop : tie.InvT-loop
 Inv-loop part₀ at width g j₀ part j = Storing at (scaledWord 65537 at g part₀) width part₀ part j

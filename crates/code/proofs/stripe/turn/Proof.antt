@@ -1,13 +1,12 @@
 -- `code::stripe::turn` meets its contract. The invariant: the first j rows are turned. Assumes nothing.
 use mathlib.Core.Path.{_≡_, refl, sym, ap, _∙_}
 use mathlib.Core.List.{List}
-use Prim.Native.Nat.{ℕ, suc, _+_, _*_, _-_, _≤_, _<_}
+use Prim.Native.Nat.{ℕ, _+_, _*_, _-_, _≤_, _<_}
 use native.Mathlib.Nat.{zero-add, zero-mul, suc-mul}
 use native.Mathlib.Numerals.{add-one}
 use native.Mathlib.Omega.{arith}
 use lib.Dec.{lit<}
-use lib.ListN.{length, getD}
-use lib.Arith.{digits-lt}
+use lib.ListN.{length}
 use Rattle.field.specs.Residue.{times}
 use Rattle.field.specs.Power.{power}
 use Rattle.field.specs.Words.{Words}
@@ -21,11 +20,6 @@ use Rattle.code.proofs.Crossing.{row-in}
 use Rattle.code.proofs.RowLaws.{length-scaleRow, words-scaleRow, scaleRows, length-scaleRows, scaleRows-none, scaleRows-more, scaleRows-at}
 use Rattle.code.proofs.stripe.turn.Statement.{statement}
 use Rattle.code.proofs.stripe.turn.Tie as tie
-use Rattle.code.proofs.stripe.turn.Reads as reads
-use Rattle.code.proofs.stripe.turn.Lts as lts
-use Rattle.code.proofs.number.reversed.Reads as reversed-reads
-use Rattle.code.proofs.stripe.scale_row.Reads as scale-row-reads
-use Rattle.field.proofs.power.Reads as power-reads
 
 -- the factor of the row of write first + i
 unfoldable factor : (w k first i : ℕ) → ℕ

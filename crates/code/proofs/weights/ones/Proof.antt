@@ -1,12 +1,10 @@
 -- `code::weights::ones` meets its contract. The invariant: the first i words from `base` on are 1. Assumes nothing.
-use mathlib.Core.Path.{_≡_, refl, sym, ap, _∙_}
+use mathlib.Core.Path.{refl, sym, ap, _∙_}
 use mathlib.Core.List.{List, _++_}
 use Prim.Native.Nat.{ℕ, _+_, _-_}
 use native.Mathlib.Omega.{arith}
-use lib.ListN.{length, take, replicate, length-replicate, getD-replicate}
-use Rattle.field.proofs.WordLists.{is-table}
-use Rattle.code.specs.RowTrace.{stored}
-use Rattle.code.proofs.RowLaws.{Storing, storing-start, storing-turn, storing-done, stored-last}
+use lib.ListN.{take}
+use Rattle.code.proofs.RowLaws.{Storing, storing-start, storing-turn, storing-done, stored-last, replicate-table}
 use Rattle.code.proofs.weights.ones.Statement.{statement}
 use Rattle.code.proofs.weights.ones.Tie as tie
 
@@ -40,13 +38,11 @@ loop-again c = storing-turn (c .before .loop .inv) (c .loop-test .taken) refl
 same-length : tie.Need-same-length Inv-loop μ-loop
 same-length c = c .before .loop .inv .same
 
-all-ones : (base count : ℕ) (l : List ℕ) → length l ≡ base + count → stored base (λ _. 1) count l ≡ take base l ++ replicate count 1
-all-ones base count l e =
-    stored-last base (λ _. 1) count l e
-    ∙ ap (λ (r : List ℕ). take base l ++ r) (sym (is-table (replicate count 1) count (λ _. 1) (length-replicate count 1) (λ k b. getD-replicate count k 1 0 b)))
-
 returns : tie.Need-returns Inv-loop μ-loop
-returns c = storing-done (c .before .loop .inv) (c .loop-test .left) ∙ all-ones _ _ _ (c .before .before .pre)
+returns c =
+    let a = c .before .before .args in
+    storing-done (c .before .loop .inv) (c .loop-test .left) ∙ stored-last (a .base) (λ _. 1) (a .count) (a .part .now) (c .before .before .pre)
+    ∙ ap (λ (r : List ℕ). take (a .base) (a .part .now) ++ r) (sym (replicate-table (a .count) 1))
 
 pub ones-spec : {M : Type 1} → statement M
 ones-spec =

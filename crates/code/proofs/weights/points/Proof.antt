@@ -1,31 +1,24 @@
 -- `code::weights::points` meets its contract. The invariant: the first i points of X and of Y are stored, and x is the next of X. Assumes nothing.
-use mathlib.Core.Path.{_≡_, refl, sym, ap, ap₂, _∙_}
-use mathlib.Core.Bool.{Bool, true, false}
+use mathlib.Core.Path.{_≡_, refl, sym, ap, _∙_}
 use mathlib.Core.List.{List, _++_}
-use Prim.Native.Nat.{ℕ, suc, _+_, _*_, _-_, _/_, _%_, _^_, _≤_, _<_}
+use Prim.Native.Nat.{ℕ, suc, _+_, _-_, _/_, _^_, _≤_, _<_}
 use native.Mathlib.Nat.{zero-add}
 use native.Mathlib.Numerals.{add-one}
 use native.Mathlib.Omega.{arith}
-use borrow.Author.Tests.{lt-ltb, le-ltb}
 use lib.Dec.{lit<}
 use lib.Pow.{pow-mono}
 use lib.ListN.{length, set, drop, length-set}
 use Rattle.field.specs.Residue.{times}
 use Rattle.field.specs.Power.{power}
 use Rattle.field.specs.Words.{table}
-use Rattle.field.proofs.Powers.{power-lt, power-zero, power-suc, power-even, power-odd, times-lt}
+use Rattle.field.proofs.Powers.{power-lt, power-zero, power-suc, times-lt}
 use Rattle.field.proofs.Unity.{two-div}
 use Rattle.code.specs.Decoding.{pointAt}
 use Rattle.code.specs.RowTrace.{stored}
 use Rattle.code.proofs.WeightLaws.{point-low, point-high}
-use Rattle.code.proofs.RowLaws.{length-stored, set-stored, stored-more, stored-is}
+use Rattle.code.proofs.RowLaws.{set-stored, stored-more, stored-is}
 use Rattle.code.proofs.weights.points.Statement.{statement}
 use Rattle.code.proofs.weights.points.Tie as tie
-use Rattle.code.proofs.weights.points.Reads as reads
-use Rattle.code.proofs.weights.points.Lts as lts
-use Rattle.code.proofs.number.two_to.Reads as two-to-reads
-use Rattle.field.proofs.mul.Reads as mul-reads
-use Rattle.field.proofs.power.Reads as power-reads
 
 record Inv (part₀ : List ℕ) (level k root half u v : ℕ) (part : List ℕ) (x i : ℕ) : Type 0 where
   turns : i ≤ half

@@ -2,7 +2,7 @@
 use mathlib.Core.Path.{_≡_, refl, sym, ap, ap₂, _∙_}
 use mathlib.Core.Bool.{Bool, true, false}
 use mathlib.Core.List.{List, _++_}
-use Prim.Native.Nat.{ℕ, _+_, _-_, _≤_, _<_}
+use Prim.Native.Nat.{ℕ, _+_, _-_, _<_}
 use native.Mathlib.Omega.{arith}
 use borrow.Author.Tests.{eqb-true, eqb-false}
 use lib.Dec.{eqb, lit<}
@@ -15,10 +15,6 @@ use Rattle.code.proofs.Shapes.{minus-lt}
 use Rattle.code.proofs.RowLaws.{length-stored, stored-at, stored-before, stored-after, is-stored, no-rest, weighedBy-own, weighedBy-other, Storing, storing-start, storing-turn, storing-done, storing-rest, storing-front}
 use Rattle.code.proofs.weights.weigh_by.Statement.{statement}
 use Rattle.code.proofs.weights.weigh_by.Tie as tie
-use Rattle.code.proofs.weights.weigh_by.Reads as reads
-use Rattle.code.proofs.weights.weigh_by.Lts as lts
-use Rattle.field.proofs.mul.Reads as mul-reads
-use Rattle.field.proofs.sub.Reads as sub-reads
 
 -- the word at index base + n times the difference of word n and x
 unfoldable weighed : (base x : ℕ) → List ℕ → (n : ℕ) → ℕ
@@ -64,11 +60,11 @@ slice-read-sub : tie.Need-slice-read-sub Inv-loop μ-loop
 slice-read-sub c = omega arith
 
 -- the points and the weights are words
-point-lt : (count : ℕ) (l : List ℕ) (i : ℕ) → Words 65537 (take count l) → i < count → getD l i 0 < 65537
-point-lt count l i w b = rw getD-take at (w .word i)
+word-front : (count : ℕ) (l : List ℕ) (i : ℕ) → Words 65537 (take count l) → i < count → getD l i 0 < 65537
+word-front count l i w b = rw getD-take at (w .word i)
 
-weight-lt : (base : ℕ) (l : List ℕ) (i : ℕ) → Words 65537 (drop base l) → getD l (base + i) 0 < 65537
-weight-lt base l i w = rw getD-drop at (w .word i)
+word-rest : (base : ℕ) (l : List ℕ) (i : ℕ) → Words 65537 (drop base l) → getD l (base + i) 0 < 65537
+word-rest base l i w = rw getD-drop at (w .word i)
 
 sub-requires : tie.Need-sub-requires Inv-loop μ-loop
 sub-requires c κs =
@@ -76,14 +72,14 @@ sub-requires c κs =
     let at-loop = at-test .before in
     let at-start = at-loop .before .before .before .before in
     let w = at-start .pre .1 .1 .0 in
-    (rw (storing-front (at-loop .loop .inv) (at-loop .loop .i) (omega arith)) (point-lt (at-start .args .count) _ _ w (at-test .loop-test .taken)), point-lt (at-start .args .count) _ _ w (omega arith))
+    (rw (storing-front (at-loop .loop .inv) (at-loop .loop .i) (omega arith)) (word-front (at-start .args .count) _ _ w (at-test .loop-test .taken)), word-front (at-start .args .count) _ _ w (omega arith))
 
 mul-requires : tie.Need-mul-requires Inv-loop μ-loop
 mul-requires c κs =
     let at-loop = c .before .before .before .before in
     let at-start = at-loop .before .before .before .before in
     let base = at-start .args .base in (
-      rw (storing-rest (at-loop .loop .inv) (base + at-loop .loop .i) (omega arith)) (weight-lt base _ (at-loop .loop .i) (at-start .pre .1 .1 .1)),
+      rw (storing-rest (at-loop .loop .inv) (base + at-loop .loop .i) (omega arith)) (word-rest base _ (at-loop .loop .i) (at-start .pre .1 .1 .1)),
       rw (c .sub .ensures) (minus-lt 65537 (lit< tt) _ _),
     )
 

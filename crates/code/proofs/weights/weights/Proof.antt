@@ -3,29 +3,22 @@ use mathlib.Core.Path.{_≡_, refl, sym, ap, ap₂, _∙_}
 use mathlib.Core.Bool.{Bool, true, false, _&&_, not}
 use mathlib.Core.List.{List, _++_}
 use mathlib.Core.Logic.{⊎-elim}
-use Prim.Native.Nat.{ℕ, suc, _+_, _*_, _-_, _^_, _≤_, _<_}
+use Prim.Native.Nat.{ℕ, suc, _+_, _-_, _^_, _≤_, _<_}
 use native.Mathlib.Numerals.{add-one}
 use native.Mathlib.Omega.{arith}
 use lib.Dec.{eqb, lit<}
-use lib.Pow.{pow-mono}
-use lib.ListN.{length, getD, take, drop, replicate, length-append, length-take, length-drop, length-replicate, getD-replicate, List·getD-append}
+use lib.ListN.{length, getD, take, drop, replicate, length-append, length-drop, length-replicate, List·getD-append}
 use lib.Seq.{getD-append-add, getD-take, take-at, drop-at, take-append-add, take-append-le, length-take-le}
 use Rattle.field.specs.Residue.{minus, times}
 use Rattle.field.specs.Words.{Words, table}
-use Rattle.field.proofs.WordLists.{length-table, getD-table, same-table, is-table}
+use Rattle.field.proofs.WordLists.{length-table, getD-table, same-table}
 use Rattle.code.specs.Decoding.{pointAt}
 use Rattle.code.specs.Decoder.{weightTo}
 use Rattle.code.specs.RowTrace.{weighedBy}
-use Rattle.code.proofs.RowLaws.{weighedBy-own, weighedBy-other}
+use Rattle.code.proofs.RowLaws.{replicate-table, weighedBy-own, weighedBy-other}
 use Rattle.code.proofs.WeightLaws.{weight-same, weight-more, words-points, words-weights}
 use Rattle.code.proofs.weights.weights.Statement.{statement}
 use Rattle.code.proofs.weights.weights.Tie as tie
-use Rattle.code.proofs.weights.weights.Reads as reads
-use Rattle.code.proofs.weights.weights.Lts as lts
-use Rattle.code.proofs.number.two_to.Reads as two-to-reads
-use Rattle.code.proofs.weights.ones.Reads as ones-reads
-use Rattle.code.proofs.weights.points.Reads as points-reads
-use Rattle.code.proofs.weights.weigh_by.Reads as weigh-by-reads
 
 -- the weights of n positions over the erased positions below j
 abbrev weightsTo : (root k level : ℕ) → List Bool → (n j : ℕ) → List ℕ
@@ -73,7 +66,7 @@ module _ (root k level : ℕ) (marks : List Bool) (n base : ℕ) (l l₁ l₂ : 
 
   all-ones : replicate n 1 ≡ weightsTo root k level marks n 0
   unfolding weightTo
-  all-ones = is-table (replicate n 1) n (λ i. weightTo 65537 root k level marks i 0) (length-replicate n 1) (λ i t. getD-replicate n i 1 0 t)
+  all-ones = replicate-table n 1
 
   start : Inv (take base l₂) marks level k root n base l₂ 0
   start = record {

@@ -1,0 +1,194 @@
+-- `code::stripe::code` meets its contract: the blocks are copied, each half is mixed in its place, the second turned before. Assumes nothing.
+use mathlib.Core.Path.{_≡_, sym, ap, ap₂, _∙_}
+use mathlib.Core.List.{List, _++_}
+use Prim.Native.Nat.{ℕ, suc, _+_, _*_, _-_, _^_, _<_}
+use native.Mathlib.Omega.{arith}
+use borrow.Author.Needs.{needs}
+use borrow.Rule.Slice.PartMut.{putMid}
+use lib.Dec.{lit<}
+use lib.ListN.{length, take, drop}
+use lib.Seq.{length-take-le}
+use Rattle.field.proofs.WordLists.{words-take}
+use Rattle.code.specs.Rows.{lifted}
+use Rattle.code.specs.Transform.{transform, turned}
+use Rattle.code.specs.Stripe.{coded, codedRows}
+use Rattle.code.proofs.Shapes.{length-transform, length-turned, words-turned}
+use Rattle.code.proofs.Lifting.{length-lifted, words-lifted, lifted-then}
+use Rattle.code.proofs.RowLaws.{Parts, length-parts, lent-front, lent-rest, put-front, put-rest, lifted-both}
+use Rattle.code.proofs.stripe.code.Statement.{statement}
+use Rattle.code.proofs.stripe.code.Tie as tie
+
+-- X and Y of all columns
+coded-rows : (w k l t width : ℕ) (bs x y z : List ℕ) → length bs ≡ 2 ^ l * width → x ≡ lifted width (2 ^ l) (2 ^ l) (transform 65537 w k l) bs
+    → y ≡ lifted width (2 ^ l) (2 ^ l) (turned 65537 w k t) bs → z ≡ lifted width (2 ^ l) (2 ^ l) (transform 65537 w k l) y → x ++ z ≡ codedRows 65537 w k l t width bs
+unfolding codedRows coded
+coded-rows w k l t width bs x y z e ex ey ez =
+    let n = 2 ^ l in
+    let T = transform 65537 w k l in
+    let U = turned 65537 w k t in
+    ap₂ _++_ ex (ez ∙ ap (lifted width n n T) ey ∙ lifted-then width n n n U T bs (λ c h. length-turned 65537 w k t c ∙ h))
+    ∙ sym (lifted-both width n n n T (λ c. T (U c)) bs e (length-transform 65537 w k l)) ∙ ap (λ (m : ℕ). lifted width n m (coded 65537 w k l t) bs) {x = n + n} {y = 2 ^ suc l} (omega arith)
+
+-- the words of a half
+abbrev half : tie.After-two-to → ℕ
+half c = c .two-to .result * c .before .before .args .width
+
+half-is : (c : tie.After-two-to) → half c ≡ 2 ^ c .before .before .args .level * c .before .before .args .width
+half-is c = ap (λ (n : ℕ). n * c .before .before .args .width) (c .two-to .ensures)
+
+long : (c : tie.After-two-to) → length (c .before .before .args .stripe .now) ≡ half c + half c
+long c = c .before .before .pre .1 .1 .0 ∙ sym (ap₂ _+_ (half-is c) (half-is c))
+
+abbrev blocks : tie.After-two-to → List ℕ
+blocks c = take (half c) (c .before .before .args .stripe .now)
+
+length-blocks : (c : tie.After-two-to) → length (blocks c) ≡ half c
+length-blocks c = length-take-le (half c) (c .before .before .args .stripe .now) (omega (arith, long c))
+
+-- the stripe after each call: its first half, and its second
+abbrev after-copy : tie.After-copy-half → List ℕ
+after-copy c = c .copy-half .last .0
+
+copied : (c : tie.After-copy-half) → Parts (half (c .before .before)) (after-copy c) (blocks (c .before .before)) (blocks (c .before .before))
+copied c = record { is = c .copy-half .ensures; long = length-blocks (c .before .before) }
+
+abbrev after-mix : tie.After-mix-all → List ℕ
+after-mix c = c .mix-all .last .0 ++ drop (half (c .before .before .before .before .before .before)) (after-copy (c .before .before .before .before))
+
+-- X stands first
+mixed : (c : tie.After-mix-all) → let at-two = c .before .before .before .before .before .before in
+    let a = at-two .before .before .args in c .mix-all .last .0 ≡ lifted (a .width) (2 ^ a .level) (2 ^ a .level) (transform 65537 (a .root) (a .k) (a .level)) (blocks at-two)
+mixed c = c .mix-all .ensures ∙ ap (lifted _ _ _ _) (lent-front (copied (c .before .before .before .before)))
+
+mixed-parts : (c : tie.After-mix-all) → let at-two = c .before .before .before .before .before .before in Parts (half at-two) (after-mix c) (c .mix-all .last .0) (blocks at-two)
+mixed-parts c = put-front (copied (c .before .before .before .before)) (ap length (mixed c) ∙ length-lifted _ _ _ _ _ ∙ sym (half-is (c .before .before .before .before .before .before)))
+
+abbrev after-turn : tie.After-turn → List ℕ
+after-turn c =
+    let h = half (c .before .before .before .before .before .before .before .before .before .before) in
+    let l = after-mix (c .before .before .before .before) in
+    putMid h (length l - h) l (c .turn .last .0)
+
+turned-half : (c : tie.After-turn) → let at-two = c .before .before .before .before .before .before .before .before .before .before in
+    let a = at-two .before .before .args in
+    c .turn .last .0 ≡ lifted (a .width) (2 ^ a .level) (2 ^ a .level) (turned 65537 (a .root) (a .k) (a .first)) (blocks at-two)
+turned-half c =
+    let at-two = c .before .before .before .before .before .before .before .before .before .before in
+    let a = at-two .before .before .args in
+    c .turn .ensures ∙ ap (lifted _ _ _ _) (lent-rest (mixed-parts (c .before .before .before .before)))
+    ∙ ap (λ (n : ℕ). lifted (a .width) n n (turned 65537 (a .root) (a .k) (a .first)) (blocks at-two)) (at-two .two-to .ensures)
+
+turned-parts : (c : tie.After-turn) → let at-two = c .before .before .before .before .before .before .before .before .before .before in
+    Parts (half at-two) (after-turn c) (c .before .before .before .before .mix-all .last .0) (c .turn .last .0)
+turned-parts c = put-rest (mixed-parts (c .before .before .before .before)) (c .turn .last .0)
+
+two-to-requires : tie.Need-two-to-requires
+two-to-requires c κs = search needs
+
+mul-half : tie.Need-mul-half
+mul-half c = omega (arith, long c)
+
+copy-half-requires : tie.Need-copy-half-requires
+copy-half-requires c κs = long (c .before)
+
+slice-relend-prefix-mix-all : tie.Need-slice-relend-prefix-mix-all
+slice-relend-prefix-mix-all c = omega (arith, length-parts (copied (c .before .before)))
+
+slice-aggregate-mix-all : tie.Need-slice-aggregate-mix-all
+slice-aggregate-mix-all c =
+    let at-copy = c .before .before .before in
+    sym (ap length (lent-front (copied at-copy)) ∙ length-blocks (at-copy .before .before))
+
+mix-all-requires : tie.Need-mix-all-requires
+mix-all-requires c κs =
+    let at-copy = c .before .before .before in
+    let at-two = at-copy .before .before in
+    let pre = at-two .before .before .pre in (
+      pre .0,
+      (
+        ap length (lent-front (copied at-copy)) ∙ length-blocks at-two ∙ half-is at-two,
+        (pre .1 .1 .1 .0, rw (lent-front (copied at-copy)) (words-take 65537 (lit< tt) (half at-two) (pre .1 .1 .1 .1))),
+      ),
+    )
+
+mul-turn : tie.Need-mul-turn
+mul-turn c = omega (arith, long (c .before .before .before .before .before .before .before .before))
+
+sub-turn : tie.Need-sub-turn
+sub-turn c = omega (arith, length-parts (mixed-parts (c .before .before)))
+
+part-turn-start : tie.Need-part-turn-start
+part-turn-start c = sub-turn c
+
+part-turn-end : tie.Need-part-turn-end
+part-turn-end c = search needs
+
+turn-requires : tie.Need-turn-requires
+turn-requires c κs =
+    let at-mix = c .before .before .before in
+    let at-two = at-mix .before .before .before .before .before .before in
+    let pre = at-two .before .before .pre in (
+      ap length (lent-rest (mixed-parts at-mix)) ∙ length-blocks at-two,
+      (
+        (pre .0 .1, omega (arith, at-two .two-to .ensures, pre .1 .0)),
+        (pre .1 .1 .1 .0, rw (lent-rest (mixed-parts at-mix)) (words-take 65537 (lit< tt) (half at-two) (pre .1 .1 .1 .1))),
+      ),
+    )
+
+mul-mix-all : tie.Need-mul-mix-all
+mul-mix-all c = omega (arith, long (c .before .before .before .before .before .before .before .before .before .before .before .before))
+
+sub-mix-all : tie.Need-sub-mix-all
+sub-mix-all c = omega (arith, length-parts (turned-parts (c .before .before)))
+
+part-mix-all-start : tie.Need-part-mix-all-start
+part-mix-all-start c = sub-mix-all c
+
+part-mix-all-end : tie.Need-part-mix-all-end
+part-mix-all-end c = search needs
+
+mix-all-requires-2 : tie.Need-mix-all-requires-2
+mix-all-requires-2 c κs =
+    let at-turn = c .before .before .before in
+    let at-two = at-turn .before .before .before .before .before .before .before .before .before .before in
+    let pre = at-two .before .before .pre in
+    let e = lent-rest (turned-parts at-turn) ∙ turned-half at-turn in
+    (pre .0, (ap length e ∙ length-lifted _ _ _ _ _, (pre .1 .1 .1 .0, rw e (words-lifted 65537 _ _ _ _ _ (lit< tt) (λ j b. words-turned 65537 (lit< tt) _ _ _ _)))))
+
+same-length : tie.Need-same-length
+same-length c = search needs
+
+returns : tie.Need-returns
+returns c =
+    let at-last = c .before .before in
+    let at-turn = at-last .before .before .before .before in
+    let at-mix = at-turn .before .before .before .before in
+    let at-two = at-mix .before .before .before .before .before .before in
+    let a = at-two .before .before .args in
+    put-rest (turned-parts at-turn) (at-last .mix-all2 .last .0) .is
+    ∙ coded-rows (a .root) (a .k) (a .level) (a .first) (a .width) (blocks at-two) _ _ _ (length-blocks at-two ∙ half-is at-two) (mixed at-mix) (turned-half at-turn)
+    (at-last .mix-all2 .ensures ∙ ap (lifted _ _ _ _) (lent-rest (turned-parts at-turn)))
+    ∙ ap (λ (n : ℕ). codedRows 65537 (a .root) (a .k) (a .level) (a .first) (a .width) (take n (a .stripe .now))) (half-is at-two)
+
+pub code-spec : {M : Type 1} → statement M
+code-spec =
+    tie.close
+    (tie.spec
+    two-to-requires
+    mul-half
+    copy-half-requires
+    slice-relend-prefix-mix-all
+    slice-aggregate-mix-all
+    mix-all-requires
+    mul-turn
+    sub-turn
+    part-turn-start
+    part-turn-end
+    turn-requires
+    mul-mix-all
+    sub-mix-all
+    part-mix-all-start
+    part-mix-all-end
+    mix-all-requires-2
+    same-length
+    returns)
