@@ -7,8 +7,8 @@ use native.Mathlib.Nat.{zero-add}
 use native.Mathlib.Decide.{decLt}
 use native.Mathlib.Omega.{arith}
 use lib.Arith.{digits-lt, digits-div}
-use lib.ListN.{length, getD, take, drop}
-use lib.Seq.{getD-take}
+use lib.ListN.{length, getD, take, drop, take-append-drop}
+use lib.Seq.{getD-take, length-take-le}
 use Rattle.field.specs.Residue.{plus, minus, times}
 use Rattle.code.specs.Transform.{reversed}
 use Rattle.code.specs.Rows.{column, lifted}
@@ -17,7 +17,7 @@ use Rattle.field.specs.Words.{Words}
 use Rattle.field.proofs.Laws.{times-comm, times-zero}
 use Rattle.code.specs.Decoder.{halfOf, derivedAt, derived, divisorAt, chosenAt, chosen, weighedAt, weighed}
 use Rattle.code.specs.RowTrace.{stored}
-use Rattle.code.proofs.Lifting.{length-column, column-at, is-lifted}
+use Rattle.code.proofs.Lifting.{length-column, column-at, is-lifted, lifted-append}
 use Rattle.code.proofs.DecoderShapes.{derived-low, derived-high, chosen-at, weighed-at}
 use Rattle.code.proofs.RowLaws.{length-stored, stored-before, stored-at, stored-is, scaledRowsWord, scaleRows}
 use Rattle.code.proofs.DecodeTraces.{table-lifted, two-halves}
@@ -122,3 +122,13 @@ module _ (p : ℕ) (z : 0 < p) (l width : ℕ) (ms : List Bool) (part : List ℕ
       let f = scaledRowsWord p width 0 (weightOr ms ws) part in
       stored-is 0 f (2 ^ suc l * width) part (omega arith)
       ∙ rw (zero-add, table-lifted width (2 ^ suc l) (2 ^ suc l) (weighed p l ms ws) f (take (2 ^ suc l * width) part) weigh-word)
+
+-- STEPS 2 AND 4: what is done to each half of the rows
+pub lifted-halves : (width l : ℕ) (f g : List ℕ → List ℕ) (r : List ℕ) → length r ≡ 2 ^ suc l * width → ((c : List ℕ) → length c ≡ 2 ^ l → length (f c) ≡ 2 ^ l)
+    → lifted width (2 ^ l) (2 ^ l) f (take (2 ^ l * width) r) ++ lifted width (2 ^ l) (2 ^ l) g (drop (2 ^ l * width) r)
+    ≡ lifted width (2 ^ suc l) (2 ^ suc l) (λ c. f (take (2 ^ l) c) ++ g (drop (2 ^ l) c)) r
+lifted-halves width l f g r e keeps =
+    let n = 2 ^ l in
+    let d : n + n ≡ 2 ^ suc l = omega arith in
+    lifted-append width n n n n f g (take (n * width) r) (drop (n * width) r) (length-take-le (n * width) r (omega (arith, two-halves l width))) keeps
+    ∙ rw (take-append-drop, d)

@@ -8,16 +8,16 @@ use native.Mathlib.Numerals.{add-one}
 use native.Mathlib.Omega.{arith}
 use mathlib.Core.Logic.{⊎-elim}
 use native.Mathlib.Decide.{decLt}
-use lib.ListN.{length, getD, take, drop, set, length-append, length-set, length-drop, List·getD-append}
+use lib.ListN.{length, getD, take, drop, take-append-drop}
 use lib.Arith.{digits-lt}
-use lib.Seq.{getD-set-same, getD-set-other, getD-append-add, getD-drop, getD-take, ext-getD, length-take-le}
+use lib.Seq.{length-take-le}
 use Rattle.field.specs.Words.{Words, table}
 use Rattle.field.proofs.WordLists.{words-set, length-table, getD-table}
 use Rattle.code.specs.Rows.{column, lifted}
 use Rattle.code.specs.RowTrace.{stored}
 use Rattle.code.specs.DecodeTrace.{allTo}
 use Rattle.code.proofs.Lifting.{is-lifted}
-use Rattle.code.proofs.RowLaws.{Storing, length-stored, words-stored, stored-more}
+use Rattle.code.proofs.RowLaws.{Parts, Storing, length-stored, words-stored, stored-more}
 
 -- A LOOP THAT STORES A ROW A TURN: the words stored so far are of the field, and a row more
 module _ {a : ℕ} {f : ℕ → ℕ} {n : ℕ} {l₀ l : List ℕ} {i : ℕ} (h : Storing a f n l₀ l i) where
@@ -30,6 +30,10 @@ module _ {a : ℕ} {f : ℕ → ℕ} {n : ℕ} {l₀ l : List ℕ} {i : ℕ} (h 
     same = ap length e ∙ length-stored to g m l ∙ h .same;
     now = e ∙ rw (d, h .now) (stored-more a f g i m l₀ s);
   }
+
+-- a list cut in two
+pub cut : (n : ℕ) (l : List ℕ) → n ≤ length l → Parts n l (take n l) (drop n l)
+cut n l h = record { is = sym (take-append-drop n l); long = length-take-le n l h }
 
 -- places of rows: both halves of 2 ^ suc l rows, and the row after one
 pub two-halves : (l width : ℕ) → 2 ^ suc l * width ≡ 2 ^ l * width + 2 ^ l * width
