@@ -4,6 +4,7 @@ pub mod Blocks
 pub mod Coefficients
 pub mod Columns
 pub mod Crossing
+pub mod DecodeRows
 pub mod DecodeSteps
 pub mod DecodeTraces
 pub mod Decoder
