@@ -1,16 +1,16 @@
 -- The decoder's steps on rows: the check is `consistent`, and where it holds what the steps give is `decodedRows`. Assumes nothing.
 use mathlib.Core.Path.{_≡_, refl, sym, ap, ap₂, _∙_}
 use mathlib.Core.Bool.{Bool, true, false, _&&_, _||_}
-use mathlib.Core.List.{List}
+use mathlib.Core.List.{List, _++_}
 use Prim.Native.Nat.{ℕ, zero, suc, _+_, _*_, _^_, _<_}
 use native.Mathlib.Omega.{arith}
 use lib.Dec.{ltb, eqb}
-use lib.ListN.{length, getD}
+use lib.ListN.{length, getD, replicate}
 use Rattle.field.specs.Power.{inverse}
 use Rattle.field.specs.Words.{Words}
 use Rattle.code.specs.Transform.{reversed, untransform}
 use Rattle.code.specs.Rows.{column, lifted}
-use Rattle.code.specs.Decoding.{decodedColumn, consistentColumn, consistentTo, consistent, decodedRows}
+use Rattle.code.specs.Decoding.{decodedColumn, consistentColumn, consistentTo, consistent, decodedRows, decodeLeaves}
 use Rattle.code.specs.Decoder.{erasedCount, weights, weighed, split, derived, evaluated, chosen, lowTo, isLow, splitColumn, solvedColumn, isLowColumn}
 use Rattle.code.specs.DecodeTrace.{allTo, sameAt, lowRowAt, lowRows}
 use Rattle.code.specs.Promises.{Stripe, Column, Enough}
@@ -163,3 +163,13 @@ module _ (p w k l t : ℕ) (ms : List Bool) where
     solved-is e h =
         e ∙ lifted-same width (2 ^ suc l) (2 ^ l) (solvedColumn p w k l t ms) (decodedColumn p w k l t ms) r
         (λ j b. found-solves p w k l t ms stripe enough (column width (2 ^ suc l) j r) (column-of j) (each-consistent p w k l t width ms r width j b h) .1)
+
+-- what decoding leaves, by the check
+module _ (p w k l t width : ℕ) (ms : List Bool) (r : List ℕ) where
+  pub leaves-blocks : consistent p w k l t width ms r ≡ true → decodeLeaves p w k l t width ms r ≡ decodedRows p w k l t width ms r ++ replicate (2 ^ l * width) 0
+  unfolding decodeLeaves
+  leaves-blocks e = rw (e, decodeLeaves)
+
+  pub leaves-zeros : consistent p w k l t width ms r ≡ false → decodeLeaves p w k l t width ms r ≡ replicate (2 ^ suc l * width) 0
+  unfolding decodeLeaves
+  leaves-zeros e = rw (e, decodeLeaves)

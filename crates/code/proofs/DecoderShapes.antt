@@ -2,11 +2,13 @@
 use mathlib.Core.Path.{_≡_, refl, sym, ap, _∙_}
 use mathlib.Core.Bool.{Bool, true, false}
 use mathlib.Core.List.{List, _++_}
-use Prim.Native.Nat.{ℕ, suc, _+_, _^_, _<_}
+use Prim.Native.Nat.{ℕ, suc, _+_, _-_, _^_, _<_}
 use lib.ListN.{length, getD, take, drop, List·getD-append}
 use lib.Seq.{getD-append-add, getD-take}
 use Rattle.field.specs.Residue.{times}
+use Rattle.field.specs.Power.{inverse}
 use Rattle.field.specs.Words.{Words, table}
+use Rattle.field.proofs.Powers.{power-lt}
 use Rattle.field.proofs.WordLists.{words-take, words-drop, words-append, words-table, length-table, getD-table}
 use Rattle.code.specs.Transform.{transform, untransform, turned}
 use Rattle.code.specs.Decoder.{weighedAt, weighed, split, derivedAt, derived, evaluated, chosenAt, chosen}
@@ -61,6 +63,10 @@ module _ (p l : ℕ) where
   chosen-at w k ms ws c i b = getD-table (2 ^ l) i (chosenAt p w k l ms ws c) b
 
 -- words of the field
+pub inverse-lt : (p : ℕ) → 1 < p → (x : ℕ) → inverse p x < p
+unfolding inverse
+inverse-lt p h x = power-lt p h x (p - 2)
+
 module _ (p : ℕ) (h : 0 < p) (l : ℕ) where
   pub words-weighed : (ms : List Bool) (ws c : List ℕ) → Words p (weighed p l ms ws c)
   unfolding weighed weighedAt

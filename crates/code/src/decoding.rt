@@ -210,3 +210,45 @@ fn count_erased(marks: &[bool], level: usize) -> usize
     }
     n
 }
+
+// Decodes the rows of a stripe, of which at least half survive, in place: whether some blocks code to all surviving words, and then the blocks in
+// order of time in the first half, zeros behind them; zeros alone where there are none. What stands at erased positions does not matter. The weights stay.
+pub fn decode(
+    part: &mut [u32],
+    marks: &[bool],
+    level: usize,
+    k: usize,
+    first: usize,
+    width: usize,
+    root: u32,
+) -> bool
+    requires { ⌜ (level ≤ k) × (k ≤ 15) ⌝ }
+    requires { ⌜ (first % 2 ^ level ≡ 0) × (first + 2 ^ level ≤ 65536) ⌝ }
+    requires { ⌜ Root 65537 k root ⌝ }
+    requires { ⌜ (2 ^ suc level ≤ length (now marks)) × Enough level (now marks) ⌝ }
+    requires { ⌜ length (now part) ≡ 2 ^ suc level * width + 2 ^ suc level ⌝ }
+    requires { ⌜ Words 65537 (now part) ⌝ }
+    requires { ⌜ drop (2 ^ suc level * width) (now part) ≡ Decoder.weights 65537 root k level (now marks) ⌝ }
+    ensures { λ r. ⌜ r ≡ consistent 65537 root k level first width (now (marks .entry)) (take (2 ^ suc level * width) (now (part .entry))) ⌝ }
+    ensures { λ _. ⌜ now (part .exit) ≡
+        decodeLeaves 65537 root k level first width (now (marks .entry)) (take (2 ^ suc level * width) (now (part .entry))) ++
+        Decoder.weights 65537 root k level (now (marks .entry)) ⌝ }
+{
+    let rows = crate::number::two_to(level);
+    let half = rows * width;
+    let all = half + half;
+    let back = field::inverse(root);
+    weigh(part, marks, level, width);
+    split(&mut part[..all], level, k, first, width, back);
+    let erased = count_erased(marks, level);
+    if !is_low(&part[..all], level, width, erased) {
+        clear(part, 0, all);
+        return false;
+    }
+    derive(&mut part[..all], level, width);
+    evaluate(&mut part[..all], level, k, width, root);
+    choose(part, marks, level, k, width, root);
+    crate::unmixing::unmix_all(&mut part[..half], level, k, width, back);
+    clear(part, half, all);
+    true
+}

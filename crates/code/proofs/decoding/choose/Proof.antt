@@ -22,6 +22,7 @@ use Rattle.code.specs.Decoding.{pointAt}
 use Rattle.code.specs.Decoder.{divisorAt, chosen}
 use Rattle.code.specs.RowTrace.{stored, scaledWord}
 use Rattle.code.proofs.Shapes.{times-lt}
+use Rattle.code.proofs.DecoderShapes.{inverse-lt}
 use Rattle.code.proofs.Crossing.{row-in}
 use Rattle.code.proofs.RowLaws.{Storing, storing-start, storing-rest}
 use Rattle.code.proofs.DecodeTraces.{storing-words, storing-row, two-halves, row-next}
@@ -51,10 +52,6 @@ start part marks level k width root rows square u e le er l es ee eu w = record 
   words₀ = w;
   storing = rw (zero-mul width) (storing-start 0 (chooseWord 65537 root k level width marks part) (rows * width) part);
 }
-
-inverse-lt : (x : ℕ) → inverse 65537 x < 65537
-unfolding inverse
-inverse-lt x = power-lt 65537 (lit< tt) x 65535
 
 -- what the marks choose: the word to divide by, and the row to take
 record Picked (part₀ : List ℕ) (marks : List Bool) (level k width root rows square : ℕ) (part : List ℕ) (at i d from : ℕ) : Type 0 where
@@ -238,7 +235,7 @@ choose-row-requires c κs =
     let join = c .before .before .before in
     let h = join .before .before .before .before .loop .inv in
     let p = picked join in
-    ((p .low, omega (arith, p .within, h .long, h .storing .same)), (rw (c .inverse .ensures) (inverse-lt _), words h (join .before .before .before .loop-test .taken)))
+    ((p .low, omega (arith, p .within, h .long, h .storing .same)), (rw (c .inverse .ensures) (inverse-lt 65537 (lit< tt) _), words h (join .before .before .before .loop-test .taken)))
 
 add-at : tie.Need-add-at Inv-loop μ-loop
 add-at c =
