@@ -1,18 +1,17 @@
 -- Laws of loops that store a row a turn, and of tests of rows (`allTo` of specs/DecodeTrace). Assumes nothing.
 use mathlib.Core.Path.{_≡_, refl, sym, ap, ap₂, _∙_}
 use mathlib.Core.Bool.{Bool, true, false, _&&_, _||_}
-use mathlib.Core.List.{List, [], _∷_, _++_}
-use Prim.Native.Nat.{ℕ, zero, suc, _+_, _*_, _-_, _^_, _≤_, _<_}
-use native.Mathlib.Nat.{add-zero, add-suc, add-assoc, eq-or-lt-of-le, suc-mul, pow-succ', mul-le-mul-right}
+use mathlib.Core.List.{List}
+use Prim.Native.Nat.{ℕ, zero, suc, _+_, _*_, _^_, _≤_, _<_}
+use native.Mathlib.Nat.{eq-or-lt-of-le, suc-mul, pow-succ'}
 use native.Mathlib.Numerals.{add-one}
 use native.Mathlib.Omega.{arith}
 use mathlib.Core.Logic.{⊎-elim}
-use native.Mathlib.Decide.{decLt}
 use lib.ListN.{length, getD, take, drop, take-append-drop}
 use lib.Arith.{digits-lt}
 use lib.Seq.{length-take-le}
 use Rattle.field.specs.Words.{Words, table}
-use Rattle.field.proofs.WordLists.{words-set, length-table, getD-table}
+use Rattle.field.proofs.WordLists.{length-table, getD-table}
 use Rattle.code.specs.Rows.{column, lifted}
 use Rattle.code.specs.RowTrace.{stored}
 use Rattle.code.specs.DecodeTrace.{allTo}

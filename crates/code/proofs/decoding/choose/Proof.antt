@@ -1,5 +1,5 @@
 -- `code::decoding::choose` meets its contract. The invariant: the first i rows are written. Assumes nothing.
-use mathlib.Core.Path.{_≡_, refl, sym, ap, _∙_}
+use mathlib.Core.Path.{_≡_, sym, ap, _∙_}
 use mathlib.Core.Bool.{Bool, true, false}
 use mathlib.Core.List.{List, _++_}
 use mathlib.Core.Logic.{⊎-elim}
@@ -10,7 +10,7 @@ use borrow.Author.Tests.{lt-ltb}
 use lib.Arith.{digits-div}
 use lib.Dec.{lit<}
 use lib.ListN.{length, getD, take, drop}
-use lib.Pow.{pow-mono, pow-add, shl-shr}
+use lib.Pow.{pow-mono}
 use lib.Seq.{getD-drop}
 use Rattle.field.specs.Residue.{times}
 use Rattle.field.specs.Power.{power, inverse}

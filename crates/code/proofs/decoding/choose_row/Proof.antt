@@ -1,9 +1,7 @@
 -- `code::decoding::choose_row` meets its contract. The invariant: the first j words of the row at `to` are written. Assumes nothing.
-use mathlib.Core.Path.{_≡_, ap, _∙_}
-use mathlib.Core.List.{List}
-use Prim.Native.Nat.{ℕ, _+_, _-_, _≤_, _<_}
+use mathlib.Core.Path.{ap, _∙_}
+use Prim.Native.Nat.{_+_, _-_}
 use native.Mathlib.Omega.{arith}
-use lib.ListN.{getD}
 use Rattle.field.specs.Residue.{times}
 use Rattle.code.specs.RowTrace.{scaledWord}
 use Rattle.code.proofs.RowLaws.{Storing, storing-start, storing-turn, storing-done, storing-rest}

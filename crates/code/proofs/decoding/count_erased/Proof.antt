@@ -1,13 +1,13 @@
 -- `code::decoding::count_erased` meets its contract. The invariant: the positions passed are those counted and the survivors among them. Assumes nothing.
-use mathlib.Core.Path.{_≡_, refl, sym, ap, _∙_}
+use mathlib.Core.Path.{_≡_, ap, _∙_}
 use mathlib.Core.Bool.{Bool, true, false}
 use mathlib.Core.List.{List}
 use mathlib.Core.Logic.{⊎-elim}
-use Prim.Native.Nat.{ℕ, zero, suc, _+_, _*_, _-_, _^_, _≤_, _<_}
+use Prim.Native.Nat.{ℕ, suc, _+_, _-_, _^_, _≤_, _<_}
 use native.Mathlib.Numerals.{add-one}
 use native.Mathlib.Omega.{arith}
 use lib.ListN.{length, getD}
-use Rattle.code.specs.Decoding.{survivors, survivorsFrom}
+use Rattle.code.specs.Decoding.{survivorsFrom}
 use Rattle.code.proofs.decoding.count_erased.Statement.{statement}
 use Rattle.code.proofs.decoding.count_erased.Tie as tie
 

@@ -1,8 +1,8 @@
 -- `code::decoding::decode` meets its contract: each step leaves its map on the columns in the rows' place, and the weights behind them. Assumes nothing.
 use mathlib.Core.Path.{_≡_, refl, sym, ap, ap₂, _∙_}
-use mathlib.Core.Bool.{Bool, true, false}
+use mathlib.Core.Bool.{Bool}
 use mathlib.Core.List.{List, _++_}
-use Prim.Native.Nat.{ℕ, suc, _+_, _*_, _-_, _^_, _≤_, _<_}
+use Prim.Native.Nat.{ℕ, suc, _+_, _*_, _-_, _^_, _≤_}
 use native.Mathlib.Omega.{arith}
 use borrow.Author.Needs.{needs}
 use borrow.Author.Tests.{not-true, not-false}
@@ -14,7 +14,7 @@ use Rattle.field.proofs.Primes.{fermat-prime}
 use Rattle.field.proofs.WordLists.{words-take, words-drop, words-append, length-table}
 use Rattle.code.specs.Rows.{lifted}
 use Rattle.code.specs.Transform.{untransform}
-use Rattle.code.specs.Decoding.{consistent, decodedRows, decodeLeaves}
+use Rattle.code.specs.Decoding.{consistent}
 use Rattle.code.specs.Decoder as Decoder
 use Rattle.code.specs.DecodeTrace.{lowRows}
 use Rattle.code.specs.Promises.{Stripe}

@@ -1,8 +1,8 @@
 -- `code::decoding::derive` meets its contract. The invariant: the first j rows of the second half are written. Assumes nothing.
-use mathlib.Core.Path.{_≡_, refl, sym, ap, _∙_}
+use mathlib.Core.Path.{_≡_, sym, ap, _∙_}
 use mathlib.Core.List.{List}
 use Prim.Native.Nat.{ℕ, suc, _+_, _*_, _-_, _^_, _≤_, _<_}
-use native.Mathlib.Nat.{zero-mul, add-assoc}
+use native.Mathlib.Nat.{zero-mul}
 use native.Mathlib.Omega.{arith}
 use lib.Arith.{digits-div}
 use lib.Dec.{lit<}
@@ -17,7 +17,7 @@ use Rattle.code.specs.RowTrace.{stored}
 use Rattle.code.specs.DecodeTrace.{deriveAt}
 use Rattle.code.proofs.Shapes.{plus-lt, minus-lt, times-lt, reversed-lt}
 use Rattle.code.proofs.Crossing.{row-in}
-use Rattle.code.proofs.RowLaws.{Storing, storing-start, storing-front, storing-rest, storing-done}
+use Rattle.code.proofs.RowLaws.{Storing, storing-start, storing-front, storing-rest}
 use Rattle.code.proofs.DecodeTraces.{storing-words, storing-row, two-halves, row-next}
 use Rattle.code.proofs.DecodeSteps.{deriveWord, derive-rows}
 use Rattle.code.proofs.decoding.derive.Statement.{statement}

@@ -1,7 +1,7 @@
 -- `code::decoding::evaluate` meets its contract: each half is mixed in its place. Assumes nothing.
 use mathlib.Core.Path.{_≡_, sym, ap, ap₂, _∙_}
 use mathlib.Core.List.{List, _++_}
-use Prim.Native.Nat.{ℕ, suc, _+_, _*_, _-_, _^_, _<_}
+use Prim.Native.Nat.{ℕ, suc, _+_, _*_, _^_}
 use native.Mathlib.Omega.{arith}
 use borrow.Author.Needs.{needs}
 use lib.Dec.{lit<}
@@ -12,7 +12,7 @@ use Rattle.code.specs.Transform.{transform}
 use Rattle.code.specs.Decoder.{evaluated}
 use Rattle.code.proofs.Shapes.{length-transform}
 use Rattle.code.proofs.Lifting.{length-lifted}
-use Rattle.code.proofs.RowLaws.{Parts, length-parts, lent-front, lent-rest, put-front, put-rest}
+use Rattle.code.proofs.RowLaws.{Parts, length-parts, lent-rest, put-front, put-rest}
 use Rattle.code.proofs.DecodeTraces.{cut, two-halves}
 use Rattle.code.proofs.DecodeSteps.{lifted-halves}
 use Rattle.code.proofs.decoding.evaluate.Statement.{statement}

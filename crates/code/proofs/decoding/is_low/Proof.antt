@@ -8,7 +8,6 @@ use native.Mathlib.Nat.{zero-mul}
 use native.Mathlib.Numerals.{add-one}
 use native.Mathlib.Omega.{arith}
 use borrow.Author.Tests.{lt-ltb, le-ltb, not-true, not-false}
-use lib.Dec.{ltb}
 use lib.ListN.{length}
 use lib.Pow.{pow-mono}
 use Rattle.code.specs.Transform.{reversed}
