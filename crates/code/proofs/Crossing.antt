@@ -58,12 +58,12 @@ module _ {p : ℕ} (h : 0 < p) {c : Crossing} (s : Stores p c) where
   unfolding crossed
   words-crossed g x y w = words-set p h y (words-set p h x w (s .low-lt g _ _)) (s .high-lt g _ _)
 
-  pub words-row : (g n low high : ℕ) {l : List ℕ} → Words p l → Words p (crossedRow c g n low high l)
+  words-row : (g n low high : ℕ) {l : List ℕ} → Words p l → Words p (crossedRow c g n low high l)
   unfolding crossedRow
   words-row g zero low high w = w
   words-row g (suc n) low high w = words-crossed g (low + n) (high + n) (words-row g n low high w)
 
-pub length-row : (c : Crossing) (g n low high : ℕ) (l : List ℕ) → length (crossedRow c g n low high l) ≡ length l
+length-row : (c : Crossing) (g n low high : ℕ) (l : List ℕ) → length (crossedRow c g n low high l) ≡ length l
 unfolding crossedRow
 length-row c g zero low high l = refl
 length-row c g (suc n) low high l = length-crossed c g (low + n) (high + n) _ ∙ length-row c g n low high l
@@ -202,7 +202,7 @@ module _ (c : Crossing) (v m width : ℕ) (d : List ℕ → List ℕ) (t : Cross
       let n : length a ≡ m + m = length-column width (m + m) j l in
       (cc (r .fst, q, f, x, y, t .low-at a i n h), cc (r .snd, q, f, x, y, t .high-at a i n h))
 
-  pub all-pairs : whole ≡ lifted width (m + m) (m + m) d l
+  all-pairs : whole ≡ lifted width (m + m) (m + m) d l
   all-pairs =
       is-lifted width (m + m) (m + m) d l whole (length-pairs c (factor v width) (m * width) l (m * width) ∙ e ∙ sym (add-mul m m width)) (λ i j h b. at i j h b (decLt i m))
     where

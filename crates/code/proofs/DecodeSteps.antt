@@ -10,11 +10,11 @@ use lib.Arith.{digits-lt, digits-div}
 use lib.ListN.{length, getD, take, drop, take-append-drop}
 use lib.Seq.{getD-take, length-take-le}
 use Rattle.field.specs.Residue.{plus, minus, times}
-use Rattle.code.specs.Transform.{reversed}
-use Rattle.code.specs.Rows.{column, lifted}
 use Rattle.field.specs.Power.{inverse}
 use Rattle.field.specs.Words.{Words}
 use Rattle.field.proofs.Laws.{times-comm, times-zero}
+use Rattle.code.specs.Transform.{reversed}
+use Rattle.code.specs.Rows.{column, lifted}
 use Rattle.code.specs.Decoder.{halfOf, derivedAt, derived, divisorAt, chosenAt, chosen, weighedAt, weighed}
 use Rattle.code.specs.RowTrace.{stored}
 use Rattle.code.proofs.Lifting.{length-column, column-at, is-lifted, lifted-append}

@@ -49,13 +49,14 @@ fn copy_half(part: &mut [u32], half: usize)
     }
 }
 
-// Codes the 2^level blocks in the first half of the rows: X where they stand, and Y behind it. `first` is t0.
+// Codes the 2^level blocks in the first half of the rows: X where they stand, and Y behind it. `first` is t0; what stands in the second half does
+// not matter.
 pub fn code(stripe: &mut [u32], level: usize, k: usize, first: usize, width: usize, root: u32)
     requires { ⌜ (level ≤ k) × (k ≤ 15) ⌝ }
     requires { ⌜ first + 2 ^ level ≤ 65536 ⌝ }
     requires { ⌜ length (now stripe) ≡ 2 ^ level * width + 2 ^ level * width ⌝ }
     requires { ⌜ root < 65537 ⌝ }
-    requires { ⌜ Words 65537 (now stripe) ⌝ }
+    requires { ⌜ Words 65537 (take (2 ^ level * width) (now stripe)) ⌝ }
     ensures { λ _. ⌜ now (stripe .exit) ≡ codedRows 65537 root k level first width (take (2 ^ level * width) (now (stripe .entry))) ⌝ }
 {
     let rows = crate::number::two_to(level);

@@ -1,5 +1,5 @@
 -- `code::mixing::mix` meets its contract, by the loop over rows of proofs/Crossing. Assumes nothing.
-use Prim.Native.Nat.{ℕ, _+_, _-_, _*_, _≤_}
+use Prim.Native.Nat.{_+_, _-_, _≤_}
 use lib.ListN.{length}
 use native.Mathlib.Nat.{add-mul}
 use native.Mathlib.Omega.{arith}

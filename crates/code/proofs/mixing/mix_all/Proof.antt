@@ -1,21 +1,20 @@
 -- `code::mixing::mix_all` meets its contract. The invariant: each block of 2 ^ l rows is transformed. Assumes nothing.
 use mathlib.Core.Path.{_≡_, refl, sym, ap, ap₂, _∙_}
-use mathlib.Core.List.{List, _++_}
+use mathlib.Core.List.{List}
 use Prim.Native.Nat.{ℕ, suc, _+_, _-_, _*_, _/_, _^_, _≤_, _<_}
 use native.Mathlib.Nat.{sub-zero}
 use native.Mathlib.Numerals.{add-one}
 use native.Mathlib.Omega.{arith}
 use lib.Pow.{pow-mono}
-use lib.ListN.{length, take, drop, length-take, length-drop}
+use lib.ListN.{length, take, drop, length-drop}
 use lib.Seq.{take-at, drop-at, length-take-le}
 use Rattle.field.specs.Power.{power}
 use Rattle.field.specs.Words.{Words}
 use Rattle.field.proofs.Powers.{power-lt}
 use Rattle.code.specs.Rows.{lifted}
 use Rattle.code.specs.Transform.{mixed, mixedHalves, transform}
-use Rattle.code.specs.MixTrace.{eachBlock}
 use Rattle.code.proofs.Shapes.{length-two, length-transform}
-use Rattle.code.proofs.Blocks.{Level, level-at, pow-down, pow-over, words-each, eachRows, rows-id, rows-one, both, rows-then, rows-double, OnBlock, mixing-block}
+use Rattle.code.proofs.Blocks.{Level, level-at, pow-down, pow-over, words-each, eachRows, rows-id, rows-one, both, rows-then, rows-double, mixing-block}
 use Rattle.code.proofs.mixing.mix_all.Statement.{statement}
 use Rattle.code.proofs.mixing.mix_all.Tie as tie
 

@@ -1,5 +1,5 @@
 -- `code::mixing::mix_each` meets its contract, by the loop over blocks of proofs/Blocks. Assumes nothing.
-use Prim.Native.Nat.{ℕ, _+_, _-_, _*_, _≤_}
+use Prim.Native.Nat.{_+_, _-_, _*_, _≤_}
 use native.Mathlib.Omega.{arith}
 use lib.ListN.{length}
 use Rattle.code.specs.Rows.{lifted}

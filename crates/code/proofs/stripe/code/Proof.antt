@@ -8,7 +8,6 @@ use borrow.Rule.Slice.PartMut.{putMid}
 use lib.Dec.{lit<}
 use lib.ListN.{length, take, drop}
 use lib.Seq.{length-take-le}
-use Rattle.field.proofs.WordLists.{words-take}
 use Rattle.code.specs.Rows.{lifted}
 use Rattle.code.specs.Transform.{transform, turned}
 use Rattle.code.specs.Stripe.{coded, codedRows}
@@ -107,7 +106,7 @@ mix-all-requires c κs =
       pre .0,
       (
         ap length (lent-front (copied at-copy)) ∙ length-blocks at-two ∙ half-is at-two,
-        (pre .1 .1 .1 .0, rw (lent-front (copied at-copy)) (words-take 65537 (lit< tt) (half at-two) (pre .1 .1 .1 .1))),
+        (pre .1 .1 .1 .0, rw (lent-front (copied at-copy)) (rw (half-is at-two) (pre .1 .1 .1 .1))),
       ),
     )
 
@@ -131,7 +130,7 @@ turn-requires c κs =
       ap length (lent-rest (mixed-parts at-mix)) ∙ length-blocks at-two,
       (
         (pre .0 .1, omega (arith, at-two .two-to .ensures, pre .1 .0)),
-        (pre .1 .1 .1 .0, rw (lent-rest (mixed-parts at-mix)) (words-take 65537 (lit< tt) (half at-two) (pre .1 .1 .1 .1))),
+        (pre .1 .1 .1 .0, rw (lent-rest (mixed-parts at-mix)) (rw (half-is at-two) (pre .1 .1 .1 .1))),
       ),
     )
 

@@ -12,7 +12,7 @@ use Rattle.field.proofs.Powers.{power-lt}
 use Rattle.code.specs.Rows.{lifted}
 use Rattle.code.specs.Transform.{unmixed, untransform}
 use Rattle.code.proofs.Shapes.{length-unmixed, length-untransform}
-use Rattle.code.proofs.Blocks.{Level, level-at, pow-down, pow-over, words-each, eachRows, rows-id, rows-one, both, rows-then, rows-double, OnBlock, unmixing-block}
+use Rattle.code.proofs.Blocks.{Level, level-at, pow-down, pow-over, words-each, eachRows, rows-id, rows-one, both, rows-then, rows-double, unmixing-block}
 use Rattle.code.proofs.unmixing.unmix_all.Statement.{statement}
 use Rattle.code.proofs.unmixing.unmix_all.Tie as tie
 
