@@ -4,7 +4,11 @@ pub mod Blocks
 pub mod Coefficients
 pub mod Columns
 pub mod Crossing
+pub mod DecodeRows
+pub mod DecodeSteps
+pub mod DecodeTraces
 pub mod Decoder
+pub mod DecoderShapes
 pub mod Evaluation
 pub mod Folding
 pub mod Half

@@ -1,3 +1,4 @@
+pub mod DecodeTrace
 pub mod Decoder
 pub mod Decoding
 pub mod MixTrace

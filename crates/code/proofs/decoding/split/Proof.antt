@@ -1,0 +1,174 @@
+-- `code::decoding::split` meets its contract: each half is unmixed in its place, and the second turned. Assumes nothing.
+use mathlib.Core.Path.{_≡_, sym, ap, ap₂, _∙_}
+use mathlib.Core.List.{List, _++_}
+use Prim.Native.Nat.{ℕ, suc, _+_, _*_, _-_, _^_}
+use native.Mathlib.Omega.{arith}
+use borrow.Author.Needs.{needs}
+use borrow.Rule.Slice.PartMut.{putMid}
+use lib.Dec.{lit<}
+use lib.ListN.{length, take, drop, length-drop}
+use Rattle.field.proofs.WordLists.{words-take, words-drop}
+use Rattle.code.specs.Rows.{lifted}
+use Rattle.code.specs.Transform.{untransform, turned}
+use Rattle.code.specs.Decoder as Decoder
+use Rattle.code.proofs.Shapes.{length-untransform, words-untransform}
+use Rattle.code.proofs.Lifting.{length-lifted, words-lifted, lifted-then, words-column}
+use Rattle.code.proofs.RowLaws.{Parts, length-parts, lent-rest, put-front, put-rest}
+use Rattle.code.proofs.DecodeTraces.{cut, two-halves}
+use Rattle.code.proofs.DecodeSteps.{lifted-halves}
+use Rattle.code.proofs.decoding.split.Statement.{statement}
+use Rattle.code.proofs.decoding.split.Tie as tie
+
+-- both halves of all columns
+both : (w k l t width h : ℕ) (r x y z : List ℕ) → length r ≡ 2 ^ suc l * width → h ≡ 2 ^ l * width → x ≡ lifted width (2 ^ l) (2 ^ l) (untransform 65537 w k l) (take h r)
+    → y ≡ lifted width (2 ^ l) (2 ^ l) (untransform 65537 w k l) (drop h r) → z ≡ lifted width (2 ^ l) (2 ^ l) (turned 65537 w k t) y
+    → x ++ z ≡ lifted width (2 ^ suc l) (2 ^ suc l) (Decoder.split 65537 w k l t) r
+unfolding Decoder.split
+both w k l t width h r x y z e eh ex ey ez =
+    let n = 2 ^ l in
+    let U = untransform 65537 w k l in
+    let T = turned 65537 w k t in
+    ap₂ _++_ ex (ez ∙ ap (lifted width n n T) ey ∙ lifted-then width n n n U T (drop h r) (length-untransform 65537 w k l))
+    ∙ rw eh (lifted-halves width l U (λ c. T (U c)) r e (length-untransform 65537 w k l))
+
+-- the words of a half
+abbrev half : tie.After-two-to → ℕ
+half c = c .two-to .result * c .before .before .args .width
+
+abbrev rows : tie.After-two-to → List ℕ
+rows c = c .before .before .args .part .now
+
+half-is : (c : tie.After-two-to) → half c ≡ 2 ^ c .before .before .args .level * c .before .before .args .width
+half-is c = ap (λ (n : ℕ). n * c .before .before .args .width) (c .two-to .ensures)
+
+long : (c : tie.After-two-to) → length (rows c) ≡ half c + half c
+long c = c .before .before .pre .1 .1 .0 ∙ two-halves (c .before .before .args .level) (c .before .before .args .width) ∙ sym (ap₂ _+_ (half-is c) (half-is c))
+
+halves : (c : tie.After-two-to) → Parts (half c) (rows c) (take (half c) (rows c)) (drop (half c) (rows c))
+halves c = cut (half c) (rows c) (omega (arith, long c))
+
+second : (c : tie.After-two-to) → length (drop (half c) (rows c)) ≡ half c
+second c = length-drop (half c) (rows c) ∙ omega (arith, long c)
+
+-- the rows once the first half is unmixed
+abbrev once : tie.After-unmix-all → List ℕ
+once c = c .unmix-all .last .0 ++ drop (half (c .before .before)) (rows (c .before .before))
+
+once-parts : (c : tie.After-unmix-all) → Parts (half (c .before .before)) (once c) (c .unmix-all .last .0) (drop (half (c .before .before)) (rows (c .before .before)))
+once-parts c = put-front (halves (c .before .before)) (ap length (c .unmix-all .ensures) ∙ length-lifted _ _ _ _ _ ∙ sym (half-is (c .before .before)))
+
+-- and the second
+abbrev twice : tie.After-unmix-all2 → List ℕ
+twice c = let h = half (c .before .before .before .before .before .before) in putMid h (length (once (c .before .before .before .before)) - h) (once (c .before .before .before .before)) (c .unmix-all2 .last .0)
+
+twice-parts : (c : tie.After-unmix-all2) → Parts (half (c .before .before .before .before .before .before)) (twice c) (c .before .before .before .before .unmix-all .last .0) (c .unmix-all2 .last .0)
+twice-parts c = put-rest (once-parts (c .before .before .before .before)) (c .unmix-all2 .last .0)
+
+unmixed : (c : tie.After-unmix-all2) → let two = c .before .before .before .before .before .before in
+    let a = two .before .before .args in c .unmix-all2 .last .0 ≡ lifted (a .width) (2 ^ a .level) (2 ^ a .level) (untransform 65537 (a .back) (a .k) (a .level)) (drop (half two) (rows two))
+unmixed c = c .unmix-all2 .ensures ∙ ap (lifted _ _ _ _) (lent-rest (once-parts (c .before .before .before .before)))
+
+two-to-requires : tie.Need-two-to-requires
+two-to-requires c κs = search needs
+
+mul-half : tie.Need-mul-half
+mul-half c = omega (arith, long c)
+
+slice-relend-prefix-unmix-all : tie.Need-slice-relend-prefix-unmix-all
+slice-relend-prefix-unmix-all c = omega (arith, long c)
+
+slice-aggregate-unmix-all : tie.Need-slice-aggregate-unmix-all
+slice-aggregate-unmix-all c = sym (halves (c .before) .long)
+
+unmix-all-requires : tie.Need-unmix-all-requires
+unmix-all-requires c κs =
+    let two = c .before in
+    let pre = two .before .before .pre in
+    (pre .0, (halves two .long ∙ half-is two, (pre .1 .1 .1 .0, words-take 65537 (lit< tt) (half two) (pre .1 .1 .1 .1))))
+
+mul-unmix-all : tie.Need-mul-unmix-all
+mul-unmix-all c = omega (arith, long (c .before .before .before .before))
+
+sub-unmix-all : tie.Need-sub-unmix-all
+sub-unmix-all c = omega (arith, length-parts (once-parts (c .before .before)))
+
+part-unmix-all-start : tie.Need-part-unmix-all-start
+part-unmix-all-start c = sub-unmix-all c
+
+part-unmix-all-end : tie.Need-part-unmix-all-end
+part-unmix-all-end c = search needs
+
+unmix-all-requires-2 : tie.Need-unmix-all-requires-2
+unmix-all-requires-2 c κs =
+    let first = c .before .before .before in
+    let two = first .before .before in
+    let pre = two .before .before .pre in
+    let e = lent-rest (once-parts first) in
+    (pre .0, (ap length e ∙ second two ∙ half-is two, (pre .1 .1 .1 .0, rw e (words-drop 65537 (lit< tt) (half two) (pre .1 .1 .1 .1)))))
+
+mul-turn : tie.Need-mul-turn
+mul-turn c = omega (arith, long (c .before .before .before .before .before .before .before .before))
+
+sub-turn : tie.Need-sub-turn
+sub-turn c = omega (arith, length-parts (twice-parts (c .before .before)))
+
+part-turn-start : tie.Need-part-turn-start
+part-turn-start c = sub-turn c
+
+part-turn-end : tie.Need-part-turn-end
+part-turn-end c = search needs
+
+turn-requires : tie.Need-turn-requires
+turn-requires c κs =
+    let again = c .before .before .before in
+    let two = again .before .before .before .before .before .before in
+    let a = two .before .before .args in
+    let pre = two .before .before .pre in
+    let e = lent-rest (twice-parts again) ∙ unmixed again in (
+      ap length e ∙ length-lifted _ _ _ _ _ ∙ sym (half-is two),
+      (
+        (pre .0 .1, omega (arith, two .two-to .ensures, pre .1 .0)),
+        (
+          pre .1 .1 .1 .0,
+          rw e (words-lifted 65537 (a .width) (2 ^ a .level) (2 ^ a .level) (untransform 65537 (a .back) (a .k) (a .level)) (drop (half two) (rows two)) (lit< tt)
+              (λ j _. words-untransform 65537 (lit< tt) (a .back) (a .k) (a .level) (words-column 65537 (a .width) (2 ^ a .level) j (words-drop 65537 (lit< tt) (half two) (pre .1 .1 .1 .1))))),
+        ),
+      ),
+    )
+
+same-length : tie.Need-same-length
+same-length c = search needs
+
+returns : tie.Need-returns
+returns c =
+    let turn = c .before .before in
+    let again = turn .before .before .before .before in
+    let first = again .before .before .before .before in
+    let two = first .before .before in
+    let a = two .before .before .args in
+    put-rest (twice-parts again) (turn .turn .last .0) .is
+    ∙ both (a .back) (a .k) (a .level) (a .first) (a .width) (half two) (rows two) (first .unmix-all .last .0) (again .unmix-all2 .last .0) (turn .turn .last .0) (two .before .before .pre .1 .1 .0)
+    (half-is two) (first .unmix-all .ensures) (unmixed again)
+    (turn .turn .ensures ∙ ap (lifted _ _ _ _) (lent-rest (twice-parts again)) ∙ ap (λ (n : ℕ). lifted (a .width) n n (turned 65537 (a .back) (a .k) (a .first)) (again .unmix-all2 .last .0)) (two .two-to .ensures))
+
+pub split-spec : {M : Type 1} → statement M
+split-spec =
+    tie.close
+    (tie.spec
+    two-to-requires
+    mul-half
+    slice-relend-prefix-unmix-all
+    slice-aggregate-unmix-all
+    unmix-all-requires
+    mul-unmix-all
+    sub-unmix-all
+    part-unmix-all-start
+    part-unmix-all-end
+    unmix-all-requires-2
+    mul-turn
+    sub-turn
+    part-turn-start
+    part-turn-end
+    turn-requires
+    same-length
+    returns)
