@@ -196,7 +196,7 @@ fn clear(part: &mut [u32], from: usize, to: usize)
 }
 
 // How many positions are erased.
-fn count_erased(marks: &[bool], level: usize) -> usize
+pub fn count_erased(marks: &[bool], level: usize) -> usize
     requires { ⌜ level ≤ 15 ⌝ }
     requires { ⌜ 2 ^ suc level ≤ length (now marks) ⌝ }
     ensures { λ r. ⌜ r ≡ Decoder.erasedCount level (now (marks .entry)) ⌝ }
