@@ -1,0 +1,138 @@
+-- What an image of a round's words decodes to: the full stripe to the records of the round's start, a filled level to the writes that it holds.
+-- Assumes nothing.
+use mathlib.Core.Path.{_≡_, refl, sym, ap, ap₂, _∙_}
+use mathlib.Core.Bool.{Bool, true, false}
+use mathlib.Core.Logic.{inl, inr}
+use mathlib.Core.List.{List, _++_}
+use Prim.Native.Nat.{ℕ, zero, suc, _+_, _*_, _-_, _/_, _%_, _^_, _≤_, _<_}
+use native.Mathlib.Nat.{mod-lt, div-add-mod', div-lt-iff-lt-mul, add-assoc, zero-add, zero-lt-suc, le-refl}
+use native.Mathlib.Omega.{arith}
+use lib.Dec.{lit<}
+use lib.ListN.{length, getD, drop, List·getD-append}
+use lib.Seq.{getD-take, getD-drop, getD-append-add}
+use borrow.Author.Tests.{lt-ltb, eq-eqb, ne-eqb}
+use Rattle.field.specs.Words.{Words}
+use Rattle.field.proofs.WordLists.{words-nil, words-append, words-replicate}
+use Rattle.code.specs.Stripe.{codedRows}
+use Rattle.code.proofs.BlockDecoding.{both-true}
+use Rattle.vault.specs.declared.Header.{Header}
+use Rattle.vault.specs.Header.{vaultRoot, width, fullSize, isFull, isFilled, firstOf, levelAt, stripeSize, stripeAt}
+use Rattle.vault.specs.Records.{areData, fullStripe, blocksOf}
+use Rattle.vault.specs.Image.{imageOf, wordAt}
+use Rattle.vault.specs.Erasures.{erasuresIn}
+use Rattle.vault.specs.Decoding.{decoded, numberFits, blockNumber, blockData, isRecord, areRecords, decodeStripe}
+use Rattle.vault.specs.Round.{Entry, Round, rowsOf, roundHeader, levelEntries, levelWords, logWords}
+use Rattle.vault.specs.Promises.{marks, Needed, Leaves, SameWords}
+use Rattle.vault.proofs.Records.{are-data, field-words, length-full}
+use Rattle.vault.proofs.Levels.{level-filled, level-empty, level-place}
+use Rattle.vault.proofs.StripeDecoding.{first-full}
+use Rattle.vault.proofs.ImageWords.{word-back}
+use Rattle.vault.proofs.Loading.{words-coded-rows, decodes-kept}
+use Rattle.vault.proofs.Rounds.{AllTaken, Good, taken-take, taken-drop, words-rows, rows-column, header-fits, length-entries, base-column}
+use Rattle.vault.proofs.Laying.{noEntry, entry-at, number-at, data-at, numbered, length-numbered, number-numbered, numbered-fit, blocks-rows}
+
+-- rows of entries are records where their numbers fit
+module _ {k : ℕ} (h : Header) {xs : List Entry} (E : AllTaken k (h .s) xs) (l : ℕ)
+    (fit : (j : ℕ) → j < length xs → numberFits h l j (getD xs j noEntry .number) ≡ true) where
+  is-record : (j : ℕ) → j < length xs → isRecord h l (rowsOf xs) j ≡ true
+  is-record j lt =
+      both-true (numberFits h l j (blockNumber h (rowsOf xs) j)) (areData (blockData h (rowsOf xs) j))
+      (rw (number-at h E j lt) (fit j lt)) (rw (data-at h E j lt) (are-data (getD xs j noEntry .block) (entry-at E j lt .words)))
+
+  are-records : (n : ℕ) → n ≤ length xs → areRecords h l (rowsOf xs) n ≡ true
+  unfolding areRecords
+  are-records zero b = refl
+  are-records (suc j) b = both-true (isRecord h l (rowsOf xs) j) (areRecords h l (rowsOf xs) j) (is-record j (omega arith)) (are-records j (omega arith))
+
+-- a level's entries were taken
+pub level-taken : {k s : ℕ} {a : Round} → Good k s a → (l : ℕ) → AllTaken k s (levelEntries (roundHeader k s a) a l)
+level-taken {k} {s} {a} good l = taken-take (2 ^ l) (taken-drop (firstOf (roundHeader k s a) l) (good .taken))
+
+module _ {k s : ℕ} {a : Round} (good : Good k s a) where
+  abbrev h : Header
+  h = roundHeader k s a
+
+  abbrev full : List ℕ
+  full = fullStripe h (a .base)
+
+  abbrev log : List ℕ
+  log = logWords h a k
+
+  -- the records of the round's start as entries, which the full stripe codes
+  abbrev pub start : List Entry
+  start = numbered s (a .base) 0 (2 ^ k)
+
+  pub start-taken : AllTaken k s start
+  start-taken = numbered-fit k s (a .base) (good .base-long) (good .base-words) 0 (2 ^ k) (omega arith)
+
+  pub length-start : length start ≡ 2 ^ k
+  length-start = length-numbered s (a .base) 0 (2 ^ k)
+
+  pub start-rows : blocksOf h (a .base) ≡ rowsOf start
+  start-rows = blocks-rows 65537 s (a .base) (lit< tt) (field-words (good .base-words)) 0 (2 ^ k)
+
+  -- words of the field
+  words-full : Words 65537 full
+  words-full = words-coded-rows 65537 (vaultRoot h) k k 0 (width h) (lit< tt) (base-column good (h .c) .words)
+
+  words-level : (l : ℕ) → Words 65537 (levelWords h a l)
+  words-level l = go (isFilled h l) refl
+    where
+      go : (b : Bool) → isFilled h l ≡ b → Words 65537 (levelWords h a l)
+      go true e =
+          rw (level-filled h a l e)
+          (words-coded-rows 65537 (vaultRoot h) k l (firstOf h l) (width h) (lit< tt) (words-rows (good .sizes .k-high) (level-taken good l)))
+      go false e = rw (level-empty h a l e) (words-replicate 65537 (lit< tt) (stripeSize h l) 0 (lit< tt))
+
+  words-log : (n : ℕ) → Words 65537 (logWords h a n)
+  unfolding logWords
+  words-log zero = words-nil 65537 (lit< tt)
+  words-log (suc l) = words-append 65537 (lit< tt) {a = logWords h a l} (words-log l) (words-level l)
+
+  words-all : Words 65537 (full ++ log)
+  words-all = words-append 65537 (lit< tt) {a = full} words-full (words-log k)
+
+  -- where the stripes stand
+  full-at : (q : ℕ) → q < fullSize h → getD (full ++ log) (stripeAt h k + q) 0 ≡ getD full q 0
+  full-at q b =
+      rw (eq-eqb k k refl, stripeAt, zero-add q) (List·getD-append full log 0 q (rw (length-full h (a .base)) b))
+
+  level-at : (l : ℕ) → l < k → (q : ℕ) → q < stripeSize h l → getD (full ++ log) (stripeAt h l + q) 0 ≡ getD (levelWords h a l) q 0
+  level-at l lt q b =
+      rw (ne-eqb l k (λ t. omega arith), stripeAt, add-assoc (fullSize h) (levelAt h l) q, ← length-full h (a .base))
+      (getD-append-add full log (levelAt h l + q) 0 ∙ sym (getD-drop (levelAt h l) log q 0)
+      ∙ sym (getD-take (stripeSize h l) (drop (levelAt h l) log) q 0 b) ∙ ap (λ (x : List ℕ). getD x q 0) (level-place h a l k lt))
+
+  -- an image with the words that survive
+  module _ (e m : List ℕ) (L : Leaves h e) (S : SameWords h e (imageOf full log) m) where
+    kept-word : (l : ℕ) → Needed h l → (q : ℕ) → q < 2 ^ suc l * width h → getD (marks h e l) (q / width h) false ≡ false
+        → wordAt m (stripeAt h l + q) ≡ getD (full ++ log) (stripeAt h l + q) 0
+    kept-word l need q b free =
+        let place : q / width h * width h + q % width h ≡ q = div-add-mod' q (width h) in
+        let same = S .same l (q / width h) (q % width h) need (div-lt-iff-lt-mul (zero-lt-suc s) .1 b) (mod-lt q (zero-lt-suc s)) free in
+        sym (rw place at same) ∙ word-back 65537 (lit< tt) (full ++ log) words-all (stripeAt h l + q)
+
+    -- a needed stripe that codes the rows of some entries decodes to them
+    rows-decode : (l : ℕ) → l ≤ k → Needed h l → (xs : List Entry) → AllTaken k s xs → length xs ≡ 2 ^ l
+        → ((j : ℕ) → j < length xs → numberFits h l j (getD xs j noEntry .number) ≡ true)
+        → ((q : ℕ) → q < 2 ^ suc l * width h → getD (full ++ log) (stripeAt h l + q) 0 ≡ getD (codedRows 65537 (vaultRoot h) k l (firstOf h l) (width h) (rowsOf xs)) q 0)
+        → decodeStripe h m (erasuresIn e) l ≡ decoded (rowsOf xs)
+    rows-decode l within need xs E long fit at =
+        decodes-kept h m e l (rowsOf xs)
+        (rows-column (2 ^ l) (good .sizes .k-high) E long)
+        (λ q b free. kept-word l need q b free ∙ at q b) (header-fits good) within (L .half l need) (are-records h E l fit (2 ^ l) (omega arith))
+
+    pub level-decodes : (l : ℕ) → l < k → isFilled h l ≡ true → decodeStripe h m (erasuresIn e) l ≡ decoded (rowsOf (levelEntries h a l))
+    level-decodes l lt filled =
+        let E = level-taken good l in
+        rows-decode l (omega arith) (inr (lt, filled)) (levelEntries h a l) E (length-entries good l lt filled)
+        (λ j b. rw (ne-eqb l k (λ t. omega arith), numberFits) (lt-ltb (getD (levelEntries h a l) j noEntry .number) (2 ^ k) (entry-at E j b .within)))
+        (λ q b. level-at l lt q b ∙ ap (λ (x : List ℕ). getD x q 0) (level-filled h a l filled))
+
+    pub full-decodes : decodeStripe h m (erasuresIn e) k ≡ decoded (blocksOf h (a .base))
+    full-decodes =
+        let isK : isFull h k ≡ true = eq-eqb k k refl in
+        let place : (j : ℕ) → j < length start → getD start j noEntry .number ≡ j = λ j b. number-numbered s (a .base) 0 (2 ^ k) j (omega (arith, length-start)) ∙ zero-add j in
+        rows-decode k (le-refl k) (inl isK) start start-taken length-start (λ j b. rw (isK, numberFits) (eq-eqb (getD start j noEntry .number) j (place j b)))
+        (λ q b. full-at q b ∙ ap₂ (λ (t : ℕ) (x : List ℕ). getD (codedRows 65537 (vaultRoot h) k k t (width h) x) q 0) (sym (first-full h k isK)) start-rows)
+        ∙ ap decoded (sym start-rows)

@@ -1,0 +1,145 @@
+-- GOOD ROUNDS: what every history keeps of a round. Laws of the entries written since, of their rows, and of putting them into the records.
+-- Assumes nothing.
+use mathlib.Core.Path.{_≡_, refl, sym, ap, _∙_}
+use mathlib.Core.Bool.{true, _&&_}
+use mathlib.Core.List.{List, [], _∷_, _++_, append-assoc}
+use Prim.Native.Nat.{ℕ, zero, suc, _*_, _^_, _≤_, _<_}
+use native.Mathlib.Nat.{zero-mul}
+use native.Mathlib.Omega.{arith}
+use lib.Dec.{lit<, ltb, leb}
+use lib.ListN.{length, take, drop, length-append, length-drop}
+use lib.Seq.{length-take-le}
+use lib.Pow.{pow-mono}
+use borrow.Author.Tests.{leb-true, le-leb, lt-ltb}
+use Rattle.field.specs.Words.{Words}
+use Rattle.field.proofs.WordLists.{words-nil, words-cons, words-append}
+use Rattle.code.specs.Promises.{Column}
+use Rattle.code.proofs.BlockDecoding.{both-true, first-true, second-true}
+use Rattle.vault.specs.Header.{headerOf, isIn, headerFits, isFilled, firstOf}
+use Rattle.vault.specs.Records.{replaced, blocksOf}
+use Rattle.vault.specs.Round.{Entry, Round, putAll, rowsOf, roundHeader, levelEntries}
+use Rattle.vault.proofs.Records.{field-words, length-replaced, words-replaced, length-blocks, words-blocks}
+use Rattle.vault.proofs.Levels.{filled-in}
+
+-- k from 1 to 10 and s from 1 to 128
+pub record Sizes (k s : ℕ) : Type 0 where
+  pub k-low : 1 ≤ k
+  pub k-high : k ≤ 10
+  pub s-low : 1 ≤ s
+  pub s-high : s ≤ 128
+
+pub sizes-fit : (k s c : ℕ) → Sizes k s → c < 2 ^ k → headerFits (headerOf k s c) ≡ true
+sizes-fit k s c z b =
+    both-true (isIn 1 10 k) (isIn 1 128 s && ltb c (2 ^ k)) (isIn-true 1 10 k (z .k-low) (z .k-high))
+    (both-true (isIn 1 128 s) (ltb c (2 ^ k)) (isIn-true 1 128 s (z .s-low) (z .s-high)) (lt-ltb c (2 ^ k) b))
+  where
+    isIn-true : (a b x : ℕ) → a ≤ x → x ≤ b → isIn a b x ≡ true
+    isIn-true a b x l h = both-true (leb a x) (leb x b) (le-leb a x l) (le-leb x b h)
+
+pub fit-sizes : (k s c : ℕ) → headerFits (headerOf k s c) ≡ true → Sizes k s
+fit-sizes k s c e =
+    let e₁ : isIn 1 10 k ≡ true = first-true (isIn 1 10 k) (isIn 1 128 s && ltb c (2 ^ k)) e in
+    let e₂ : isIn 1 128 s ≡ true = first-true (isIn 1 128 s) (ltb c (2 ^ k)) (second-true (isIn 1 10 k) (isIn 1 128 s && ltb c (2 ^ k)) e) in
+    record { k-low = low 1 10 k e₁; k-high = high 1 10 k e₁; s-low = low 1 128 s e₂; s-high = high 1 128 s e₂ }
+  where
+    low : (a b x : ℕ) → isIn a b x ≡ true → a ≤ x
+    low a b x e = leb-true a x (first-true (leb a x) (leb x b) e)
+
+    high : (a b x : ℕ) → isIn a b x ≡ true → x ≤ b
+    high a b x e = leb-true x b (second-true (leb a x) (leb x b) e)
+
+-- a write that was taken: a record's number, and s data words
+pub record Taken (k s : ℕ) (x : Entry) : Type 0 where
+  pub within : x .number < 2 ^ k
+  pub long : length (x .block) ≡ s
+  pub words : Words 65536 (x .block)
+
+pub data AllTaken (k s : ℕ) : List Entry → Type 0 where
+  none : AllTaken k s []
+  more : {x : Entry} {xs : List Entry} → Taken k s x → AllTaken k s xs → AllTaken k s (x ∷ xs)
+
+-- THE INVARIANT of rounds: n records of s data words, and since then fewer than n writes, each taken
+pub record Good (k s : ℕ) (a : Round) : Type 0 where
+  pub sizes : Sizes k s
+  pub base-long : length (a .base) ≡ 2 ^ k * s
+  pub base-words : Words 65536 (a .base)
+  pub taken : AllTaken k s (a .since)
+  pub few : length (a .since) < 2 ^ k
+
+-- parts of what was taken
+pub taken-append : {k s : ℕ} {xs ys : List Entry} → AllTaken k s xs → AllTaken k s ys → AllTaken k s (xs ++ ys)
+taken-append none u = u
+taken-append (more h t) u = more h (taken-append t u)
+
+pub taken-take : {k s : ℕ} {xs : List Entry} (n : ℕ) → AllTaken k s xs → AllTaken k s (take n xs)
+taken-take zero t = none
+taken-take (suc n) none = none
+taken-take (suc n) (more h t) = more h (taken-take n t)
+
+pub taken-drop : {k s : ℕ} {xs : List Entry} (n : ℕ) → AllTaken k s xs → AllTaken k s (drop n xs)
+taken-drop zero t = t
+taken-drop (suc n) none = none
+taken-drop (suc n) (more h t) = taken-drop n t
+
+-- THE ROWS of entries
+pub rows-append : (xs ys : List Entry) → rowsOf (xs ++ ys) ≡ rowsOf xs ++ rowsOf ys
+unfolding rowsOf
+rows-append [] ys = refl
+rows-append (x ∷ xs) ys = rw (rows-append xs ys) (sym (append-assoc (x .number ∷ x .block) (rowsOf xs) (rowsOf ys)))
+
+pub length-rows : {k s : ℕ} {xs : List Entry} → AllTaken k s xs → length (rowsOf xs) ≡ length xs * suc s
+unfolding rowsOf
+length-rows {s} none = sym (zero-mul (suc s))
+length-rows (more {x = x} {xs = xs} h t) = ap suc (length-append (x .block) (rowsOf xs)) ∙ omega (arith, h .long, length-rows t)
+
+pub words-rows : {k s : ℕ} {xs : List Entry} → k ≤ 10 → AllTaken k s xs → Words 65537 (rowsOf xs)
+unfolding rowsOf
+words-rows b none = words-nil 65537 (lit< tt)
+words-rows b (more {x = x} h t) =
+    words-cons 65537 (lit< tt) (omega (arith, h .within, pow-mono b)) (words-append 65537 (lit< tt) {a = x .block} (field-words (h .words)) (words-rows b t))
+
+pub rows-column : {k s : ℕ} {xs : List Entry} (n : ℕ) → k ≤ 10 → AllTaken k s xs → length xs ≡ n → Column 65537 (n * suc s) (rowsOf xs)
+rows-column {s} n b t e = record { long = length-rows t ∙ ap (λ (m : ℕ). m * suc s) e; words = words-rows b t }
+
+-- WRITES into the records
+pub put-append : (s : ℕ) (r : List ℕ) (xs ys : List Entry) → putAll s r (xs ++ ys) ≡ putAll s (putAll s r xs) ys
+unfolding putAll
+put-append s r [] ys = refl
+put-append s r (x ∷ xs) ys = put-append s (replaced s r (x .number) (x .block)) xs ys
+
+pub length-put : {k s : ℕ} {xs : List Entry} (r : List ℕ) → length r ≡ 2 ^ k * s → AllTaken k s xs → length (putAll s r xs) ≡ 2 ^ k * s
+unfolding putAll
+length-put r e none = e
+length-put {k} {s} r e (more {x = x} h t) =
+    length-put (replaced s r (x .number) (x .block)) (length-replaced (2 ^ k) s r (x .number) (x .block) e (h .within) (h .long)) t
+
+pub words-put : {k s : ℕ} {xs : List Entry} (r : List ℕ) → Words 65536 r → AllTaken k s xs → Words 65536 (putAll s r xs)
+unfolding putAll
+words-put r u none = u
+words-put {s} r u (more {x = x} h t) =
+    words-put (replaced s r (x .number) (x .block)) (words-replaced 65536 s (lit< tt) r (x .number) (x .block) u (h .words)) t
+
+-- OF A GOOD ROUND: the records now, the header, the rows of a filled level, and the blocks of the full stripe
+module _ {k s : ℕ} {a : Round} (good : Good k s a) where
+  pub records-long : length (putAll s (a .base) (a .since)) ≡ 2 ^ k * s
+  records-long = length-put (a .base) (good .base-long) (good .taken)
+
+  pub records-words : Words 65536 (putAll s (a .base) (a .since))
+  records-words = words-put (a .base) (good .base-words) (good .taken)
+
+  pub header-fits : headerFits (roundHeader k s a) ≡ true
+  header-fits = sizes-fit k s (length (a .since)) (good .sizes) (good .few)
+
+  pub length-entries : (l : ℕ) → l < k → isFilled (roundHeader k s a) l ≡ true → length (levelEntries (roundHeader k s a) a l) ≡ 2 ^ l
+  length-entries l b e =
+      let h = roundHeader k s a in
+      length-take-le (2 ^ l) (drop (firstOf h l) (a .since)) (rw length-drop (omega (arith, filled-in h l b e)))
+
+  pub level-column : (l : ℕ) → l < k → isFilled (roundHeader k s a) l ≡ true → Column 65537 (2 ^ l * suc s) (rowsOf (levelEntries (roundHeader k s a) a l))
+  level-column l b e = rows-column (2 ^ l) (good .sizes .k-high) (taken-take (2 ^ l) (taken-drop (firstOf (roundHeader k s a) l) (good .taken))) (length-entries l b e)
+
+  pub base-column : (c : ℕ) → Column 65537 (2 ^ k * suc s) (blocksOf (headerOf k s c) (a .base))
+  base-column c = record {
+    long = length-blocks 65537 (2 ^ k) s (a .base) 0 (2 ^ k) (good .base-long) (omega arith);
+    words = words-blocks 65537 s (lit< tt) (a .base) 0 (2 ^ k) (omega (arith, pow-mono (good .sizes .k-high)));
+  }

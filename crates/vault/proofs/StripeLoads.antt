@@ -1,0 +1,270 @@
+-- The words of a stripe out of an image: the loops that load them and test them, and what the loaded words are to the decoder. Assumes nothing.
+use mathlib.Core.Path.{_≡_, refl, sym, ap, ap₂, _∙_}
+use mathlib.Core.Bool.{Bool, true, false, _&&_, and-true, and-false, and-assoc}
+use mathlib.Core.List.{List, [], _∷_, _++_, append-assoc}
+use Prim.Native.Nat.{ℕ, zero, suc, _+_, _*_, _-_, _/_, _^_, _≤_, _<_}
+use native.Mathlib.Nat.{suc-mul, mul-le-mul-right, pow-succ', add-zero, zero-mul, zero-add, add-mul}
+use native.Mathlib.Decide.{decLt}
+use native.Mathlib.Numerals.{add-one}
+use native.Mathlib.Omega.{arith}
+use lib.Arith.{digits-lt, digits-div, digits-mod}
+use lib.Pow.{pow-mono}
+use lib.Dec.{ltb, lit<}
+use borrow.Author.Tests.{ltb-true, lt-ltb, le-ltb, eq-eqb, ne-eqb}
+use lib.ListN.{length, getD, set, take, drop, length-append, length-set, length-take, length-drop, take-append-drop, drop-of-length-le}
+use lib.Seq.{take-at, set-at, drop-drop, drop-cons, getD-take, getD-drop, ext-getD, drop-append-add}
+use Rattle.field.specs.Words.{Words, table}
+use Rattle.field.proofs.WordLists.{words-nil, words-cons, length-table, getD-table, is-table, two-tables}
+use Rattle.code.specs.Rows.{column}
+use Rattle.code.proofs.Lifting.{length-column, column-at, rows-ext, words-rows}
+use Rattle.vault.specs.declared.Header.{Header}
+use Rattle.vault.specs.Header.{width, fullSize, logSize, levelAt, stripeSize, stripeAt}
+use Rattle.vault.specs.Image.{numberAt}
+use Rattle.vault.specs.Decoding.{loadedAt, loaded, areBelow}
+use Rattle.vault.specs.LoadTrace.{rowWord, loadedWord, laid}
+
+-- ROWS LAID OVER A LIST
+laid-none : (to : ℕ) (f : ℕ → ℕ) (l : List ℕ) → laid to 0 f l ≡ l
+unfolding laid table
+laid-none to f l = ap (λ (n : ℕ). take to l ++ drop n l) (add-zero to) ∙ take-append-drop to l
+
+table-more : (n : ℕ) (f : ℕ → ℕ) → table n f ++ (f n ∷ []) ≡ table (suc n) f
+unfolding table
+table-more zero f = refl
+table-more (suc n) f = ap (λ (l : List ℕ). f 0 ∷ l) (table-more n (λ k. f (suc k)))
+
+laid-more : (to n : ℕ) (f : ℕ → ℕ) (l : List ℕ) → to + n < length l → set (laid to n f l) (to + n) (f n) ≡ laid to (n + 1) f l
+unfolding laid
+laid-more to n f l h =
+    let long : length (take to l ++ table n f) ≡ to + n = simp (length-append, length-table, length-take) (omega arith) in
+    let e : suc (to + n) ≡ to + suc n = omega arith in
+    rw (
+      drop-cons l (to + n) 0 h,
+      ← append-assoc,
+      set-at (take to l ++ table n f) (getD l (to + n) 0) (drop (suc (to + n)) l) (f n) (to + n) long,
+      append-assoc,
+      add-one n,
+      ← table-more n f,
+      append-assoc (table n f),
+    ) (ap (λ (m : ℕ). take to l ++ (table n f ++ (f n ∷ drop m l))) e)
+
+pub record LaidLoop (to n : ℕ) (f : ℕ → ℕ) (entry part : List ℕ) (j : ℕ) : Type 0 where
+  pub within : j ≤ n
+  pub same : length part ≡ length entry
+  pub laid-so : part ≡ laid to j f entry
+
+pub laid-start : (to n : ℕ) (f : ℕ → ℕ) (entry : List ℕ) → LaidLoop to n f entry entry 0
+laid-start to n f entry = record { within = omega arith; same = refl; laid-so = sym (laid-none to f entry) }
+
+pub laid-turn : {to n : ℕ} {f : ℕ → ℕ} {entry part : List ℕ} {j x : ℕ} → LaidLoop to n f entry part j → j < n → to + n ≤ length entry → x ≡ f j
+    → LaidLoop to n f entry (set part (to + j) x) (j + 1)
+laid-turn {to} {n} {f} {entry} {part} {j} {x} r h fit e =
+    record { within = omega arith; same = length-set part (to + j) x ∙ r .same; laid-so = rw (e, r .laid-so) (laid-more to j f entry (omega arith)) }
+
+pub laid-end : {to n : ℕ} {f : ℕ → ℕ} {entry part : List ℕ} {j : ℕ} → LaidLoop to n f entry part j → n ≤ j → part ≡ laid to n f entry
+laid-end {to} {n} {f} {entry} {part} {j} r h =
+    let e : j ≡ n = omega (arith, r .within) in
+    rw (← e) (r .laid-so)
+
+-- WORDS BELOW p
+below-append : (p : ℕ) (a b : List ℕ) → areBelow p (a ++ b) ≡ (areBelow p a && areBelow p b)
+unfolding areBelow
+below-append p [] b = refl
+below-append p (x ∷ a) b = rw (below-append p a b) (sym (and-assoc (ltb x p) (areBelow p a) (areBelow p b)))
+
+pub below-zeros : (p n : ℕ) → 0 < p → areBelow p (table n (λ k. 0)) ≡ true
+unfolding areBelow table
+below-zeros p zero h = refl
+below-zeros p (suc n) h = rw (lt-ltb 0 p h) (below-zeros p n h)
+
+both : (t u : Bool) → (t && u) ≡ true → (t ≡ true) × (u ≡ true)
+both true u e = (refl, e)
+both false u e = (e, cc)
+
+below-words : (p : ℕ) → 0 < p → (l : List ℕ) → areBelow p l ≡ true → Words p l
+unfolding areBelow
+below-words p h [] e = words-nil p h
+below-words p h (x ∷ l) e = let t = both (ltb x p) (areBelow p l) e in words-cons p h (ltb-true x p (t .0)) (below-words p h l (t .1))
+
+-- the loop over the words of a row: before word j, all words passed were fine, and the rest have to be below p
+pub record BelowLoop (p n : ℕ) (f : ℕ → ℕ) (fine : Bool) (j : ℕ) : Type 0 where
+  pub within : j ≤ n
+  pub left : (fine && areBelow p (drop j (table n f))) ≡ areBelow p (table n f)
+
+below-next : (p n : ℕ) (f : ℕ → ℕ) (j : ℕ) → j < n → areBelow p (drop j (table n f)) ≡ (ltb (f j) p && areBelow p (drop (j + 1) (table n f)))
+unfolding areBelow
+below-next p n f j h =
+    let b : j < length (table n f) = rw length-table h in
+    rw (add-one j, drop-cons (table n f) j 0 b, getD-table n j f h)
+
+module _ {p n : ℕ} {f : ℕ → ℕ} where
+  pub below-start : BelowLoop p n f true 0
+  below-start = record { within = omega arith; left = refl }
+
+  module _ {fine : Bool} {j x : ℕ} (r : BelowLoop p n f fine j) (h : j < n) (e : x ≡ f j) where
+    pub below-fine : x < p → BelowLoop p n f fine (j + 1)
+    below-fine b = record { within = omega arith; left = rw (below-next p n f j h, ← e, lt-ltb x p b) at (r .left) }
+
+    pub below-over : p ≤ x → BelowLoop p n f false (j + 1)
+    below-over b = record { within = omega arith; left = sym (and-false fine) ∙ (rw (below-next p n f j h, ← e, le-ltb x p b) at (r .left)) }
+
+  pub below-end : {fine : Bool} {j : ℕ} → BelowLoop p n f fine j → n ≤ j → fine ≡ areBelow p (table n f)
+  unfolding areBelow
+  below-end {fine} {j} r h =
+      let e : drop j (table n f) ≡ [] = drop-of-length-le (table n f) {i = j} (rw length-table h) in
+      sym (and-true fine) ∙ (rw e at (r .left))
+
+-- ROWS OF A TABLE. The m words from k on are a table of their own
+row-of : (n k m : ℕ) (f g : ℕ → ℕ) → k + m ≤ n → ((j : ℕ) → j < m → f (k + j) ≡ g j) → drop k (table n f) ≡ table m g ++ drop (k + m) (table n f)
+row-of n k m f g h e =
+    sym (take-append-drop m (drop k (table n f))) ∙ rw (drop-drop m k (table n f), is-table (take m (drop k (table n f))) m g long at)
+  where
+    long : length (take m (drop k (table n f))) ≡ m
+    long = simp (length-take, length-drop, length-table) (omega arith)
+
+    at : (j : ℕ) → j < m → getD (take m (drop k (table n f))) j 0 ≡ g j
+    at j b = getD-take m (drop k (table n f)) j 0 b ∙ getD-drop k (table n f) j 0 ∙ getD-table n (k + j) f (omega arith) ∙ e j b
+
+table-and : (k m : ℕ) (f g : ℕ → ℕ) → ((j : ℕ) → j < m → f (k + j) ≡ g j) → table (k + m) f ≡ table k f ++ table m g
+table-and k m f g e =
+    two-tables (table (k + m) f) k m f g (length-table (k + m) f) (λ j b. getD-table (k + m) j f (omega arith)) (λ j b. getD-table (k + m) (k + j) f (omega arith) ∙ e j b)
+
+pub row-in : {i rows : ℕ} (width : ℕ) → i < rows → i * width + width ≤ rows * width
+row-in {i} {rows} width h = omega (arith, suc-mul i width, mul-le-mul-right {m = suc i} {n = rows} width (omega arith))
+
+row-next : (i width : ℕ) → i * width + width ≡ (i + 1) * width
+row-next i width = omega (arith, suc-mul i width)
+
+-- a marked row is zeros, and a row that is kept is the image's words
+module _ (m : List ℕ) (ms : List Bool) (at width from cols : ℕ) (i : ℕ) where
+  loaded-at : (j : ℕ) → j < cols → loadedWord m ms at width from cols (i * cols + j) ≡ elim (getD ms i false) [ true ↦ 0 | false ↦ numberAt m (at + 4 * (i * width + (from + j))) ]
+  unfolding loadedWord
+  loaded-at j h =
+      ap₂ (λ (x y : ℕ). elim (getD ms x false) [ true ↦ 0 | false ↦ numberAt m (at + 4 * (x * width + (from + y))) ]) (digits-div i h) (digits-mod i h)
+
+  pub loaded-marked : getD ms i false ≡ true → (j : ℕ) → j < cols → loadedWord m ms at width from cols (i * cols + j) ≡ 0
+  loaded-marked e j h = loaded-at j h ∙ rw e
+
+  pub loaded-kept : getD ms i false ≡ false → (byte : ℕ) → byte ≡ at + 4 * (i * width + from) → (j : ℕ) → j < cols → loadedWord m ms at width from cols (i * cols + j) ≡ rowWord m byte j
+  unfolding rowWord
+  loaded-kept e byte b j h =
+      loaded-at j h ∙ rw e (ap (λ (o : ℕ). numberAt m o) {x = at + 4 * (i * width + (from + j))} {y = byte + 4 * j} (omega arith))
+
+-- THE LOOP over the rows of a stripe whose words are tested: before row i, the rest have to be below p
+pub record RowsLoop (p rows width : ℕ) (f : ℕ → ℕ) (i : ℕ) : Type 0 where
+  pub within : i ≤ rows
+  pub left : areBelow p (drop (i * width) (table (rows * width) f)) ≡ areBelow p (table (rows * width) f)
+
+pub rows-start : (p rows width : ℕ) (f : ℕ → ℕ) → RowsLoop p rows width f 0
+rows-start p rows width f = record { within = omega arith; left = ap (λ (n : ℕ). areBelow p (drop n (table (rows * width) f))) (zero-mul width) }
+
+module _ {p rows width : ℕ} {f : ℕ → ℕ} {i : ℕ} (r : RowsLoop p rows width f i) (h : i < rows) (g : ℕ → ℕ) (e : (j : ℕ) → j < width → f (i * width + j) ≡ g j) where
+  rows-next : (areBelow p (table width g) && areBelow p (drop ((i + 1) * width) (table (rows * width) f))) ≡ areBelow p (table (rows * width) f)
+  rows-next = rw (← row-next i width, ← below-append, ← row-of (rows * width) (i * width) width f g (row-in width h) e) (r .left)
+
+  pub rows-turn : areBelow p (table width g) ≡ true → RowsLoop p rows width f (i + 1)
+  rows-turn t = record { within = omega arith; left = rw t at rows-next }
+
+  pub rows-over : areBelow p (table width g) ≡ false → false ≡ areBelow p (table (rows * width) f)
+  rows-over t = rw t at rows-next
+
+pub rows-end : {p rows width : ℕ} {f : ℕ → ℕ} {i : ℕ} → RowsLoop p rows width f i → rows ≤ i → true ≡ areBelow p (table (rows * width) f)
+unfolding areBelow
+rows-end {p} {rows} {width} {f} {i} r h =
+    let e : i ≡ rows = omega (arith, r .within) in
+    let d : drop (i * width) (table (rows * width) f) ≡ [] = drop-of-length-le (table (rows * width) f) {i = i * width} (rw (e, length-table) (omega arith)) in
+    rw d at (r .left)
+
+-- THE LOOP over the rows of a stripe that are loaded
+pub record LoadLoop (rows cols : ℕ) (f : ℕ → ℕ) (entry part : List ℕ) (i : ℕ) : Type 0 where
+  pub within : i ≤ rows
+  pub same : length part ≡ length entry
+  pub loaded-so : part ≡ table (i * cols) f ++ drop (i * cols) entry
+
+pub load-start : (rows cols : ℕ) (f : ℕ → ℕ) (entry : List ℕ) → LoadLoop rows cols f entry entry 0
+unfolding table
+load-start rows cols f entry = record { within = omega arith; same = refl; loaded-so = sym (rw (zero-mul cols)) }
+
+laid-next : (k m : ℕ) (f g : ℕ → ℕ) (entry : List ℕ) → ((j : ℕ) → j < m → f (k + j) ≡ g j) → laid k m g (table k f ++ drop k entry) ≡ table (k + m) f ++ drop (k + m) entry
+unfolding laid
+laid-next k m f g entry e = rw (take-at (table k f) (drop k entry) k (length-table k f), table-and k m f g e, append-assoc (table k f), behind)
+  where
+    behind : drop (k + m) (table k f ++ drop k entry) ≡ drop (k + m) entry
+    behind = ap (λ (n : ℕ). drop (n + m) (table k f ++ drop k entry)) (sym (length-table k f)) ∙ drop-append-add (table k f) (drop k entry) m ∙ drop-drop m k entry
+
+pub load-turn : {rows cols : ℕ} {f : ℕ → ℕ} {entry part after : List ℕ} {i : ℕ} → LoadLoop rows cols f entry part i → i < rows → rows * cols ≤ length entry
+    → (g : ℕ → ℕ) → ((j : ℕ) → j < cols → f (i * cols + j) ≡ g j) → after ≡ laid (i * cols) cols g part → LoadLoop rows cols f entry after (i + 1)
+load-turn {rows} {cols} {f} {entry} {part} {after} {i} r h fit g e a =
+    let b : i * cols + cols ≤ length entry = omega (arith, row-in cols h) in
+    let t : after ≡ table ((i + 1) * cols) f ++ drop ((i + 1) * cols) entry = rw (a, r .loaded-so, ← row-next i cols) (laid-next (i * cols) cols f g entry e) in
+    let q : (i + 1) * cols ≤ length entry = omega (arith, row-next i cols) in
+    record { within = omega arith; same = ap length t ∙ simp (length-append, length-table, length-drop) (omega arith); loaded-so = t }
+
+pub load-end : {rows cols : ℕ} {f : ℕ → ℕ} {entry part : List ℕ} {i : ℕ} → LoadLoop rows cols f entry part i → rows ≤ i → part ≡ table (rows * cols) f ++ drop (rows * cols) entry
+load-end {rows} {cols} {f} {entry} {part} {i} r h =
+    let e : i ≡ rows = omega (arith, r .within) in
+    rw (← e) (r .loaded-so)
+
+-- A STRIPE's words, loaded whole and by ranges of columns
+module _ (h : Header) (m : List ℕ) (ms : List Bool) (l : ℕ) where
+  -- the words `from` up to `from + cols` of each row
+  abbrev pub range : (from cols : ℕ) → List ℕ
+  range from cols = table (2 ^ suc l * cols) (loadedWord m ms (4 * stripeAt h l) (width h) from cols)
+
+  module _ (from cols : ℕ) (fit : from + cols ≤ width h) where
+    range-word : (i j : ℕ) → j < cols → loadedWord m ms (4 * stripeAt h l) (width h) from cols (i * cols + j) ≡ loadedAt h m ms l (i * width h + (from + j))
+    unfolding loadedAt
+    range-word i j b =
+        let q = i * width h + (from + j) in
+        let d : q / width h ≡ i = digits-div i (omega arith) in
+        let o : 4 * stripeAt h l + 4 * q ≡ 4 * (stripeAt h l + q) = omega arith in
+        loaded-at m ms (4 * stripeAt h l) (width h) from cols i j b
+        ∙ ap₂ (λ (x y : ℕ). elim (getD ms x false) [ true ↦ 0 | false ↦ numberAt m y ]) (sym d) o
+
+    -- word j of row i of the range is word from + j of row i of the stripe
+    pub range-at : (i j : ℕ) → i < 2 ^ suc l → j < cols → getD (range from cols) (i * cols + j) 0 ≡ getD (loaded h m ms l) (i * width h + (from + j)) 0
+    range-at i j a b =
+        getD-table (2 ^ suc l * cols) (i * cols + j) (loadedWord m ms (4 * stripeAt h l) (width h) from cols) (digits-lt a b) ∙ range-word i j b
+        ∙ sym (getD-table (2 ^ suc l * width h) (i * width h + (from + j)) (loadedAt h m ms l) (digits-lt a (omega arith)))
+
+    pub range-column : (j : ℕ) → j < cols → column cols (2 ^ suc l) j (range from cols) ≡ column (width h) (2 ^ suc l) (from + j) (loaded h m ms l)
+    range-column j b =
+        ext-getD 0 (column cols (2 ^ suc l) j (range from cols)) (column (width h) (2 ^ suc l) (from + j) (loaded h m ms l)) (length-column cols (2 ^ suc l) j (range from cols) ∙ sym (length-column (width h) (2 ^ suc l) (from + j) (loaded h m ms l)))
+        (λ i c. let c′ : i < 2 ^ suc l = rw length-column at c in
+        column-at cols (2 ^ suc l) j (range from cols) i c′ ∙ range-at i j c′ b ∙ sym (column-at (width h) (2 ^ suc l) (from + j) (loaded h m ms l) i c′))
+
+    pub range-words : areBelow 65537 (loaded h m ms l) ≡ true → Words 65537 (range from cols)
+    range-words e =
+        let w = below-words 65537 (lit< tt) (loaded h m ms l) e in
+        words-rows 65537 cols (2 ^ suc l) (range from cols) (lit< tt) (length-table (2 ^ suc l * cols) (loadedWord m ms (4 * stripeAt h l) (width h) from cols))
+        (λ i j a b. rw (range-at i j a b) (w .word (i * width h + (from + j))))
+
+  pub range-whole : range 0 (width h) ≡ loaded h m ms l
+  range-whole =
+      rows-ext (width h) (2 ^ suc l) (range 0 (width h)) (loaded h m ms l) (length-table (2 ^ suc l * width h) (loadedWord m ms (4 * stripeAt h l) (width h) 0 (width h)))
+      (length-table (2 ^ suc l * width h) (loadedAt h m ms l)) (λ i j a b. range-at 0 (width h) (omega arith) i j a b ∙ ap (λ (x : ℕ). getD (loaded h m ms l) (i * width h + x) 0) (zero-add j))
+
+-- a stripe lies within the image
+level-in : (a b w : ℕ) → 2 ≤ a → 2 * a ≤ b → (a - 2) * w + a * w ≤ (b - 2) * w
+level-in a b w h e = rw (← add-mul (a - 2) a w) (mul-le-mul-right w (omega arith))
+
+pub stripe-in : (h : Header) (l : ℕ) → l ≤ h .k → stripeAt h l + stripeSize h l ≤ fullSize h + logSize h
+stripe-in h l b = at (decLt l (h .k))
+  where
+    level : l < h .k → levelAt h l + stripeSize h l ≤ logSize h
+    level a =
+        level-in (2 ^ suc l) (2 ^ suc (h .k)) (width h) (omega (arith, pow-mono {i = 1} {j = suc l} (omega arith)))
+        (omega (arith, pow-succ' 2 (suc l), pow-mono {i = suc (suc l)} {j = suc (h .k)} (omega arith)))
+
+    at : Dec (l < h .k) → stripeAt h l + stripeSize h l ≤ fullSize h + logSize h
+    at (yes a) = rw (ne-eqb l (h .k) (λ e. omega arith), stripeAt) (omega (arith, level a))
+    at (no a) =
+        let e : l ≡ h .k = omega arith in
+        rw (e, eq-eqb (h .k) (h .k) refl, stripeAt) (omega arith)
+
+-- the same in bytes, as the calls ask it
+pub stripe-bytes : (h : Header) (l : ℕ) → l ≤ h .k → 4 * stripeAt h l + 4 * (2 ^ suc l * width h) ≤ 4 * (fullSize h + logSize h)
+stripe-bytes h l b = omega (arith, stripe-in h l b)
+
+pub stripe-steps : (h : Header) (l : ℕ) → l ≤ h .k → 4 * stripeAt h l + 2 ^ suc l * (4 * width h) ≤ 4 * (fullSize h + logSize h)
+stripe-steps h l b = omega (arith, stripe-in h l b)

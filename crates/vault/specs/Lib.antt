@@ -1,0 +1,16 @@
+pub mod Header
+pub mod Records
+pub mod Writing
+pub mod Image
+pub mod Erasures
+pub mod Decoding
+pub mod Recovery
+pub mod Calls
+pub mod History
+pub mod Model
+pub mod Round
+pub mod Promises
+pub mod Worked
+pub mod WriteTrace
+pub mod MarkTrace
+pub mod LoadTrace

@@ -1,0 +1,91 @@
+-- The worked examples P1 to P12 of document 01, k = 2 and s = 1, as entries of one table: what a definition gives, and what the document says.
+-- `worked` of proofs/Worked proves that each entry holds. Assumes nothing: these are definitions.
+use mathlib.Core.Path.{_≡_}
+use mathlib.Core.Bool.{Bool, true, false}
+use mathlib.Core.List.{List, [], _∷_, _++_}
+use Prim.Native.Nat.{ℕ, zero, suc}
+use lib.ListN.{replicate}
+use Rattle.field.specs.Field.{fermat, rootOf}
+use Rattle.code.specs.Stripe.{coded}
+use Rattle.code.specs.Decoding.{decodedColumn}
+use Rattle.vault.specs.declared.Header.{Header}
+use Rattle.vault.specs.declared.Recovery.{Recovery}
+use Rattle.vault.specs.Header.{headerOf, firstOf}
+use Rattle.vault.specs.Image.{little, imageOf}
+use Rattle.vault.specs.Calls.{decodeNumber, decodeLeaves, decodeScratch, recoverAnswer, recoverLeaves, recoverScratch}
+use Rattle.vault.specs.History.{Event, write, Vault, numberOn, after, openedVault}
+
+-- an entry: what is given, and what document 01 says
+pub data Table : Type 0 where
+  end : Table
+  entry : (given said : List ℕ) → Table → Table
+
+abbrev pub Holds : Table → Type 0
+Holds end = Unit {0}
+Holds (entry given said rest) = (given ≡ said) × Holds rest
+
+abbrev pub root4 : ℕ
+root4 = rootOf fermat 2
+
+-- zero records just opened, and after some writes
+abbrev pub zeros : ℕ → List ℕ
+zeros n = replicate n 0
+
+abbrev pub opening : Vault
+opening = openedVault 2 1 (zeros 4) (zeros 16) (zeros 12)
+
+abbrev pub image : Vault → List ℕ
+image v = imageOf (v .held .full) (v .held .log)
+
+-- one pair of an erasure list, as bytes
+abbrev pub pair : (offset size : ℕ) → List ℕ
+pair o n = little 4 o ++ little 4 n
+
+-- an image whose level 0 has these words
+abbrev pub levelZero : (words : List ℕ) → List ℕ
+levelZero ws = imageOf (zeros 16) (ws ++ zeros 8)
+
+-- recovery's number, whether it names a stripe, and which; then the output, and the scratch
+abbrev pub flag : Bool → ℕ
+flag true = 1
+flag false = 0
+
+abbrev pub named : Recovery → List ℕ
+named a = a .number ∷ flag (a .named) ∷ a .stripe ∷ []
+
+abbrev pub recovery : Vault → (erasures : List ℕ) → List ℕ
+recovery v e =
+    let h = v .header in
+    named (recoverAnswer h (image v) e (zeros 4) (zeros 24)) ++ recoverLeaves h (image v) e (zeros 4) (zeros 24)
+
+-- stripe 0 decoded at c = 3 from lent buffers of ones: the number, then the output and the scratch
+abbrev pub decoding : (image erasures : List ℕ) → List ℕ
+decoding m e =
+    let h = headerOf 2 1 3 in
+    let o : List ℕ = replicate 8 1 in
+    let s : List ℕ = replicate 24 1 in
+    (decodeNumber h m e 0 o s ∷ []) ++ (decodeLeaves h m e 0 o s ++ decodeScratch h m e 0 o s)
+
+-- whether an erasure list is taken: recovery of zero records just opened gives 3 if it is not
+abbrev pub taken : (erasures : List ℕ) → List ℕ
+taken e = recoverAnswer (opening .header) (image opening) e (zeros 4) (zeros 24) .number ∷ []
+
+abbrev pub table : Table
+table =
+    entry (coded 65537 root4 2 1 0 (1 ∷ 2 ∷ [])) (3 ∷ 65536 ∷ 65026 ∷ 513 ∷ [])
+    (entry (coded 65537 root4 2 0 2 (3 ∷ [])) (3 ∷ 12288 ∷ [])
+    (entry (coded 65537 root4 2 2 0 (1 ∷ 2 ∷ 3 ∷ 4 ∷ [])) (10 ∷ 255 ∷ 65533 ∷ 65280 ∷ 11841 ∷ 16945 ∷ 52674 ∷ 49618 ∷ [])
+    (entry (decodedColumn 65537 root4 2 1 0 (true ∷ true ∷ false ∷ false ∷ []) (0 ∷ 0 ∷ 65026 ∷ 513 ∷ [])) (1 ∷ 2 ∷ [])
+    (entry (firstOf (headerOf 2 1 3) 1 ∷ firstOf (headerOf 2 1 3) 0 ∷ []) (0 ∷ 2 ∷ [])
+    (entry (recovery (after opening (write 0 (1 ∷ []) ∷ write 0 (2 ∷ []) ∷ [])) []) (0 ∷ 0 ∷ 0 ∷ 2 ∷ 0 ∷ 0 ∷ 0 ∷ [])
+    (entry (recovery opening (pair 0 32)) (0 ∷ 0 ∷ 0 ∷ 0 ∷ 0 ∷ 0 ∷ 0 ∷ [])
+    (entry (recovery opening (pair 0 33)) (7 ∷ 1 ∷ 2 ∷ 0 ∷ 0 ∷ 0 ∷ 0 ∷ [])
+    (entry (taken (pair 0 8 ++ pair 9 8)) (0 ∷ [])
+    (entry (taken (pair 0 8 ++ pair 8 8)) (3 ∷ [])
+    (entry (taken (pair 104 8)) (0 ∷ [])
+    (entry (taken (pair 104 9)) (3 ∷ [])
+    (entry (decoding (levelZero (2 ∷ 3 ∷ 8192 ∷ 12289 ∷ [])) []) (9 ∷ zeros 32)
+    (entry (decoding (levelZero (4 ∷ 3 ∷ 16384 ∷ 12288 ∷ [])) []) (10 ∷ zeros 32)
+    (entry (numberOn opening (write 0 (65535 ∷ [])) ∷ []) (0 ∷ [])
+    (entry (numberOn opening (write 0 (65536 ∷ [])) ∷ []) (5 ∷ [])
+    end)))))))))))))))
