@@ -10,11 +10,11 @@ pub mod Halves
 pub mod Histories
 pub mod ImageWords
 pub mod Laying
-pub mod LevelRebuilding
 pub mod Levels
 pub mod Loading
 pub mod Marking
 pub mod Rebuilding
+pub mod RebuiltLog
 pub mod Records
 pub mod RoundDecoding
 pub mod RoundRecovery

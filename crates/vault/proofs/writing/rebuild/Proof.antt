@@ -1,4 +1,4 @@
--- `vault::writing::rebuild` meets its contract, by the steps of proofs/Rebuilding. Assumes nothing.
+-- `vault::writing::rebuild` meets its contract, by the steps of proofs/RebuiltLog. Assumes nothing.
 use mathlib.Core.Path.{_≡_, sym, ap, ap₂, _∙_}
 use mathlib.Core.List.{List, _∷_}
 use Prim.Native.Nat.{ℕ, suc, _-_, _≤_, _<_}
@@ -17,7 +17,7 @@ use Rattle.vault.specs.WriteTrace.{halfStart, gathered, folded}
 use Rattle.vault.proofs.Bounds.{Fits, fits}
 use Rattle.vault.proofs.Folding.{length-folded}
 use Rattle.vault.proofs.Gathering.{level-within}
-use Rattle.vault.proofs.LevelRebuilding.{Places, places, Halves, gathered-halves, words-gathered, lent-x, put-x, lent-y, put-y, front-long, place-in, length-log, cleared, scaled-one, rebuilt-half, finished}
+use Rattle.vault.proofs.RebuiltLog.{Places, places, Halves, gathered-halves, words-gathered, lent-x, put-x, lent-y, put-y, front-long, place-in, length-log, cleared, scaled-one, rebuilt-half, finished}
 use borrow.Author.Needs.{needs}
 use Rattle.vault.proofs.writing.rebuild.Statement.{statement}
 use Rattle.vault.proofs.writing.rebuild.Tie as tie
