@@ -10,6 +10,7 @@ use lib.ListN.{length, take, drop, length-append, length-drop, take-append-drop}
 use lib.Seq.{length-take-le, take-at, drop-at, take-add, drop-drop, take-append-add, drop-append-add, take-length, drop-length}
 use borrow.Rule.Slice.PartMut.{putMid, mid-len}
 use Rattle.field.specs.Words.{Words}
+use Rattle.field.proofs.Unity.{two-div}
 use Rattle.field.proofs.WordLists.{words-take, words-drop, words-part, words-append}
 use Rattle.code.specs.Rows.{column, lifted}
 use Rattle.code.specs.Transform.{mixedHalves, unmixed}
@@ -190,9 +191,7 @@ pub pow-down : {n l : ℕ} → l < n → 2 ^ (n - l) ≡ 2 ^ (n - suc l) * 2
 pow-down {n} {l} h = ap (λ (i : ℕ). 2 ^ i) {x = n - l} {y = suc (n - suc l)} (omega arith) ∙ pow-suc 2 (n - suc l)
 
 pub pow-over : {n l : ℕ} → l ≤ n → 2 ^ n / 2 ^ l ≡ 2 ^ (n - l)
-pow-over {n} {l} h =
-    let e : 2 ^ n ≡ 2 ^ (n - l) * 2 ^ l = ap (λ (i : ℕ). 2 ^ i) {x = n} {y = n - l + l} (omega arith) ∙ pow-add 2 (n - l) l in
-    rw e (shl-shr (2 ^ (n - l)) l)
+pow-over {n} {l} h = two-div n l h
 
 -- A LEVEL of a half of 2 ^ level rows: b blocks of m + m rows, where m is 2 ^ l
 pub record Level (width level l len b m : ℕ) : Type 0 where

@@ -13,13 +13,13 @@ use lib.Seq.{getD-set-same, getD-set-other, getD-take, getD-drop, length-take-le
 use Rattle.field.specs.Residue.{plus, minus, times}
 use Rattle.field.specs.Power.{power}
 use Rattle.field.specs.Words.{Words}
-use Rattle.field.proofs.Laws.{times-comm}
+use Rattle.field.proofs.Laws.{plus-lt, minus-lt, times-lt, times-comm}
 use Rattle.field.proofs.Powers.{power-zero, power-suc, power-lt}
 use Rattle.field.proofs.WordLists.{words-set}
 use Rattle.code.specs.Rows.{column, lifted}
 use Rattle.code.specs.Transform.{mixedHalves, unmixed}
 use Rattle.code.specs.MixTrace.{Crossing, mixing, unmixing, crossed, crossedRow}
-use Rattle.code.proofs.Shapes.{plus-lt, minus-lt, times-lt, mixed-low, mixed-high, unmixed-low, unmixed-high}
+use Rattle.code.proofs.Shapes.{mixed-low, mixed-high, unmixed-low, unmixed-high}
 use Rattle.code.proofs.Lifting.{column-at, length-column, is-lifted}
 
 -- both words stored are words of the field
@@ -176,7 +176,7 @@ mixing-crosses v m = record { low-at = low; high-at = high }
         → getD (mixedHalves 65537 v m a) (m + i) 0 ≡ minus 65537 (getD a i 0) (times 65537 (power 65537 v i) (getD a (m + i) 0))
     high a i e h =
         let t : length (take m a) ≡ m = length-take-le m a (omega arith) in
-        ap (λ (n : ℕ). getD (mixedHalves 65537 v m a) (n + i) 0) (sym t) ∙ mixed-high 65537 v (take m a) (drop m a) i (omega arith) ∙ rw (getD-take m a i 0 h, getD-drop m a i 0)
+        mixed-high 65537 v m (take m a) (drop m a) i t h ∙ rw (getD-take m a i 0 h, getD-drop m a i 0)
 
 pub unmixing-crosses : (v m : ℕ) → Crosses (unmixing 65537) v m (unmixed 65537 v m)
 unmixing-crosses v m = record { low-at = λ a i e h. unmixed-low 65537 v m a i h; high-at = λ a i e h. unmixed-high 65537 v m a i h }

@@ -15,45 +15,29 @@ use Rattle.code.specs.Decoder.{erasedCount, weights, weighed, split, der
 use Rattle.code.specs.DecodeTrace.{allTo, sameAt, lowRowAt, lowRows}
 use Rattle.code.specs.Promises.{Stripe, Column, Enough}
 use Rattle.code.proofs.Lifting.{length-column, column-at, words-column, column-lifted, lifted-same, lifted-then, words-lifted}
-use Rattle.code.proofs.Values.{valuesX, valuesY, points-distinct}
-use Rattle.code.proofs.Inverse.{untransforms, transforms, unscales}
 use Rattle.code.proofs.Columns.{findsColumn, foundColumn}
-use Rattle.code.proofs.BlockDecoding.{each-consistent}
+use Rattle.code.proofs.BlockDecoding.{consistent-all, each-consistent}
+use Rattle.code.proofs.Folding.{low-all}
 use Rattle.code.proofs.Decoder.{solves, low}
 use Rattle.code.proofs.DecoderShapes.{length-weighed, length-split, length-derived, length-evaluated, length-chosen, words-weighed, words-split, words-derived, words-evaluated, words-chosen}
-use Rattle.code.proofs.DecodeTraces.{allTo-same, allTo-swap, or-allTo}
+use Rattle.code.proofs.Tests.{same-truth, allTo-same, allTo-swap, or-allTo}
 
 -- A COLUMN passes the check where it is consistent, and what is solved is then what is decoded
-same-truth : (a b : Bool) → (a ≡ true → b ≡ true) → (b ≡ true → a ≡ true) → a ≡ b
-same-truth true b f g = sym (f refl)
-same-truth false true f g = g refl
-same-truth false false f g = refl
-
 module _ (p w k l t : ℕ) (ms : List Bool) (stripe : Stripe p w k l t) (enough : Enough l ms) (c : List ℕ) (C : Column p (2 ^ suc l) c) where
   low-finds : isLowColumn p w k l t ms c ≡ true → consistentColumn p w k l t ms c ≡ true
   low-finds e =
-      let x = low valuesX valuesY points-distinct untransforms transforms unscales p w k l t ms c stripe enough C e in
+      let x = low p w k l t ms c stripe enough C e in
       findsColumn p w k l t ms c (x .0) stripe enough (x .1) (x .2) .0
 
   found-solves : consistentColumn p w k l t ms c ≡ true → (isLowColumn p w k l t ms c ≡ true) × (solvedColumn p w k l t ms c ≡ decodedColumn p w k l t ms c)
   found-solves e =
       let x = foundColumn p w k l t ms c stripe enough C e in
-      solves valuesX valuesY points-distinct untransforms transforms unscales p w k l t ms c (decodedColumn p w k l t ms c) stripe enough C (x .0) (x .1)
+      solves p w k l t ms c (decodedColumn p w k l t ms c) stripe enough (x .0) (x .1)
 
   low-consistent : isLowColumn p w k l t ms c ≡ consistentColumn p w k l t ms c
   low-consistent = same-truth (isLowColumn p w k l t ms c) (consistentColumn p w k l t ms c) low-finds (λ e. found-solves e .0)
 
 -- THE TEST OF ROWS is that of each column
-low-all : (l e n : ℕ) (c : List ℕ) → lowTo l e c n ≡ allTo n (λ i. ltb (reversed l i) e || eqb (getD c i 0) (getD c (2 ^ l + i) 0))
-unfolding lowTo allTo
-low-all l e zero c = refl
-low-all l e (suc n) c = ap (λ (b : Bool). (ltb (reversed l n) e || eqb (getD c n 0) (getD c (2 ^ l + n) 0)) && b) (low-all l e n c)
-
-consistent-all : (p w k l t width : ℕ) (ms : List Bool) (r : List ℕ) (n : ℕ) → consistentTo p w k l t width ms r n ≡ allTo n (λ j. consistentColumn p w k l t ms (column width (2 ^ suc l) j r))
-unfolding consistentTo allTo
-consistent-all p w k l t width ms r zero = refl
-consistent-all p w k l t width ms r (suc n) = ap (λ (b : Bool). consistentColumn p w k l t ms (column width (2 ^ suc l) n r) && b) (consistent-all p w k l t width ms r n)
-
 low-columns : (l e width : ℕ) (r : List ℕ) → lowRows l e width r ≡ allTo width (λ j. isLow l e (column width (2 ^ suc l) j r))
 unfolding lowRowAt sameAt
 low-columns l e width r =
@@ -162,7 +146,7 @@ module _ (p w k l t : ℕ) (ms : List Bool) where
     unfolding decodedRows
     solved-is e h =
         e ∙ lifted-same width (2 ^ suc l) (2 ^ l) (solvedColumn p w k l t ms) (decodedColumn p w k l t ms) r
-        (λ j b. found-solves p w k l t ms stripe enough (column width (2 ^ suc l) j r) (column-of j) (each-consistent p w k l t width ms r width j b h) .1)
+        (λ j b. found-solves p w k l t ms stripe enough (column width (2 ^ suc l) j r) (column-of j) (each-consistent p w k l t width ms r h j b) .1)
 
 -- what decoding leaves, by the check
 module _ (p w k l t width : ℕ) (ms : List Bool) (r : List ℕ) where

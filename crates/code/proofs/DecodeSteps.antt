@@ -17,6 +17,7 @@ use Rattle.code.specs.Transform.{reversed}
 use Rattle.code.specs.Rows.{column, lifted}
 use Rattle.code.specs.Decoder.{halfOf, derivedAt, derived, divisorAt, chosenAt, chosen, weighedAt, weighed}
 use Rattle.code.specs.RowTrace.{stored}
+use Rattle.code.proofs.Tests.{choice-lt}
 use Rattle.code.proofs.Lifting.{length-column, column-at, is-lifted, lifted-append}
 use Rattle.code.proofs.DecoderShapes.{derived-low, derived-high, chosen-at, weighed-at}
 use Rattle.code.proofs.RowLaws.{length-stored, stored-before, stored-at, stored-is, scaledRowsWord, scaleRows}
@@ -93,11 +94,7 @@ weightOr ms ws i = elim (getD ms i false) [ true ↦ 0 | false ↦ getD ws i 0 ]
 
 pub weightOr-lt : (p : ℕ) → 0 < p → (ms : List Bool) {ws : List ℕ} → Words p ws → (i : ℕ) → weightOr ms ws i < p
 unfolding weightOr
-weightOr-lt p z ms {ws} w i = marked (getD ms i false)
-  where
-    marked : (m : Bool) → elim m [ true ↦ 0 | false ↦ getD ws i 0 ] < p
-    marked true = z
-    marked false = w .word i
+weightOr-lt p z ms w i = choice-lt (getD ms i false) z (w .word i)
 
 module _ (p : ℕ) (z : 0 < p) (l width : ℕ) (ms : List Bool) (part : List ℕ) (long : 2 ^ suc l * width ≤ length part) where
   weigh-word : (i j : ℕ) → i < 2 ^ suc l → j < width

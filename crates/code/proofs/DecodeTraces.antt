@@ -1,4 +1,4 @@
--- Laws of loops that store a row a turn, and of tests of rows (`allTo` of specs/DecodeTrace). Assumes nothing.
+-- Laws of loops that store a row a turn. Assumes nothing.
 use mathlib.Core.Path.{_≡_, refl, sym, ap, ap₂, _∙_}
 use mathlib.Core.Bool.{Bool, true, false, _&&_, _||_}
 use mathlib.Core.List.{List}
@@ -46,45 +46,3 @@ pub table-lifted : (width n m : ℕ) (f : List ℕ → List ℕ) (g : ℕ → �
     → ((i j : ℕ) → i < m → j < width → g (i * width + j) ≡ getD (f (column width n j l)) i 0) → table (m * width) g ≡ lifted width n m f l
 table-lifted width n m f g l e =
     is-lifted width n m f l (table (m * width) g) (length-table (m * width) g) (λ i j h b. getD-table (m * width) (i * width + j) g (digits-lt h b) ∙ e i j h b)
-
-and-false : (b : Bool) → b && false ≡ false
-and-false true = refl
-and-false false = refl
-
--- a test that fails once fails, and tests that agree
-pub allTo-false : (n i : ℕ) (f : ℕ → Bool) → i < n → f i ≡ false → allTo n f ≡ false
-unfolding allTo
-allTo-false zero i f h e = absurd (omega arith)
-allTo-false (suc n) i f h e =
-    let le : i ≤ n = omega arith in
-    ⊎-elim (λ s. ap (λ (b : Bool). b && allTo n f) (ap f (sym s) ∙ e)) (λ t. ap (λ (b : Bool). f n && b) (allTo-false n i f t e) ∙ and-false (f n)) (eq-or-lt-of-le le)
-
-pub allTo-same : (n : ℕ) (f g : ℕ → Bool) → ((i : ℕ) → i < n → f i ≡ g i) → allTo n f ≡ allTo n g
-unfolding allTo
-allTo-same zero f g e = refl
-allTo-same (suc n) f g e = ap₂ _&&_ (e n (omega arith)) (allTo-same n f g (λ i h. e i (omega arith)))
-
--- n times m tests, by rows or by columns
-allTo-true : (n : ℕ) → allTo n (λ j. true) ≡ true
-unfolding allTo
-allTo-true zero = refl
-allTo-true (suc n) = allTo-true n
-
-and-medial : (a b c d : Bool) → (a && b) && (c && d) ≡ (a && c) && (b && d)
-and-medial true true c d = refl
-and-medial true false c d = sym (and-false c)
-and-medial false b c d = refl
-
-allTo-and : (n : ℕ) (f g : ℕ → Bool) → allTo n f && allTo n g ≡ allTo n (λ j. f j && g j)
-unfolding allTo
-allTo-and zero f g = refl
-allTo-and (suc n) f g = and-medial (f n) (allTo n f) (g n) (allTo n g) ∙ ap (λ (b : Bool). f n && g n && b) (allTo-and n f g)
-
-pub allTo-swap : (n m : ℕ) (f : ℕ → ℕ → Bool) → allTo n (λ i. allTo m (f i)) ≡ allTo m (λ j. allTo n (λ i. f i j))
-unfolding allTo
-allTo-swap zero m f = sym (allTo-true m)
-allTo-swap (suc n) m f = ap (λ (b : Bool). allTo m (f n) && b) (allTo-swap n m f) ∙ allTo-and m (f n) (λ j. allTo n (λ i. f i j))
-
-pub or-allTo : (b : Bool) (n : ℕ) (f : ℕ → Bool) → b || allTo n f ≡ allTo n (λ j. b || f j)
-or-allTo true n f = sym (allTo-true n)
-or-allTo false n f = refl

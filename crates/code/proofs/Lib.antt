@@ -20,6 +20,7 @@ pub mod Proved
 pub mod RowLaws
 pub mod Shapes
 pub mod Survivors
+pub mod Tests
 pub mod Values
 pub mod WeightLaws
 pub mod Worked

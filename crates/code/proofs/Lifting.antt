@@ -196,3 +196,16 @@ lifted-append width n m n′ m′ f g a b e keeps =
 
     long : length (lifted width n m f a ++ lifted width n′ m′ g b) ≡ (m + m′) * width
     long = simp (length-append, length-lifted) (sym (add-mul m m′ width))
+
+-- f and g done to the same rows, what f gives first
+pub lifted-both : (width n m m′ : ℕ) (f g : List ℕ → List ℕ) (l : List ℕ) → length l ≡ n * width → ((c : List ℕ) → length c ≡ n → length (f c) ≡ m)
+    → lifted width n (m + m′) (λ c. f c ++ g c) l ≡ lifted width n m f l ++ lifted width n m′ g l
+lifted-both width n m m′ f g l e keeps =
+    sym (lifted-append width n m n m′ f g l l e keeps
+    ∙ is-lifted width n (m + m′) (λ c. f c ++ g c) l (lifted width (n + n) (m + m′) (λ c. f (take n c) ++ g (drop n c)) (l ++ l)) (length-lifted width (n + n) (m + m′) (λ c. f (take n c) ++ g (drop n c)) (l ++ l))
+    (λ i j h t. lifted-at width (n + n) (m + m′) (λ c. f (take n c) ++ g (drop n c)) (l ++ l) i j h t ∙ at i j t))
+  where
+    at : (i j : ℕ) → j < width → getD (f (take n (column width (n + n) j (l ++ l))) ++ g (drop n (column width (n + n) j (l ++ l)))) i 0 ≡ getD (f (column width n j l) ++ g (column width n j l)) i 0
+    at i j t =
+        let c = column width n j l in
+        rw (column-append width n n j l l t e, take-at c c n (length-column width n j l), drop-at c c n (length-column width n j l))

@@ -1,5 +1,5 @@
 -- Laws of specs/RowTrace: the length of what is stored, its words, and the words around it, and the loops that store. Rows that are scaled one after the
--- other; a list in two parts that are lent; two functions done to the same rows. Assumes nothing.
+-- other; a list in two parts that are lent. Assumes nothing.
 use mathlib.Core.Path.{_≡_, refl, sym, ap, ap₂, _∙_}
 use mathlib.Core.Logic.{⊎-elim, _≢_}
 use mathlib.Core.Bool.{true, false}
@@ -16,11 +16,9 @@ use lib.Arith.{digits-div, digits-lt}
 use lib.Dec.{eqb}
 use Rattle.field.specs.Residue.{minus, times}
 use Rattle.field.specs.Words.{Words, table}
+use Rattle.field.proofs.Laws.{times-lt}
 use Rattle.field.proofs.WordLists.{words-set, length-table, getD-table, is-table}
-use Rattle.code.specs.Rows.{column, lifted}
 use Rattle.code.specs.RowTrace.{stored, scaledWord, scaleRow, weighedBy}
-use Rattle.code.proofs.Shapes.{times-lt}
-use Rattle.code.proofs.Lifting.{length-column, length-lifted, lifted-at, is-lifted, column-append, lifted-append}
 
 pub length-stored : (a : ℕ) (f : ℕ → ℕ) (n : ℕ) (l : List ℕ) → length (stored a f n l) ≡ length l
 unfolding stored
@@ -227,7 +225,7 @@ module _ {n : ℕ} {l a b : List ℕ} (h : Parts n l a b) where
   pub length-parts : length l ≡ n + length b
   length-parts = ap length (h .is) ∙ length-append a b ∙ ap (λ (m : ℕ). m + length b) (h .long)
 
-  rest-is : drop n l ≡ b
+  pub rest-is : drop n l ≡ b
   rest-is = ap (drop n) (h .is) ∙ drop-at a b n (h .long)
 
   pub lent-front : take n l ≡ a
@@ -244,16 +242,3 @@ module _ {n : ℕ} {l a b : List ℕ} (h : Parts n l a b) where
     is = ap₂ (λ (y z : List ℕ). y ++ (x ++ z)) lent-front (ap (drop (length l - n)) rest-is ∙ drop-of-length-le b {i = length l - n} (omega (arith, length-parts))) ∙ ap (λ (r : List ℕ). a ++ r) (append-nil x);
     long = h .long;
   }
-
--- f and g done to the same rows, what f gives first
-pub lifted-both : (width n m m′ : ℕ) (f g : List ℕ → List ℕ) (l : List ℕ) → length l ≡ n * width → ((c : List ℕ) → length c ≡ n → length (f c) ≡ m)
-    → lifted width n (m + m′) (λ c. f c ++ g c) l ≡ lifted width n m f l ++ lifted width n m′ g l
-lifted-both width n m m′ f g l e keeps =
-    sym (lifted-append width n m n m′ f g l l e keeps
-    ∙ is-lifted width n (m + m′) (λ c. f c ++ g c) l (lifted width (n + n) (m + m′) (λ c. f (take n c) ++ g (drop n c)) (l ++ l)) (length-lifted width (n + n) (m + m′) (λ c. f (take n c) ++ g (drop n c)) (l ++ l))
-    (λ i j h t. lifted-at width (n + n) (m + m′) (λ c. f (take n c) ++ g (drop n c)) (l ++ l) i j h t ∙ at i j t))
-  where
-    at : (i j : ℕ) → j < width → getD (f (take n (column width (n + n) j (l ++ l))) ++ g (drop n (column width (n + n) j (l ++ l)))) i 0 ≡ getD (f (column width n j l) ++ g (column width n j l)) i 0
-    at i j t =
-        let c = column width n j l in
-        rw (column-append width n n j l l t e, take-at c c n (length-column width n j l), drop-at c c n (length-column width n j l))

@@ -12,7 +12,7 @@ use Rattle.field.proofs.Ring.{v, _⊕_, _⊖_, _⊗_, ring}
 use Rattle.field.proofs.Laws.{times-assoc, times-comm, times-one, times-zero}
 use Rattle.field.specs.Power.{power, inverse}
 use Rattle.field.specs.Field.{Prime}
-use Rattle.field.proofs.Powers.{power-lt, power-suc, power-add, power-mul, power-of-one, times-lt}
+use Rattle.field.proofs.Powers.{power-lt, power-suc, power-add, power-mul, power-of-one}
 use Rattle.field.proofs.Pigeonhole.{onto}
 
 -- g has the order d: its power at d is 1, and at no proper divisor of d

@@ -1,11 +1,24 @@
--- The laws of a commutative ring modulo p, each by `ring`.
+-- The laws of a commutative ring modulo p, each by `ring`, and that sums, differences and products are below p. Assumes nothing.
 use mathlib.Core.Path.{_≡_, refl, sym, ap, _∙_}
 use Prim.Native.Nat.{ℕ, zero, suc, _+_, _*_, _%_, _≤_, _<_}
+use native.Mathlib.Nat.{mod-lt}
 use native.Mathlib.Omega.{arith}
 use Rattle.field.specs.Residue.{plus, minus, times}
 use Rattle.field.proofs.Ring.{v, _⊕_, _⊖_, _⊗_, ring}
 
 module _ (p : ℕ) (h : 0 < p) where
+  pub plus-lt : (x y : ℕ) → plus p x y < p
+  unfolding plus
+  plus-lt x y = mod-lt (x + y) h
+
+  pub minus-lt : (x y : ℕ) → minus p x y < p
+  unfolding minus
+  minus-lt x y = mod-lt _ h
+
+  pub times-lt : (x y : ℕ) → times p x y < p
+  unfolding times
+  times-lt x y = mod-lt (x * y) h
+
   pub plus-comm : (x y : ℕ) → plus p x y ≡ plus p y x
   plus-comm x y = ring p h (v x ⊕ v y) (v y ⊕ v x) h h (omega arith)
 
@@ -38,10 +51,3 @@ module _ (p : ℕ) (h : 0 < p) where
 
   pub plus-minus : (x y : ℕ) → x < p → minus p (plus p x y) y ≡ x
   plus-minus x y b = ring p h (v x ⊕ v y ⊖ v y) (v x) h b (omega arith)
-
-  -- larger ones
-  pub squares : (x y : ℕ) → times p (plus p x y) (minus p x y) ≡ minus p (times p x x) (times p y y)
-  squares x y = ring p h ((v x ⊕ v y) ⊗ (v x ⊖ v y)) (v x ⊗ v x ⊖ v y ⊗ v y) h h (omega arith)
-
-  pub butterfly : (a b w x : ℕ) → plus p (plus p a (times p w b)) (times p (minus p a (times p w b)) x) ≡ minus p (plus p (times p a (plus p 1 x)) (times p w b)) (times p (times p w b) x)
-  butterfly a b w x = ring p h (v a ⊕ v w ⊗ v b ⊕ (v a ⊖ v w ⊗ v b) ⊗ v x) (v a ⊗ (v 1 ⊕ v x) ⊕ v w ⊗ v b ⊖ v w ⊗ v b ⊗ v x) h h (omega arith)

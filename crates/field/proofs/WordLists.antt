@@ -1,6 +1,6 @@
 -- Laws of `Words` and `table` of specs/Words, over any modulus p > 0. Assumes nothing.
 use mathlib.Core.Path.{_≡_, refl, sym, ap, _∙_, subst}
-use mathlib.Core.List.{List, [], _∷_, _++_}
+use mathlib.Core.List.{List, [], _∷_, _++_, map}
 use mathlib.Core.Bool.{Bool, true, false, cond}
 use Prim.Native.Nat.{ℕ, zero, suc, _+_, _-_, _*_, _≤_, _<_}
 use native.Mathlib.Decide.{decLt}
@@ -89,8 +89,18 @@ module _ (p : ℕ) (h : 0 < p) where
   pub words-tested : (l : List ℕ) → T (areWords l) → Words p l
   words-tested l t = record { word = word-tested l t }
 
+pub words-map : (p : ℕ) → 0 < p → (f : ℕ → ℕ) (s : List ℕ) → ((k : ℕ) → k < length s → f (getD s k 0) < p) → Words p (map f s)
+words-map p h f [] b = words-nil p h
+words-map p h f (x ∷ s) b = words-cons p h (b 0 (omega arith)) (words-map p h f s (λ k l. b (suc k) (omega arith)))
+
 pub words-tail : {p x : ℕ} {l : List ℕ} → Words p (x ∷ l) → Words p l
 words-tail w = record { word = λ k. w .word (suc k) }
+
+-- a function of each element
+pub getD-map : (f : ℕ → ℕ) (s : List ℕ) (k : ℕ) → k < length s → getD (map f s) k 0 ≡ f (getD s k 0)
+getD-map f [] k b = absurd (omega arith)
+getD-map f (x ∷ s) zero b = refl
+getD-map f (x ∷ s) (suc k) b = getD-map f s k (omega arith)
 
 -- a table's length and its elements
 pub length-table : (n : ℕ) (f : ℕ → ℕ) → length (table n f) ≡ n

@@ -7,7 +7,8 @@ use borrow.Author.Needs.{needs}
 use lib.Dec.{lit<}
 use Rattle.field.specs.Residue.{times}
 use Rattle.field.specs.Power as Power
-use Rattle.field.proofs.Powers.{times-lt, loop-start, loop-odd, loop-even, loop-end}
+use Rattle.field.proofs.Laws.{times-lt}
+use Rattle.field.proofs.Powers.{loop-start, loop-odd, loop-even, loop-end}
 use Rattle.field.proofs.power.Statement.{statement}
 use Rattle.field.proofs.power.Tie as tie
 

@@ -21,8 +21,8 @@ use Rattle.code.specs.Rows.{lifted}
 use Rattle.code.specs.Decoding.{pointAt}
 use Rattle.code.specs.Decoder.{divisorAt, chosen}
 use Rattle.code.specs.RowTrace.{stored, scaledWord}
-use Rattle.code.proofs.Shapes.{times-lt}
-use Rattle.code.proofs.DecoderShapes.{inverse-lt}
+use Rattle.field.proofs.Laws.{times-lt}
+use Rattle.field.proofs.Powers.{inverse-lt}
 use Rattle.code.proofs.Crossing.{row-in}
 use Rattle.code.proofs.RowLaws.{Storing, storing-start, storing-rest}
 use Rattle.code.proofs.DecodeTraces.{storing-words, storing-row, two-halves, row-next}

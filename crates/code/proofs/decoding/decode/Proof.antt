@@ -20,7 +20,7 @@ use Rattle.code.specs.DecodeTrace.{lowRows}
 use Rattle.code.specs.Promises.{Stripe}
 use Rattle.code.proofs.Lifting.{length-lifted}
 use Rattle.code.proofs.RowLaws.{Parts, length-parts, lent-front, put-front}
-use Rattle.code.proofs.DecoderShapes.{inverse-lt}
+use Rattle.field.proofs.Powers.{inverse-lt}
 use Rattle.code.proofs.DecodeTraces.{two-halves}
 use Rattle.code.proofs.DecodeRows.{weighedColumn, derivedColumn, evaluatedColumn, chosenColumn, split-more, derive-more, evaluate-more, choose-more, solve-more, weighed-words, split-words, derived-words, evaluated-words, chosen-words, check-is, solved-is, leaves-blocks, leaves-zeros}
 use Rattle.code.proofs.decoding.decode.Statement.{statement}

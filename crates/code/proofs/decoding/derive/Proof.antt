@@ -15,7 +15,8 @@ use Rattle.code.specs.Rows.{lifted}
 use Rattle.code.specs.Decoder.{halfOf, derived}
 use Rattle.code.specs.RowTrace.{stored}
 use Rattle.code.specs.DecodeTrace.{deriveAt}
-use Rattle.code.proofs.Shapes.{plus-lt, minus-lt, times-lt, reversed-lt}
+use Rattle.field.proofs.Laws.{plus-lt, minus-lt, times-lt}
+use Rattle.code.proofs.Shapes.{reversed-lt}
 use Rattle.code.proofs.Crossing.{row-in}
 use Rattle.code.proofs.RowLaws.{Storing, storing-start, storing-front, storing-rest}
 use Rattle.code.proofs.DecodeTraces.{storing-words, storing-row, two-halves, row-next}

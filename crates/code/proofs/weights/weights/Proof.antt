@@ -16,7 +16,8 @@ use Rattle.code.specs.Decoding.{pointAt}
 use Rattle.code.specs.Decoder.{weightTo}
 use Rattle.code.specs.RowTrace.{weighedBy}
 use Rattle.code.proofs.RowLaws.{replicate-table, weighedBy-own, weighedBy-other}
-use Rattle.code.proofs.WeightLaws.{weight-same, weight-more, words-points, words-weights}
+use Rattle.code.proofs.Points.{words-points}
+use Rattle.code.proofs.WeightLaws.{weight-survivor, weight-own, weight-other, words-weights}
 use Rattle.code.proofs.weights.weights.Statement.{statement}
 use Rattle.code.proofs.weights.weights.Tie as tie
 
@@ -98,14 +99,11 @@ module _ {front : List ℕ} {marks : List Bool} {level k root count base : ℕ} 
   multiplied : getD marks j false ≡ true → (i : ℕ) → i < count → weighedBy 65537 base j part i ≡ weightTo 65537 root k level marks i (suc j)
   multiplied m i t = by (eqb j i) refl
     where
-      test : (x : Bool) → eqb j i ≡ x → getD marks j false && not (eqb j i) ≡ not x
-      test x e = rw (m, e)
-
       by : (x : Bool) → eqb j i ≡ x → weighedBy 65537 base j part i ≡ weightTo 65537 root k level marks i (suc j)
-      by true e = weighedBy-own 65537 base j part i e ∙ weight-is i t ∙ sym (weight-same 65537 (lit< tt) root k level marks i j (test true e))
+      by true e = weighedBy-own 65537 base j part i e ∙ weight-is i t ∙ sym (weight-own 65537 root k level marks i j e)
       by false e =
           weighedBy-other 65537 base j part i e ∙ ap₂ (times 65537) (weight-is i t) (ap₂ (minus 65537) (point-is i t) (point-is j b))
-          ∙ sym (weight-more 65537 (lit< tt) root k level marks i j (test false e))
+          ∙ sym (weight-other 65537 root k level marks i j m e)
 
   keeps : (l : List ℕ) → l ≡ front ++ weightsTo root k level marks count (suc j) → Inv front marks level k root count base l (j + 1)
   keeps l e = record {
@@ -125,13 +123,13 @@ module _ {front : List ℕ} {marks : List Bool} {level k root count base : ℕ} 
   not-erased : {l : List ℕ} → getD marks j false ≡ false → l ≡ part → Inv front marks level k root count base l (j + 1)
   not-erased {l} m e =
       keeps l
-      (e ∙ h .now ∙ ap (λ (r : List ℕ). front ++ r) (same-table count W (λ i. weightTo 65537 root k level marks i (suc j)) (λ i t. sym (weight-same 65537 (lit< tt) root k level marks i j (rw m)))))
+      (e ∙ h .now ∙ ap (λ (r : List ℕ). front ++ r) (same-table count W (λ i. weightTo 65537 root k level marks i (suc j)) (λ i t. sym (weight-survivor 65537 root k level marks i j m))))
 
   -- the points and the weights are words
   points-words : Words 65537 (take count part)
   points-words =
       let e : take count part ≡ table count P = ap (take count) (h .now) ∙ take-append-le count front (table count W) (omega (arith, h .long, h .low)) ∙ h .starts in
-      rw e (words-points 65537 (lit< tt) root k level count)
+      rw e (words-points 65537 root k level (lit< tt) count)
 
   weights-words : Words 65537 (drop base part)
   weights-words =
