@@ -1,10 +1,10 @@
 -- Decoding of blocks follows from decoding of columns: `FindsBlocks` and `FoundBlocks` of specs/Promises. Assumes nothing.
 use mathlib.Core.Path.{_≡_, refl, sym, ap, _∙_}
 use mathlib.Core.Bool.{Bool, true, _&&_}
-use mathlib.Core.List.{List, [], _∷_}
-use Prim.Native.Nat.{ℕ, zero, suc, _+_, _*_, _^_, _≤_, _<_}
+use mathlib.Core.List.{List}
+use Prim.Native.Nat.{ℕ, zero, suc, _*_, _^_, _<_}
 use native.Mathlib.Omega.{arith}
-use lib.ListN.{length, getD}
+use lib.ListN.{getD}
 use Rattle.code.specs.Rows.{column, lifted}
 use Rattle.code.specs.Stripe.{coded, codedRows}
 use Rattle.code.specs.Decoding.{decodedColumn, consistentColumn, consistentTo, consistent, decodedRows}

@@ -5,7 +5,7 @@ use Prim.Native.Nat.{ℕ, zero, suc, _+_, _-_, _*_, _/_, _^_, _≤_, _<_}
 use native.Mathlib.Nat.{add-mul, add-assoc, zero-add, zero-mul, one-mul, mul-assoc, mul-comm, pow-suc, le-mul-of-pos-right}
 use native.Mathlib.Numerals.{add-one}
 use native.Mathlib.Omega.{arith}
-use lib.Pow.{pow-pos, pow-mono, pow-add, shl-shr}
+use lib.Pow.{pow-pos, pow-mono, pow-add}
 use lib.ListN.{length, take, drop, length-append, length-drop, take-append-drop}
 use lib.Seq.{length-take-le, take-at, drop-at, take-add, drop-drop, take-append-add, drop-append-add, take-length, drop-length}
 use borrow.Rule.Slice.PartMut.{putMid, mid-len}
@@ -15,9 +15,8 @@ use Rattle.field.proofs.WordLists.{words-take, words-drop, words-part, words-ap
 use Rattle.code.specs.Rows.{column, lifted}
 use Rattle.code.specs.Transform.{mixedHalves, unmixed}
 use Rattle.code.specs.MixTrace.{eachBlock}
-use Rattle.code.proofs.Lifting.{length-lifted, length-column, words-lifted, lifted-id, lifted-same, lifted-then, lifted-append}
+use Rattle.code.proofs.Lifting.{length-lifted, length-column, words-lifted, lifted-id, lifted-same, lifted-then, lifted-append, row-in}
 use Rattle.code.proofs.Shapes.{words-mixed, words-unmixed}
-use Rattle.code.proofs.Crossing.{row-in}
 
 -- what is done to a block gives as many words, and words of the field
 pub record OnBlock (p n : ℕ) (f : List ℕ → List ℕ) : Type 0 where

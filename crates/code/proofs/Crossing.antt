@@ -3,7 +3,7 @@ use mathlib.Core.Path.{_≡_, refl, sym, ap, ap₂, _∙_, subst}
 use mathlib.Core.Logic.{⊎-elim, _≢_}
 use mathlib.Core.List.{List}
 use Prim.Native.Nat.{ℕ, zero, suc, _+_, _-_, _*_, _/_, _≤_, _<_}
-use native.Mathlib.Nat.{eq-or-lt-of-le, add-zero, add-suc, add-mul, suc-mul, zero-mul, mul-le-mul-right}
+use native.Mathlib.Nat.{eq-or-lt-of-le, add-zero, add-suc, add-mul, zero-mul}
 use native.Mathlib.Numerals.{add-one}
 use native.Mathlib.Decide.{decLt}
 use native.Mathlib.Omega.{arith}
@@ -20,7 +20,7 @@ use Rattle.code.specs.Rows.{column, lifted}
 use Rattle.code.specs.Transform.{mixedHalves, unmixed}
 use Rattle.code.specs.MixTrace.{Crossing, mixing, unmixing, crossed, crossedRow}
 use Rattle.code.proofs.Shapes.{mixed-low, mixed-high, unmixed-low, unmixed-high}
-use Rattle.code.proofs.Lifting.{column-at, length-column, is-lifted}
+use Rattle.code.proofs.Lifting.{column-at, length-column, is-lifted, row-in}
 
 -- both words stored are words of the field
 pub record Stores (p : ℕ) (c : Crossing) : Type 0 where
@@ -211,10 +211,6 @@ module _ (c : Crossing) (v m width : ℕ) (d : List ℕ → List ℕ) (t : Cross
       at i j h b (no u) =
           let s : m + (i - m) ≡ i = omega arith in
           subst (λ (k : ℕ). getD whole (k * width + j) 0 ≡ getD (d (column width (m + m) j l)) k 0) s (pairs-at (i - m) j (omega arith) b .1)
-
--- row i of m is within them
-pub row-in : {i m : ℕ} (width : ℕ) → i < m → i * width + width ≤ m * width
-row-in {i} width h = rw suc-mul at (mul-le-mul-right {m = suc i} width h)
 
 -- THE LOOP OVER ROWS: the first i rows are crossed
 pub record RowsLoop (c : Crossing) (part₀ : List ℕ) (m width v : ℕ) (part : List ℕ) (g i low high : ℕ) : Type 0 where

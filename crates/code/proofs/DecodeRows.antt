@@ -1,8 +1,8 @@
 -- The decoder's steps on rows: the check is `consistent`, and where it holds what the steps give is `decodedRows`. Assumes nothing.
-use mathlib.Core.Path.{_≡_, refl, sym, ap, ap₂, _∙_}
-use mathlib.Core.Bool.{Bool, true, false, _&&_, _||_}
+use mathlib.Core.Path.{_≡_, sym, ap, ap₂, _∙_}
+use mathlib.Core.Bool.{Bool, true, false, _||_}
 use mathlib.Core.List.{List, _++_}
-use Prim.Native.Nat.{ℕ, zero, suc, _+_, _*_, _^_, _<_}
+use Prim.Native.Nat.{ℕ, suc, _+_, _*_, _^_, _<_}
 use native.Mathlib.Omega.{arith}
 use lib.Dec.{ltb, eqb}
 use lib.ListN.{length, getD, replicate}
@@ -10,8 +10,8 @@ use Rattle.field.specs.Power.{inverse}
 use Rattle.field.specs.Words.{Words}
 use Rattle.code.specs.Transform.{reversed, untransform}
 use Rattle.code.specs.Rows.{column, lifted}
-use Rattle.code.specs.Decoding.{decodedColumn, consistentColumn, consistentTo, consistent, decodedRows, decodeLeaves}
-use Rattle.code.specs.Decoder.{erasedCount, weights, weighed, split, derived, evaluated, chosen, lowTo, isLow, splitColumn, solvedColumn, isLowColumn}
+use Rattle.code.specs.Decoding.{decodedColumn, consistentColumn, consistent, decodedRows, decodeLeaves}
+use Rattle.code.specs.Decoder.{erasedCount, weights, weighed, split, derived, evaluated, chosen, isLow, splitColumn, solvedColumn, isLowColumn}
 use Rattle.code.specs.DecodeTrace.{allTo, sameAt, lowRowAt, lowRows}
 use Rattle.code.specs.Promises.{Stripe, Column, Enough}
 use Rattle.code.proofs.Lifting.{length-column, column-at, words-column, column-lifted, lifted-same, lifted-then, words-lifted}

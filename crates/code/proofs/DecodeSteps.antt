@@ -18,10 +18,9 @@ use Rattle.code.specs.Rows.{column, lifted}
 use Rattle.code.specs.Decoder.{halfOf, derivedAt, derived, divisorAt, chosenAt, chosen, weighedAt, weighed}
 use Rattle.code.specs.RowTrace.{stored}
 use Rattle.code.proofs.Tests.{choice-lt}
-use Rattle.code.proofs.Lifting.{length-column, column-at, is-lifted, lifted-append}
+use Rattle.code.proofs.Lifting.{length-column, column-at, is-lifted, lifted-append, table-lifted, two-halves}
 use Rattle.code.proofs.DecoderShapes.{derived-low, derived-high, chosen-at, weighed-at}
 use Rattle.code.proofs.RowLaws.{length-stored, stored-before, stored-at, stored-is, scaledRowsWord, scaleRows}
-use Rattle.code.proofs.DecodeTraces.{table-lifted, two-halves}
 
 -- STEP 3, word q of the second half
 unfoldable pub deriveWord : (p level width : ℕ) → (rows : List ℕ) → (q : ℕ) → ℕ

@@ -1,25 +1,25 @@
 -- The decoder's steps of specs/Decoder find the right column: what they find codes to all surviving words, and where a column does so they find it.
 -- Assumes nothing.
-use mathlib.Core.Path.{_≡_, refl, sym, ap, ap₂, _∙_}
+use mathlib.Core.Path.{_≡_, sym, ap, ap₂, _∙_}
 use mathlib.Core.Logic.{_≢_, ⊎-elim}
 use mathlib.Core.Bool.{Bool, true, false}
-use mathlib.Core.List.{List, [], _∷_, _++_}
+use mathlib.Core.List.{List, _++_}
 use Prim.Native.Nat.{ℕ, suc, _+_, _/_, _%_, _^_, _≤_, _<_}
-use native.Mathlib.Omega.{arith, ne-cases}
+use native.Mathlib.Omega.{arith}
 use lib.ListN.{length, getD, take, drop, List·getD-eq-default}
 use lib.Seq.{getD-take, getD-drop}
 use Rattle.field.specs.Residue.{times}
 use Rattle.field.specs.Power.{power, inverse}
 use Rattle.field.specs.Polynomial.{horner}
 use Rattle.field.specs.Field.{Prime}
-use Rattle.field.specs.Words.{Words, table}
+use Rattle.field.specs.Words.{table}
 use Rattle.field.proofs.Congruence.{of-eq}
-use Rattle.field.proofs.Ring.{v, _⊕_, _⊖_, _⊗_, ring, lin, from, fact, none}
+use Rattle.field.proofs.Ring.{v, _⊕_, _⊖_, _⊗_, ring, from, fact, none}
 use Rattle.field.proofs.Laws.{times-lt, times-comm}
 use Rattle.field.proofs.PowersOfTwo.{two-power-inverse, two-inverse}
 use Rattle.field.proofs.Polynomials.{horner-lt, no-divisors, inverse-is}
 use Rattle.field.proofs.Unity.{power-inverse}
-use Rattle.field.proofs.WordLists.{length-table, getD-table, same-table, words-tail, words-take, words-drop, words-table}
+use Rattle.field.proofs.WordLists.{getD-table, same-table, words-take, words-drop}
 use Rattle.code.specs.Transform.{untransform, turned, scaled, reversed}
 use Rattle.code.specs.Stripe.{coded}
 use Rattle.code.specs.Decoding.{pointAt, bitReversed}

@@ -1,11 +1,10 @@
 -- The length of what each step of the decoder gives, its words, and that they are words of the field. Assumes nothing.
-use mathlib.Core.Path.{_≡_, sym, ap, _∙_}
-use mathlib.Core.Bool.{Bool, true, false}
-use mathlib.Core.List.{List, _++_}
-use Prim.Native.Nat.{ℕ, suc, _+_, _-_, _^_, _<_}
+use mathlib.Core.Path.{_≡_, _∙_}
+use mathlib.Core.Bool.{Bool, false}
+use mathlib.Core.List.{List}
+use Prim.Native.Nat.{ℕ, suc, _+_, _^_, _<_}
 use lib.ListN.{length, getD, take, drop}
 use lib.Seq.{getD-take}
-use Rattle.field.specs.Residue.{times}
 use Rattle.field.specs.Words.{Words, table}
 use Rattle.field.proofs.Laws.{minus-lt, times-lt}
 use Rattle.field.proofs.WordLists.{words-take, words-drop, words-append, words-table, length-table, getD-table}

@@ -1,26 +1,22 @@
 -- What a transform and its inverse do to a polynomial: coefficients, at bit-reversed places, become the values at the points of X or Y, and values
 -- become 2 ^ level times the coefficients. Assumes nothing.
 use mathlib.Core.Path.{_≡_, refl, sym, ap, ap₂, _∙_}
-use mathlib.Core.Logic.{⊎-elim}
-use mathlib.Core.List.{List, [], _∷_, _++_}
-use Prim.Native.Nat.{ℕ, zero, suc, _+_, _*_, _/_, _%_, _^_, _<_}
-use native.Mathlib.Nat.{mod-self, mod-eq-of-lt}
+use mathlib.Core.List.{List, [], _∷_}
+use Prim.Native.Nat.{ℕ, suc, _+_, _/_, _^_, _<_}
 use native.Mathlib.Omega.{arith}
-use lib.Pow.{pow-pos}
-use lib.ListN.{length, getD, List·getD-append}
-use lib.Seq.{getD-append-add, ext-getD}
+use lib.ListN.{length, getD}
+use lib.Seq.{ext-getD}
 use Rattle.field.specs.Residue.{times}
 use Rattle.field.specs.Power.{power, inverse}
 use Rattle.field.specs.Polynomial.{horner}
 use Rattle.field.specs.Field.{Prime, Root}
 use Rattle.field.specs.Words.{Words, table}
-use Rattle.field.proofs.Congruence.{Cong, of-eq, intro, trans~, times~}
-use Rattle.field.proofs.Ring.{v, _⊗_, ring, lin, lin~}
+use Rattle.field.proofs.Congruence.{Cong, of-eq}
+use Rattle.field.proofs.Ring.{v, _⊗_, lin, lin~}
 use Rattle.field.proofs.PowersOfTwo.{two-inverse}
 use Rattle.field.proofs.Unity.{power-inverse}
-use Rattle.field.proofs.WordLists.{length-table, getD-table, is-table, words-table, words-tail}
+use Rattle.field.proofs.WordLists.{is-table, words-tail}
 use Rattle.code.specs.Transform.{transform, untransform, turned, scaled, reversed}
-use Rattle.code.specs.Stripe.{coded}
 use Rattle.code.specs.Decoding.{pointAt, bitReversed}
 use Rattle.code.specs.Decoder.{halfOf}
 use Rattle.code.specs.Promises.{Stripe, Column}

@@ -1,7 +1,7 @@
 -- The decoder's steps on the values of a polynomial R of 2M coefficients f 0, f 1, .., M = 2 ^ level, from the values at the 2M points to M times R and
 -- M times z R'(z) at the points of X. Assumes nothing.
 use mathlib.Core.Path.{_≡_, refl, sym, ap, ap₂, _∙_}
-use mathlib.Core.Bool.{Bool, true, false, _&&_, _||_}
+use mathlib.Core.Bool.{Bool, true, _&&_, _||_}
 use mathlib.Core.List.{List, _++_}
 use Prim.Native.Nat.{ℕ, zero, suc, _+_, _^_, _≤_, _<_}
 use native.Mathlib.Decide.{decLt}

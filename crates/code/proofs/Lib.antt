@@ -6,7 +6,6 @@ pub mod Columns
 pub mod Crossing
 pub mod DecodeRows
 pub mod DecodeSteps
-pub mod DecodeTraces
 pub mod Decoder
 pub mod DecoderShapes
 pub mod Evaluation

@@ -1,16 +1,28 @@
 -- Laws of `column` and `lifted` of specs/Rows: what is done to rows is done to each column. Assumes nothing.
-use mathlib.Core.Path.{_≡_, refl, sym, ap, ap₂, _∙_, subst}
+use mathlib.Core.Path.{_≡_, refl, sym, ap, ap₂, _∙_}
 use mathlib.Core.List.{List, [], _∷_, _++_, map}
-use Prim.Native.Nat.{ℕ, zero, suc, _+_, _*_, _-_, _/_, _%_, _≤_, _<_}
-use native.Mathlib.Nat.{mod-lt, suc-mul, zero-mul, add-zero, add-comm, add-assoc, div-add-mod', div-lt-iff-lt-mul, eq-zero-or-pos, mul-zero, add-mul}
+use Prim.Native.Nat.{ℕ, zero, suc, _+_, _*_, _-_, _/_, _%_, _^_, _≤_, _<_}
+use native.Mathlib.Nat.{pow-succ', mul-le-mul-right, mod-lt, suc-mul, zero-mul, add-zero, div-add-mod', div-lt-iff-lt-mul, eq-zero-or-pos, mul-zero, add-mul}
+use native.Mathlib.Numerals.{add-one}
 use native.Mathlib.Omega.{arith}
 use mathlib.Core.Logic.{⊎-elim}
 use native.Mathlib.Decide.{decLt}
-use lib.ListN.{length, getD, take, drop, length-append, length-drop, List·getD-append, List·getD-eq-default}
+use lib.ListN.{length, getD, take, drop, length-append, List·getD-append, List·getD-eq-default}
 use lib.Seq.{getD-append-add, getD-drop, ext-getD, take-at, drop-at}
-use lib.Arith.{digits-lt, digits-div, digits-mod}
-use Rattle.field.specs.Words.{Words}
+use lib.Arith.{digits-lt}
+use Rattle.field.specs.Words.{Words, table}
+use Rattle.field.proofs.WordLists.{length-table, getD-table}
 use Rattle.code.specs.Rows.{column, columnsFrom, rowOf, rowsFrom, lifted}
+
+-- places of rows: both halves of 2 ^ suc l rows, the row after one, and that row i of m is within them
+pub two-halves : (l width : ℕ) → 2 ^ suc l * width ≡ 2 ^ l * width + 2 ^ l * width
+two-halves l width = ap (λ (n : ℕ). n * width) (pow-succ' 2 l) ∙ omega arith
+
+pub row-next : (i width : ℕ) → (i + 1) * width ≡ i * width + width
+row-next i width = ap (λ (n : ℕ). n * width) (add-one i) ∙ suc-mul i width
+
+pub row-in : {i m : ℕ} (width : ℕ) → i < m → i * width + width ≤ m * width
+row-in {i} width h = rw suc-mul at (mul-le-mul-right {m = suc i} width h)
 
 -- a column's length and words
 pub length-column : (width n j : ℕ) (l : List ℕ) → length (column width n j l) ≡ n
@@ -104,6 +116,12 @@ rows-ext width m a b ea eb e = ext-getD 0 a b (ea ∙ sym eb) at
 pub is-lifted : (width n m : ℕ) (f : List ℕ → List ℕ) (l r : List ℕ) → length r ≡ m * width
     → ((i j : ℕ) → i < m → j < width → getD r (i * width + j) 0 ≡ getD (f (column width n j l)) i 0) → r ≡ lifted width n m f l
 is-lifted width n m f l r e g = rows-ext width m r (lifted width n m f l) e (length-lifted width n m f l) (λ i j h b. g i j h b ∙ sym (lifted-at width n m f l i j h b))
+
+-- a run of m rows whose words are f's is f done to each column
+pub table-lifted : (width n m : ℕ) (f : List ℕ → List ℕ) (g : ℕ → ℕ) (l : List ℕ)
+    → ((i j : ℕ) → i < m → j < width → g (i * width + j) ≡ getD (f (column width n j l)) i 0) → table (m * width) g ≡ lifted width n m f l
+table-lifted width n m f g l e =
+    is-lifted width n m f l (table (m * width) g) (length-table (m * width) g) (λ i j h b. getD-table (m * width) (i * width + j) g (digits-lt h b) ∙ e i j h b)
 
 -- f and g that agree on the columns
 pub lifted-same : (width n m : ℕ) (f g : List ℕ → List ℕ) (l : List ℕ) → ((j : ℕ) → j < width → f (column width n j l) ≡ g (column width n j l))

@@ -10,7 +10,7 @@ use native.Mathlib.Numerals.{add-one}
 use native.Mathlib.Decide.{decLt}
 use native.Mathlib.Omega.{arith}
 use borrow.Rule.Slice.PartMut.{putMid}
-use lib.ListN.{length, getD, set, take, drop, replicate, drop-of-length-le, length-replicate, getD-replicate, length-set, length-append, length-drop, List·getD-append}
+use lib.ListN.{length, getD, set, take, drop, replicate, take-append-drop, drop-of-length-le, length-replicate, getD-replicate, length-set, length-append, length-drop, List·getD-append}
 use lib.Seq.{take-all, take-at, drop-at, set-comm, drop-length, getD-set-same, getD-set-other, getD-append-add, getD-take, getD-drop, length-take-le, ext-getD}
 use lib.Arith.{digits-div, digits-lt}
 use lib.Dec.{eqb}
@@ -141,6 +141,18 @@ storing-rest {a} {f} {l₀ = l₀} {i = i} h k b = ap (λ (m : List ℕ). getD m
 pub storing-front : {a : ℕ} {f : ℕ → ℕ} {n : ℕ} {l₀ l : List ℕ} {i : ℕ} → Storing a f n l₀ l i → (k : ℕ) → k < a → getD l k 0 ≡ getD l₀ k 0
 storing-front {a} {f} {l₀ = l₀} {i = i} h k b = ap (λ (m : List ℕ). getD m k 0) (h .now) ∙ stored-before a f i l₀ k b
 
+-- A LOOP THAT STORES A ROW A TURN: the words stored so far are of the field, and a row more
+module _ {a : ℕ} {f : ℕ → ℕ} {n : ℕ} {l₀ l : List ℕ} {i : ℕ} (h : Storing a f n l₀ l i) where
+  pub storing-words : {p : ℕ} → 0 < p → Words p l₀ → ((k : ℕ) → f k < p) → Words p l
+  storing-words {p} z w b = rw (h .now) (words-stored p z a f i w (λ k _. b k))
+
+  pub storing-row : (m : ℕ) (g : ℕ → ℕ) {to : ℕ} {l′ : List ℕ} → i + m ≤ n → to ≡ a + i → l′ ≡ stored to g m l → ((j : ℕ) → j < m → g j ≡ f (i + j)) → Storing a f n l₀ l′ (i + m)
+  storing-row m g {to} b d e s = record {
+    turns = b;
+    same = ap length e ∙ length-stored to g m l ∙ h .same;
+    now = e ∙ rw (d, h .now) (stored-more a f g i m l₀ s);
+  }
+
 -- a row that is scaled
 module _ (p width a g : ℕ) where
   pub length-scaleRow : (l : List ℕ) → length (scaleRow p width a g l) ≡ length l
@@ -220,6 +232,9 @@ module _ (p base j : ℕ) (l : List ℕ) (i : ℕ) where
 pub record Parts (n : ℕ) (l a b : List ℕ) : Type 0 where
   pub is : l ≡ a ++ b
   pub long : length a ≡ n
+
+pub cut : (n : ℕ) (l : List ℕ) → n ≤ length l → Parts n l (take n l) (drop n l)
+cut n l h = record { is = sym (take-append-drop n l); long = length-take-le n l h }
 
 module _ {n : ℕ} {l a b : List ℕ} (h : Parts n l a b) where
   pub length-parts : length l ≡ n + length b

@@ -1,21 +1,25 @@
 -- The length of what each definition on a column gives, its words, and that they are words of the field. Assumes nothing.
 use mathlib.Core.Path.{_≡_, refl, sym, ap, ap₂, _∙_}
 use mathlib.Core.List.{List, [], _∷_, _++_}
-use Prim.Native.Nat.{ℕ, zero, suc, _+_, _*_, _-_, _/_, _%_, _^_, _≤_, _<_}
-use native.Mathlib.Nat.{mod-lt, add-zero, add-suc, pow-succ'}
+use Prim.Native.Nat.{ℕ, zero, suc, _+_, _*_, _/_, _%_, _^_, _<_}
+use native.Mathlib.Nat.{mod-lt, add-zero}
+use native.Mathlib.Numerals.{add-one}
 use native.Mathlib.Omega.{arith}
 use lib.ListN.{length, getD, take, drop, length-append, length-drop, List·getD-append}
 use lib.Seq.{length-take-le, getD-append-add}
-use lib.Pow.{pow-pos}
 use Rattle.field.specs.Residue.{plus, minus, times}
 use Rattle.field.specs.Power.{power}
 use Rattle.field.specs.Words.{Words, table}
 use Rattle.field.proofs.Laws.{plus-lt, minus-lt, times-lt}
-use Rattle.field.proofs.WordLists.{words-nil, words-cons, words-tail, words-take, words-drop, words-append, words-table, length-table, getD-table, table-low, table-high}
+use Rattle.field.proofs.WordLists.{words-nil, words-cons, words-take, words-drop, words-append, words-table, length-table, getD-table, table-low, table-high}
 use Rattle.code.specs.Transform.{sumAt, differenceAt, mixed, transform, evenAt, oddAt, unmixed, untransform, scaled, reversed, turned}
 use Rattle.code.specs.Stripe.{coded}
 use Rattle.code.specs.Decoding.{bitReversed}
 use Rattle.code.specs.Promises.{Column}
+
+-- the count of positions, as the code writes it
+pub positions : (l : ℕ) {n : ℕ} → n ≡ 2 ^ (l + 1) → n ≡ 2 ^ suc l
+positions l e = e ∙ ap (λ (i : ℕ). 2 ^ i) (add-one l)
 
 -- halves of 2 ^ suc l words
 pub take-half : (l : ℕ) (xs : List ℕ) → length xs ≡ 2 ^ suc l → length (take (2 ^ l) xs) ≡ 2 ^ l

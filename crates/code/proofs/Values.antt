@@ -1,15 +1,11 @@
 -- What coding gives: each word of X and of Y is the value of the column's polynomial at its position's point. The polynomial of a column xs of
 -- 2 ^ l words is bitReversed l xs. Assumes nothing.
-use mathlib.Core.Path.{_≡_, sym, ap, ap₂, _∙_, subst}
-use mathlib.Core.Logic.{_≢_}
-use mathlib.Core.List.{List, _++_}
+use mathlib.Core.Path.{_≡_, sym, ap, ap₂, _∙_}
+use mathlib.Core.List.{List}
 use Prim.Native.Nat.{ℕ, zero, suc, _+_, _*_, _-_, _/_, _%_, _^_, _≤_, _<_}
-use native.Mathlib.Nat.{pow-suc}
-use native.Mathlib.Decide.{decLt}
 use native.Mathlib.Omega.{arith}
-use lib.ListN.{length, getD, take, drop, List·getD-append}
-use lib.Seq.{getD-take, getD-drop, getD-append-add}
-use borrow.Author.Tests.{lt-ltb, le-ltb}
+use lib.ListN.{length, getD, take, drop}
+use lib.Seq.{getD-take, getD-drop}
 use Rattle.field.specs.Residue.{plus, minus, times}
 use Rattle.field.specs.Power.{power}
 use Rattle.field.specs.Polynomial.{horner}
@@ -21,8 +17,7 @@ use Rattle.field.proofs.Powers.{power-zero, power-suc, power-add, power-mul, po
 use Rattle.field.proofs.Unity.{root-half, two-div}
 use Rattle.field.proofs.WordLists.{words-take, words-drop}
 use Rattle.code.specs.Transform.{mixed, transform, reversed, turned}
-use Rattle.code.specs.Stripe.{coded}
-use Rattle.code.specs.Decoding.{pointAt, bitReversed}
+use Rattle.code.specs.Decoding.{bitReversed}
 use Rattle.code.specs.Promises.{ValuesX, ValuesY}
 use Rattle.code.proofs.Shapes.{take-half, drop-half, length-transform, length-turned, mixed-low, mixed-high, coded-low, coded-high, turned-at, words-turned}
 use Rattle.code.proofs.Points.{by-halves, level-root, level-square, point-low, point-high}

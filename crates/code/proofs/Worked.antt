@@ -1,15 +1,13 @@
 -- Worked examples P1 to P4 of document 01, for k = 2, by computing. Assumes nothing.
 use mathlib.Core.Path.{_≡_, refl}
-use mathlib.Core.Bool.{Bool, true, false}
-use mathlib.Core.List.{List, [], _∷_, _++_, map}
-use Prim.Native.Nat.{ℕ}
-use lib.ListN.{length, getD, take, drop}
+use mathlib.Core.Bool.{true, false}
+use mathlib.Core.List.{[], _∷_}
 use Rattle.field.specs.Residue.{plus, minus, times}
 use Rattle.field.specs.Power.{powerFrom, power, inverse}
 use Rattle.field.specs.Polynomial.{lift, slopes, interpolate}
 use Rattle.field.specs.Field.{fermat, rootOf}
 use Rattle.field.specs.Words.{table}
-use Rattle.code.specs.Transform.{sumAt, differenceAt, mixed, transform, evenAt, oddAt, unmixed, untransform, scaled, reversed, turned}
+use Rattle.code.specs.Transform.{sumAt, differenceAt, mixed, transform, evenAt, oddAt, unmixed, untransform, reversed, turned}
 use Rattle.code.specs.Stripe.{coded}
 use Rattle.code.specs.Decoding.{survivorsFrom, pointAt, valueAt, bitReversed, decodedColumn, agrees, consistentColumn}
 use Rattle.code.specs.Decoder.{weightTo, weighedAt, weighed, split, lowTo, halfOf, derivedAt, derived, evaluated, divisorAt, chosenAt, chosen, solvedColumn, isLowColumn}

@@ -1,6 +1,6 @@
 -- Congruence modulo p as a record, so that antt infers its sides, and what each operation of specs/Residue is congruent to. Assumes nothing.
-use mathlib.Core.Path.{_≡_, refl, sym, ap, ap₂, _∙_}
-use Prim.Native.Nat.{ℕ, zero, suc, _+_, _*_, _-_, _/_, _%_, _≤_, _<_}
+use mathlib.Core.Path.{_≡_, refl, sym, ap, _∙_}
+use Prim.Native.Nat.{ℕ, _+_, _*_, _-_, _/_, _%_, _<_}
 use native.Mathlib.Nat.{mod-add-div, add-mul-mod-self-left, mod-mod, mod-lt, mod-eq-of-lt}
 use native.Mathlib.Omega.{arith}
 use Rattle.field.specs.Residue.{plus, minus, times}

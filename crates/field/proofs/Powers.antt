@@ -3,11 +3,11 @@ use mathlib.Core.Path.{_≡_, refl, sym, ap, ap₂, _∙_}
 use mathlib.Core.Logic.{_≢_}
 use mathlib.Core.Bool.{Bool, true, false}
 use Prim.Native.Nat.{ℕ, zero, suc, _+_, _*_, _-_, _/_, _%_, _≤_, _<_}
-use native.Mathlib.Nat.{zero-add, suc-add, mul-suc, mul-zero, mod-lt, pow-succ'}
+use native.Mathlib.Nat.{zero-add, suc-add, mul-suc, mul-zero}
 use native.Mathlib.Omega.{arith}
 use lib.Dec.{eqb}
 use borrow.Author.Tests.{eqb-true, eqb-false}
-use Rattle.field.specs.Residue.{plus, minus, times}
+use Rattle.field.specs.Residue.{times}
 use Rattle.field.specs.Power.{powerFrom, power, inverse}
 use Rattle.field.proofs.Ring.{v, _⊗_, ring}
 use Rattle.field.proofs.Laws.{times-lt, times-assoc, times-comm}

@@ -1,7 +1,7 @@
 -- Identities of rings modulo p, by reflection. An expression stands for the difference of two polynomials over ℕ, `up` and `dn`, and what is
 -- left to show is an equation between such polynomials, which `omega arith` multiplies out.
-use mathlib.Core.Path.{_≡_, refl, sym, ap, ap₂, _∙_}
-use Prim.Native.Nat.{ℕ, zero, suc, _+_, _*_, _%_, _≤_, _<_}
+use mathlib.Core.Path.{_≡_, refl, sym, ap₂, _∙_}
+use Prim.Native.Nat.{ℕ, _+_, _*_, _%_, _<_}
 use native.Mathlib.Nat.{mod-mod, mod-eq-of-lt}
 use native.Mathlib.Omega.{arith}
 use Rattle.field.specs.Residue.{plus, minus, times}

@@ -23,9 +23,8 @@ use Rattle.code.specs.Decoder.{divisorAt, chosen}
 use Rattle.code.specs.RowTrace.{stored, scaledWord}
 use Rattle.field.proofs.Laws.{times-lt}
 use Rattle.field.proofs.Powers.{inverse-lt}
-use Rattle.code.proofs.Crossing.{row-in}
-use Rattle.code.proofs.RowLaws.{Storing, storing-start, storing-rest}
-use Rattle.code.proofs.DecodeTraces.{storing-words, storing-row, two-halves, row-next}
+use Rattle.code.proofs.Lifting.{two-halves, row-next, row-in}
+use Rattle.code.proofs.RowLaws.{Storing, storing-start, storing-rest, storing-words, storing-row}
 use Rattle.code.proofs.DecodeSteps.{chooseWord, choose-rows}
 use Rattle.code.proofs.decoding.choose.Statement.{statement}
 use Rattle.code.proofs.decoding.choose.Tie as tie

@@ -8,7 +8,7 @@ use borrow.Author.Needs.{needs}
 use borrow.Author.Tests.{not-true, not-false}
 use lib.Dec.{lit<}
 use lib.ListN.{length, take, drop, replicate, length-drop}
-use lib.Seq.{drop-at, drop-drop}
+use lib.Seq.{drop-drop}
 use Rattle.field.specs.Words.{Words}
 use Rattle.field.proofs.Primes.{fermat-prime}
 use Rattle.field.proofs.WordLists.{words-take, words-drop, words-append, length-table}
@@ -18,27 +18,23 @@ use Rattle.code.specs.Decoding.{consistent}
 use Rattle.code.specs.Decoder as Decoder
 use Rattle.code.specs.DecodeTrace.{lowRows}
 use Rattle.code.specs.Promises.{Stripe}
-use Rattle.code.proofs.Lifting.{length-lifted}
-use Rattle.code.proofs.RowLaws.{Parts, length-parts, lent-front, put-front}
+use Rattle.code.proofs.Lifting.{length-lifted, two-halves}
+use Rattle.code.proofs.RowLaws.{Parts, length-parts, rest-is, lent-front, put-front}
 use Rattle.field.proofs.Powers.{inverse-lt}
-use Rattle.code.proofs.DecodeTraces.{two-halves}
 use Rattle.code.proofs.DecodeRows.{weighedColumn, derivedColumn, evaluatedColumn, chosenColumn, split-more, derive-more, evaluate-more, choose-more, solve-more, weighed-words, split-words, derived-words, evaluated-words, chosen-words, check-is, solved-is, leaves-blocks, leaves-zeros}
 use Rattle.code.proofs.decoding.decode.Statement.{statement}
 use Rattle.code.proofs.decoding.decode.Tie as tie
 
 -- what stands behind, also once the words before it are cleared, all of them or the second half
 module _ {n : ℕ} {l a b : List ℕ} (h : Parts n l a b) where
-  behind : drop n l ≡ b
-  behind = ap (drop n) (h .is) ∙ drop-at a b n (h .long)
-
   all-cleared : take 0 l ++ replicate (n - 0) 0 ++ drop n l ≡ replicate n 0 ++ b
-  all-cleared = ap₂ (λ (m : ℕ) (r : List ℕ). replicate m 0 ++ r) {x = n - 0} {y = n} (omega arith) behind
+  all-cleared = ap₂ (λ (m : ℕ) (r : List ℕ). replicate m 0 ++ r) {x = n - 0} {y = n} (omega arith) (rest-is h)
 
 half-cleared : {n : ℕ} {l l′ a b x : List ℕ} → Parts (n + n) l a b → Parts n l′ x (drop n l) → take n l′ ++ replicate (n + n - n) 0 ++ drop (n + n) l′ ≡ x ++ replicate n 0 ++ b
 half-cleared {n} {l} {l′} {x = x} g h =
     let e : n + n - n ≡ n = omega arith in
-    let d : drop (n + n) l′ ≡ drop (n + n) l = sym (drop-drop n n l′) ∙ ap (drop n) (behind h) ∙ drop-drop n n l in
-    rw (lent-front h, e, d, behind g)
+    let d : drop (n + n) l′ ≡ drop (n + n) l = sym (drop-drop n n l′) ∙ ap (drop n) (rest-is h) ∙ drop-drop n n l in
+    rw (lent-front h, e, d, rest-is g)
 
 -- the rows, the weights, and the words of a half and of both
 abbrev rows : tie.After-two-to → List ℕ
@@ -214,7 +210,7 @@ chosen-is c =
     let h = evaluate-holds (choose-evaluate c) in
     choose-more 65537 (a .root) (a .k) (a .level) (a .first) (a .marks .now) (a .width) (rows two) refl
     (ap₂ (λ (v x : List ℕ). lifted (a .width) (2 ^ suc (a .level)) (2 ^ a .level) (Decoder.chosen 65537 (a .root) (a .k) (a .level) (a .marks .now) v) x)
-    (ap (λ (n : ℕ). drop n l) (sym (all-is two)) ∙ behind h) (ap (λ (n : ℕ). take n l) (sym (all-is two)) ∙ lent-front h))
+    (ap (λ (n : ℕ). drop n l) (sym (all-is two)) ∙ rest-is h) (ap (λ (n : ℕ). take n l) (sym (all-is two)) ∙ lent-front h))
 
 choose-holds : (c : tie.After-choose) → let a = choose-two c .before .before .before .args in
     Parts (half (choose-two c)) (c .choose .last .0)

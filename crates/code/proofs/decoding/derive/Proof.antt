@@ -16,10 +16,9 @@ use Rattle.code.specs.Decoder.{halfOf, derived}
 use Rattle.code.specs.RowTrace.{stored}
 use Rattle.code.specs.DecodeTrace.{deriveAt}
 use Rattle.field.proofs.Laws.{plus-lt, minus-lt, times-lt}
+use Rattle.code.proofs.Lifting.{two-halves, row-next, row-in}
 use Rattle.code.proofs.Shapes.{reversed-lt}
-use Rattle.code.proofs.Crossing.{row-in}
-use Rattle.code.proofs.RowLaws.{Storing, storing-start, storing-front, storing-rest}
-use Rattle.code.proofs.DecodeTraces.{storing-words, storing-row, two-halves, row-next}
+use Rattle.code.proofs.RowLaws.{Storing, storing-start, storing-front, storing-rest, storing-words, storing-row}
 use Rattle.code.proofs.DecodeSteps.{deriveWord, derive-rows}
 use Rattle.code.proofs.decoding.derive.Statement.{statement}
 use Rattle.code.proofs.decoding.derive.Tie as tie

@@ -16,9 +16,9 @@ use Rattle.field.proofs.WordLists.{words-drop}
 use Rattle.code.specs.Rows.{lifted}
 use Rattle.code.specs.Decoder.{weighed}
 use Rattle.code.specs.RowTrace.{scaleRow}
-use Rattle.code.proofs.Crossing.{row-in}
+use Rattle.code.proofs.Shapes.{positions}
+use Rattle.code.proofs.Lifting.{row-in, row-next}
 use Rattle.code.proofs.RowLaws.{scaleRows, length-scaleRows, words-scaleRows, scaleRows-none, scaleRows-more, scaleRows-after}
-use Rattle.code.proofs.DecodeTraces.{row-next}
 use Rattle.code.proofs.DecodeSteps.{weightOr, weightOr-lt, weigh-rows}
 use Rattle.code.proofs.decoding.weigh.Statement.{statement}
 use Rattle.code.proofs.decoding.weigh.Tie as tie
@@ -93,7 +93,7 @@ abbrev μ-loop : tie.MeasureT-loop
 
 -- the count of rows, and the length
 sized : (c : tie.After-two-to Inv-loop μ-loop) → c .two-to .result ≡ 2 ^ suc (c .before .before .before .args .level)
-sized c = c .two-to .ensures ∙ ap (λ (n : ℕ). 2 ^ n) (add-one (c .before .before .before .args .level))
+sized c = positions (c .before .before .before .args .level) (c .two-to .ensures)
 
 long : (c : tie.After-two-to Inv-loop μ-loop) → length (c .before .before .before .args .part .now) ≡ c .two-to .result * c .before .before .before .args .width + c .two-to .result
 long c = c .before .before .before .pre .1 .1 .0 ∙ rw (sized c) refl

@@ -15,8 +15,7 @@ use Rattle.code.specs.Rows.{column, lifted}
 use Rattle.code.specs.Transform.{reversed, turned}
 use Rattle.code.specs.RowTrace.{scaleRow}
 use Rattle.code.proofs.Shapes.{turned-at}
-use Rattle.code.proofs.Lifting.{length-column, column-at, is-lifted}
-use Rattle.code.proofs.Crossing.{row-in}
+use Rattle.code.proofs.Lifting.{length-column, column-at, is-lifted, row-in}
 use Rattle.code.proofs.RowLaws.{length-scaleRow, words-scaleRow, scaleRows, length-scaleRows, scaleRows-none, scaleRows-more, scaleRows-at}
 use Rattle.code.proofs.stripe.turn.Statement.{statement}
 use Rattle.code.proofs.stripe.turn.Tie as tie

@@ -1,6 +1,6 @@
 -- `code::weights::weights` meets its contract. The invariant: the last words are the weights over the erased positions below j. Assumes nothing.
 use mathlib.Core.Path.{_≡_, refl, sym, ap, ap₂, _∙_}
-use mathlib.Core.Bool.{Bool, true, false, _&&_, not}
+use mathlib.Core.Bool.{Bool, true, false}
 use mathlib.Core.List.{List, _++_}
 use mathlib.Core.Logic.{⊎-elim}
 use Prim.Native.Nat.{ℕ, suc, _+_, _-_, _^_, _≤_, _<_}
@@ -16,6 +16,7 @@ use Rattle.code.specs.Decoding.{pointAt}
 use Rattle.code.specs.Decoder.{weightTo}
 use Rattle.code.specs.RowTrace.{weighedBy}
 use Rattle.code.proofs.RowLaws.{replicate-table, weighedBy-own, weighedBy-other}
+use Rattle.code.proofs.Shapes.{positions}
 use Rattle.code.proofs.Points.{words-points}
 use Rattle.code.proofs.WeightLaws.{weight-survivor, weight-own, weight-other, words-weights}
 use Rattle.code.proofs.weights.weights.Statement.{statement}
@@ -138,7 +139,7 @@ module _ {front : List ℕ} {marks : List Bool} {level k root count base : ℕ} 
 
 -- the number of positions, twice of which lie within the part
 count-is : (c : tie.After-two-to Inv-loop μ-loop) → c .two-to .result ≡ 2 ^ suc (c .before .before .before .args .level)
-count-is c = c .two-to .ensures ∙ ap (λ (n : ℕ). 2 ^ n) (add-one _)
+count-is c = positions (c .before .before .before .args .level) (c .two-to .ensures)
 
 room : (c : tie.After-two-to Inv-loop μ-loop) → c .two-to .result + c .two-to .result ≤ length (c .before .before .before .args .part .now)
 room c = omega (arith, count-is c, c .before .before .before .pre .1 .1 .0)
