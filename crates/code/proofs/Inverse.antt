@@ -22,30 +22,30 @@ use Rattle.code.proofs.Points.{by-halves}
 
 -- laws of `scaled`
 module _ (p : ℕ) where
-  pub scaled-append : (g : ℕ) (a b : List ℕ) → scaled p g (a ++ b) ≡ scaled p g a ++ scaled p g b
+  scaled-append : (g : ℕ) (a b : List ℕ) → scaled p g (a ++ b) ≡ scaled p g a ++ scaled p g b
   unfolding scaled
   scaled-append g [] b = refl
   scaled-append g (x ∷ a) b = ap (λ (l : List ℕ). times p g x ∷ l) (scaled-append g a b)
 
-  pub take-scaled : (n g : ℕ) (xs : List ℕ) → take n (scaled p g xs) ≡ scaled p g (take n xs)
+  take-scaled : (n g : ℕ) (xs : List ℕ) → take n (scaled p g xs) ≡ scaled p g (take n xs)
   unfolding scaled
   take-scaled zero g xs = refl
   take-scaled (suc n) g [] = refl
   take-scaled (suc n) g (x ∷ xs) = ap (λ (l : List ℕ). times p g x ∷ l) (take-scaled n g xs)
 
-  pub drop-scaled : (n g : ℕ) (xs : List ℕ) → drop n (scaled p g xs) ≡ scaled p g (drop n xs)
+  drop-scaled : (n g : ℕ) (xs : List ℕ) → drop n (scaled p g xs) ≡ scaled p g (drop n xs)
   unfolding scaled
   drop-scaled zero g xs = refl
   drop-scaled (suc n) g [] = refl
   drop-scaled (suc n) g (x ∷ xs) = drop-scaled n g xs
 
 module _ (p : ℕ) (h : 0 < p) where
-  pub scaled-times : (f g : ℕ) (xs : List ℕ) → scaled p f (scaled p g xs) ≡ scaled p (f * g) xs
+  scaled-times : (f g : ℕ) (xs : List ℕ) → scaled p f (scaled p g xs) ≡ scaled p (f * g) xs
   unfolding scaled
   scaled-times f g [] = refl
   scaled-times f g (x ∷ xs) = ap₂ _∷_ (ring p h (v f ⊗ (v g ⊗ v x)) ((v f ⊠ v g) ⊗ v x) h h (omega arith)) (scaled-times f g xs)
 
-  pub scaled-one : (g : ℕ) (xs : List ℕ) → Cong p g 1 → Words p xs → scaled p g xs ≡ xs
+  scaled-one : (g : ℕ) (xs : List ℕ) → Cong p g 1 → Words p xs → scaled p g xs ≡ xs
   unfolding scaled
   scaled-one g [] e w = refl
   scaled-one g (x ∷ xs) e w = ap₂ _∷_ (lin p h (v g ⊗ v x) (v x) (v x) (v g) (v 1) e h (w .word 0) (omega arith)) (scaled-one g xs e (words-tail w))
@@ -140,7 +140,7 @@ module _ (p : ℕ) (h : 0 < p) where
         ∙ lin p h (v x ⊕ v y ⊖ v z ⊗ (v z′ ⊗ (v x ⊖ v y))) (v 2 ⊗ v y) (v y ⊖ v x) (v z ⊗ v z′) (v 1) (of-eq p (inv i)) h h (omega arith))
 
   -- a common factor passes through
-  pub untransform-scaled : (w k l g : ℕ) (c : List ℕ) → length c ≡ 2 ^ l → untransform p w k l (scaled p g c) ≡ scaled p g (untransform p w k l c)
+  untransform-scaled : (w k l g : ℕ) (c : List ℕ) → length c ≡ 2 ^ l → untransform p w k l (scaled p g c) ≡ scaled p g (untransform p w k l c)
   unfolding untransform
   untransform-scaled w k zero g c e = refl
   untransform-scaled w k (suc l) g c e =
@@ -157,7 +157,7 @@ module _ (p : ℕ) (h : 0 < p) where
     inv-level : (e i : ℕ) → times p (power p (power p w e) i) (power p (power p w′ e) i) ≡ 1
     inv-level e i = ap₂ (times p) (sym (power-mul p big w e i)) (sym (power-mul p big w′ e i)) ∙ inv (e * i)
 
-    pub untransform-transform : (l : ℕ) (xs : List ℕ) → length xs ≡ 2 ^ l → Words p xs → untransform p w′ k l (transform p w k l xs) ≡ scaled p (2 ^ l) xs
+    untransform-transform : (l : ℕ) (xs : List ℕ) → length xs ≡ 2 ^ l → Words p xs → untransform p w′ k l (transform p w k l xs) ≡ scaled p (2 ^ l) xs
     unfolding transform untransform
     untransform-transform zero xs e ws = sym (scaled-one 1 xs (of-eq p refl) ws)
     untransform-transform (suc l) xs e ws =
@@ -174,7 +174,7 @@ module _ (p : ℕ) (h : 0 < p) where
         ∙ sym (scaled-append p 2 (scaled p (2 ^ l) x) (scaled p (2 ^ l) y)) ∙ ap (scaled p 2) (sym (scaled-append p (2 ^ l) x y) ∙ ap (scaled p (2 ^ l)) (take-append-drop (2 ^ l) xs))
         ∙ scaled-times 2 (2 ^ l) xs ∙ ap (λ (g : ℕ). scaled p g xs) (sym (pow-succ' 2 l))
 
-    pub transform-untransform : (l : ℕ) (c : List ℕ) → length c ≡ 2 ^ l → Words p c → transform p w k l (untransform p w′ k l c) ≡ scaled p (2 ^ l) c
+    transform-untransform : (l : ℕ) (c : List ℕ) → length c ≡ 2 ^ l → Words p c → transform p w k l (untransform p w′ k l c) ≡ scaled p (2 ^ l) c
     unfolding transform untransform
     transform-untransform zero c e ws = sym (scaled-one 1 c (of-eq p refl) ws)
     transform-untransform (suc l) c e ws =

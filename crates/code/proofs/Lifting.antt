@@ -165,7 +165,7 @@ words-lifted p width n m f l z u =
     words-rows p width m (lifted width n m f l) z (length-lifted width n m f l) (λ i j h b. rw (lifted-at width n m f l i j h b) (u j b .word i))
 
 -- columns of one list after the other
-pub column-append : (width n m j : ℕ) (a b : List ℕ) → j < width → length a ≡ n * width → column width (n + m) j (a ++ b) ≡ column width n j a ++ column width m j b
+column-append : (width n m j : ℕ) (a b : List ℕ) → j < width → length a ≡ n * width → column width (n + m) j (a ++ b) ≡ column width n j a ++ column width m j b
 column-append width n m j a b h e =
     ext-getD 0 (column width (n + m) j (a ++ b)) (column width n j a ++ column width m j b) long
     (λ i l. let l′ : i < n + m = rw length-column at l in column-at width (n + m) j (a ++ b) i l′ ∙ at i l′ (decLt i n))

@@ -25,7 +25,7 @@ unfolding stored
 length-stored a f zero l = refl
 length-stored a f (suc n) l = length-set (stored a f n l) (a + n) (f n) ∙ length-stored a f n l
 
-pub words-stored : (p : ℕ) → 0 < p → (a : ℕ) (f : ℕ → ℕ) (n : ℕ) {l : List ℕ} → Words p l → ((i : ℕ) → i < n → f i < p) → Words p (stored a f n l)
+words-stored : (p : ℕ) → 0 < p → (a : ℕ) (f : ℕ → ℕ) (n : ℕ) {l : List ℕ} → Words p l → ((i : ℕ) → i < n → f i < p) → Words p (stored a f n l)
 unfolding stored
 words-stored p h a f zero w b = w
 words-stored p h a f (suc n) w b = words-set p h (a + n) (words-stored p h a f n w (λ i t. b i (omega arith))) (b n (omega arith))
@@ -163,18 +163,6 @@ module _ (p width a g : ℕ) where
   unfolding scaleRow scaledWord
   words-scaleRow h {l} w = words-stored p h a (scaledWord p a g l) width w (λ i t. times-lt p h g (getD l (a + i) 0))
 
-  pub scaleRow-at : (l : List ℕ) (j : ℕ) → a + width ≤ length l → j < width → getD (scaleRow p width a g l) (a + j) 0 ≡ times p g (getD l (a + j) 0)
-  unfolding scaleRow scaledWord
-  scaleRow-at l j h b = stored-at a (scaledWord p a g l) width l j h b
-
-  pub scaleRow-before : (l : List ℕ) (k : ℕ) → k < a → getD (scaleRow p width a g l) k 0 ≡ getD l k 0
-  unfolding scaleRow
-  scaleRow-before l k h = stored-before a (scaledWord p a g l) width l k h
-
-  pub scaleRow-after : (l : List ℕ) (k : ℕ) → a + width ≤ k → getD (scaleRow p width a g l) k 0 ≡ getD l k 0
-  unfolding scaleRow
-  scaleRow-after l k h = stored-after a (scaledWord p a g l) width l k h
-
 -- ROWS scaled one after the other, n of them from index a on; row i by g i
 unfoldable pub scaledRowsWord : (p width a : ℕ) → (g : ℕ → ℕ) → (l : List ℕ) → (x : ℕ) → ℕ
 scaledRowsWord p width a g l x = times p (g (x / width)) (getD l (a + x) 0)
@@ -209,10 +197,6 @@ module _ (p width a : ℕ) (g : ℕ → ℕ) where
       → getD (scaleRows p width a g n l) (a + (i * width + j)) 0 ≡ times p (g i) (getD l (a + (i * width + j)) 0)
   unfolding scaleRows scaledRowsWord
   scaleRows-at n l i j h b t = stored-at a (scaledRowsWord p width a g l) (n * width) l (i * width + j) h (digits-lt b t) ∙ rw (digits-div i t)
-
-  pub scaleRows-before : (n : ℕ) (l : List ℕ) (k : ℕ) → k < a → getD (scaleRows p width a g n l) k 0 ≡ getD l k 0
-  unfolding scaleRows
-  scaleRows-before n l k h = stored-before a (scaledRowsWord p width a g l) (n * width) l k h
 
   pub scaleRows-after : (n : ℕ) (l : List ℕ) (k : ℕ) → a + n * width ≤ k → getD (scaleRows p width a g n l) k 0 ≡ getD l k 0
   unfolding scaleRows

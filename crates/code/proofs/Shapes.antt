@@ -184,7 +184,7 @@ module _ (p : ℕ) (h : 0 < p) where
   unfolding coded
   words-coded w k l t {xs} u = words-append p h {a = transform p w k l xs} (words-transform w k l u) (words-transform w k l (words-turned w k t xs))
 
-  pub words-bitReversed : (l : ℕ) {cs : List ℕ} → Words p cs → Words p (bitReversed l cs)
+  words-bitReversed : (l : ℕ) {cs : List ℕ} → Words p cs → Words p (bitReversed l cs)
   unfolding bitReversed
   words-bitReversed l u = words-table p h (2 ^ l) _ (λ i _. u .word _)
 

@@ -67,7 +67,7 @@ module _ (p l r u : ℕ) (R : Root p (suc l) r) (square : power p r 2 ≡ u) (xs
 
 -- the transform is the values at the even powers of the level's root
 module _ (p w k : ℕ) (R : Root p k w) where
-  pub transform-value : (l : ℕ) (xs : List ℕ) → l ≤ k → length xs ≡ 2 ^ l → Words p xs → (i : ℕ) → i < 2 ^ l
+  transform-value : (l : ℕ) (xs : List ℕ) → l ≤ k → length xs ≡ 2 ^ l → Words p xs → (i : ℕ) → i < 2 ^ l
       → getD (transform p w k l xs) i 0 ≡ horner p (bitReversed l xs) (power p (power p w (2 ^ k / 2 ^ l)) (2 * i))
   unfolding transform
   transform-value zero xs s e ws i m =
@@ -84,14 +84,14 @@ module _ (p w k : ℕ) (R : Root p k w) where
 
 module _ (p : ℕ) (big : 1 < p) where
   -- the factor of word j: that of the first word, times the power rev(j) of the level's root
-  pub turned-factor : (w k l t j : ℕ) → l ≤ k → t % 2 ^ l ≡ 0 → j < 2 ^ l
+  turned-factor : (w k l t j : ℕ) → l ≤ k → t % 2 ^ l ≡ 0 → j < 2 ^ l
       → power p w (reversed k (t + j)) ≡ times p (power p w (reversed k t)) (power p (power p w (2 ^ k / 2 ^ l)) (reversed l j))
   turned-factor w k l t j s a b =
       ap (power p w) (reversed-from k l t j s a b) ∙ power-add p big w (reversed k t) (2 ^ (k - l) * reversed l j)
       ∙ ap (times p (power p w (reversed k t))) (power-mul p big w (2 ^ (k - l)) (reversed l j) ∙ ap (λ (e : ℕ). power p (power p w e) (reversed l j)) (sym (two-div k l s)))
 
   -- word j times c * u ^ rev(j): the value is c times that at u * x
-  pub turned-value : (l c u : ℕ) (xs ys : List ℕ) (x : ℕ) → ((j : ℕ) → j < 2 ^ l → getD ys j 0 ≡ times p (times p c (power p u (reversed l j))) (getD xs j 0))
+  turned-value : (l c u : ℕ) (xs ys : List ℕ) (x : ℕ) → ((j : ℕ) → j < 2 ^ l → getD ys j 0 ≡ times p (times p c (power p u (reversed l j))) (getD xs j 0))
       → horner p (bitReversed l ys) x ≡ times p c (horner p (bitReversed l xs) (times p u x))
   turned-value zero c u xs ys x e =
       let h : 0 < p = omega arith in
