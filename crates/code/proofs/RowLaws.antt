@@ -1,24 +1,25 @@
--- Laws of specs/RowTrace: the length of what is stored, its words, and the words around it, and the loops that store. Rows that are scaled one after the
--- other; a list in two parts that are lent. Assumes nothing.
+-- Laws of specs/RowTrace: what is stored and the words around it, and loops that store a word or a row a turn; a list in two parts that are lent.
+-- Assumes nothing.
 use mathlib.Core.Path.{_≡_, refl, sym, ap, ap₂, _∙_}
 use mathlib.Core.Logic.{⊎-elim, _≢_}
 use mathlib.Core.Bool.{true, false}
 use mathlib.Core.List.{List, _++_, append-nil}
 use Prim.Native.Nat.{ℕ, zero, suc, _+_, _*_, _-_, _/_, _≤_, _<_}
-use native.Mathlib.Nat.{eq-or-lt-of-le, add-zero, add-suc, add-assoc, suc-mul, zero-mul}
+use native.Mathlib.Nat.{eq-or-lt-of-le, add-zero, add-suc, add-assoc, zero-mul}
 use native.Mathlib.Numerals.{add-one}
 use native.Mathlib.Decide.{decLt}
 use native.Mathlib.Omega.{arith}
 use borrow.Rule.Slice.PartMut.{putMid}
 use lib.ListN.{length, getD, set, take, drop, replicate, take-append-drop, drop-of-length-le, length-replicate, getD-replicate, length-set, length-append, length-drop, List·getD-append}
 use lib.Seq.{take-all, take-at, drop-at, set-comm, drop-length, getD-set-same, getD-set-other, getD-append-add, getD-take, getD-drop, length-take-le, ext-getD}
-use lib.Arith.{digits-div, digits-lt}
+use lib.Arith.{digits-div}
 use lib.Dec.{eqb}
 use Rattle.field.specs.Residue.{minus, times}
 use Rattle.field.specs.Words.{Words, table}
 use Rattle.field.proofs.Laws.{times-lt}
 use Rattle.field.proofs.WordLists.{words-set, length-table, getD-table, is-table}
 use Rattle.code.specs.RowTrace.{stored, scaledWord, scaleRow, weighedBy}
+use Rattle.code.proofs.Lifting.{row-next, row-in}
 
 pub length-stored : (a : ℕ) (f : ℕ → ℕ) (n : ℕ) (l : List ℕ) → length (stored a f n l) ≡ length l
 unfolding stored
@@ -141,66 +142,58 @@ storing-rest {a} {f} {l₀ = l₀} {i = i} h k b = ap (λ (m : List ℕ). getD m
 pub storing-front : {a : ℕ} {f : ℕ → ℕ} {n : ℕ} {l₀ l : List ℕ} {i : ℕ} → Storing a f n l₀ l i → (k : ℕ) → k < a → getD l k 0 ≡ getD l₀ k 0
 storing-front {a} {f} {l₀ = l₀} {i = i} h k b = ap (λ (m : List ℕ). getD m k 0) (h .now) ∙ stored-before a f i l₀ k b
 
--- A LOOP THAT STORES A ROW A TURN: the words stored so far are of the field, and a row more
-module _ {a : ℕ} {f : ℕ → ℕ} {n : ℕ} {l₀ l : List ℕ} {i : ℕ} (h : Storing a f n l₀ l i) where
-  pub storing-words : {p : ℕ} → 0 < p → Words p l₀ → ((k : ℕ) → f k < p) → Words p l
-  storing-words {p} z w b = rw (h .now) (words-stored p z a f i w (λ k _. b k))
+-- A LOOP THAT STORES A ROW A TURN: i of m rows of `width` words, from index a on, and the next at `at`
+pub record StoringRows (a : ℕ) (f : ℕ → ℕ) (m width : ℕ) (l₀ l : List ℕ) (at i : ℕ) : Type 0 where
+  pub turns : i ≤ m
+  pub at-is : at ≡ a + i * width
+  pub same : length l ≡ length l₀
+  pub now : l ≡ stored a f (i * width) l₀
 
-  pub storing-row : (m : ℕ) (g : ℕ → ℕ) {to : ℕ} {l′ : List ℕ} → i + m ≤ n → to ≡ a + i → l′ ≡ stored to g m l → ((j : ℕ) → j < m → g j ≡ f (i + j)) → Storing a f n l₀ l′ (i + m)
-  storing-row m g {to} b d e s = record {
-    turns = b;
-    same = ap length e ∙ length-stored to g m l ∙ h .same;
-    now = e ∙ rw (d, h .now) (stored-more a f g i m l₀ s);
+pub storing-rows-start : (a : ℕ) (f : ℕ → ℕ) (m width : ℕ) (l : List ℕ) → StoringRows a f m width l l a 0
+unfolding stored
+storing-rows-start a f m width l = record { turns = omega arith; at-is = omega (arith, zero-mul width); same = refl; now = rw zero-mul }
+
+module _ {a : ℕ} {f : ℕ → ℕ} {m width : ℕ} {l₀ l : List ℕ} {at i : ℕ} (h : StoringRows a f m width l₀ l at i) where
+  pub storing-rows-room : i < m → at + width ≤ a + m * width
+  storing-rows-room b = omega (arith, row-in width b)
+
+  pub storing-rows-rest : (k : ℕ) → at ≤ k → getD l k 0 ≡ getD l₀ k 0
+  storing-rows-rest k b = ap (λ (r : List ℕ). getD r k 0) (h .now) ∙ stored-after a f (i * width) l₀ k (omega arith)
+
+  pub storing-rows-front : (k : ℕ) → k < a → getD l k 0 ≡ getD l₀ k 0
+  storing-rows-front k b = ap (λ (r : List ℕ). getD r k 0) (h .now) ∙ stored-before a f (i * width) l₀ k b
+
+  pub storing-rows-words : {p : ℕ} → 0 < p → Words p l₀ → ((k : ℕ) → f k < p) → Words p l
+  storing-rows-words {p} z w b = rw (h .now) (words-stored p z a f (i * width) w (λ k _. b k))
+
+  pub storing-rows-turn : (g : ℕ → ℕ) {l′ : List ℕ} → i < m → l′ ≡ stored at g width l → ((j : ℕ) → j < width → g j ≡ f (i * width + j)) → StoringRows a f m width l₀ l′ (at + width) (i + 1)
+  storing-rows-turn g b e s = record {
+    turns = omega arith;
+    at-is = omega (arith, row-next i width);
+    same = ap length e ∙ length-stored at g width l ∙ h .same;
+    now = e ∙ rw (row-next, h .at-is, h .now) (stored-more a f g (i * width) width l₀ s);
   }
 
--- a row that is scaled
-module _ (p width a g : ℕ) where
-  pub length-scaleRow : (l : List ℕ) → length (scaleRow p width a g l) ≡ length l
-  unfolding scaleRow
-  length-scaleRow l = length-stored a (scaledWord p a g l) width l
+  pub storing-rows-done : m ≤ i → l ≡ stored a f (m * width) l₀
+  storing-rows-done b =
+      let e : i ≡ m = omega arith in
+      rw e at (h .now)
 
-  pub words-scaleRow : 0 < p → {l : List ℕ} → Words p l → Words p (scaleRow p width a g l)
-  unfolding scaleRow scaledWord
-  words-scaleRow h {l} w = words-stored p h a (scaledWord p a g l) width w (λ i t. times-lt p h g (getD l (a + i) 0))
+-- rows that are scaled, row i by g i
+unfoldable pub scaledRowsWord : (p width : ℕ) → (g : ℕ → ℕ) → (words : List ℕ) → (x : ℕ) → ℕ
+scaledRowsWord p width g l x = times p (g (x / width)) (getD l x 0)
 
--- ROWS scaled one after the other, n of them from index a on; row i by g i
-unfoldable pub scaledRowsWord : (p width a : ℕ) → (g : ℕ → ℕ) → (l : List ℕ) → (x : ℕ) → ℕ
-scaledRowsWord p width a g l x = times p (g (x / width)) (getD l (a + x) 0)
+module _ (p width : ℕ) (g : ℕ → ℕ) {m : ℕ} {l₀ l : List ℕ} {at i : ℕ} (h : StoringRows 0 (scaledRowsWord p width g l₀) m width l₀ l at i) where
+  pub scaling-words : 0 < p → Words p l₀ → Words p l
+  unfolding scaledRowsWord
+  scaling-words z w = storing-rows-words h z w (λ k. times-lt p z _ _)
 
-unfoldable pub scaleRows : (p width a : ℕ) → (g : ℕ → ℕ) → (n : ℕ) → (l : List ℕ) → List ℕ
-scaleRows p width a g n l = stored a (scaledRowsWord p width a g l) (n * width) l
-
-module _ (p width a : ℕ) (g : ℕ → ℕ) where
-  pub length-scaleRows : (n : ℕ) (l : List ℕ) → length (scaleRows p width a g n l) ≡ length l
-  unfolding scaleRows
-  length-scaleRows n l = length-stored a (scaledRowsWord p width a g l) (n * width) l
-
-  pub words-scaleRows : 0 < p → (n : ℕ) {l : List ℕ} → Words p l → Words p (scaleRows p width a g n l)
-  unfolding scaleRows scaledRowsWord
-  words-scaleRows h n {l} w = words-stored p h a (scaledRowsWord p width a g l) (n * width) w (λ i t. times-lt p h (g (i / width)) (getD l (a + i) 0))
-
-  pub scaleRows-none : (l : List ℕ) → scaleRows p width a g 0 l ≡ l
-  unfolding scaleRows stored
-  scaleRows-none l = rw zero-mul
-
-  -- one row more
-  pub scaleRows-more : (n : ℕ) (l : List ℕ) → scaleRow p width (a + n * width) (g n) (scaleRows p width a g n l) ≡ scaleRows p width a g (suc n) l
-  unfolding scaleRow scaleRows scaledRowsWord scaledWord
-  scaleRows-more n l =
-      stored-more a (scaledRowsWord p width a g l) (scaledWord p (a + n * width) (g n) (stored a (scaledRowsWord p width a g l) (n * width) l)) (n * width) width l at
-      ∙ ap (λ (m : ℕ). stored a (scaledRowsWord p width a g l) m l) (sym (suc-mul n width))
-    where
-      at : (i : ℕ) → i < width → times p (g n) (getD (stored a (scaledRowsWord p width a g l) (n * width) l) (a + n * width + i) 0) ≡ times p (g ((n * width + i) / width)) (getD l (a + (n * width + i)) 0)
-      at i b = rw (digits-div n b, stored-after a (scaledRowsWord p width a g l) (n * width) l (a + n * width + i) (omega arith), add-assoc)
-
-  pub scaleRows-at : (n : ℕ) (l : List ℕ) (i j : ℕ) → a + n * width ≤ length l → i < n → j < width
-      → getD (scaleRows p width a g n l) (a + (i * width + j)) 0 ≡ times p (g i) (getD l (a + (i * width + j)) 0)
-  unfolding scaleRows scaledRowsWord
-  scaleRows-at n l i j h b t = stored-at a (scaledRowsWord p width a g l) (n * width) l (i * width + j) h (digits-lt b t) ∙ rw (digits-div i t)
-
-  pub scaleRows-after : (n : ℕ) (l : List ℕ) (k : ℕ) → a + n * width ≤ k → getD (scaleRows p width a g n l) k 0 ≡ getD l k 0
-  unfolding scaleRows
-  scaleRows-after n l k h = stored-after a (scaledRowsWord p width a g l) (n * width) l k h
+  pub scaling-turn : {x : ℕ} {l′ : List ℕ} → i < m → x ≡ g i → l′ ≡ scaleRow p width at x l → StoringRows 0 (scaledRowsWord p width g l₀) m width l₀ l′ (at + width) (i + 1)
+  unfolding scaleRow scaledWord scaledRowsWord
+  scaling-turn {x} b ex e =
+      storing-rows-turn h (scaledWord p at x l) b e
+      (λ j t. rw (digits-div i t, ex)
+      (ap (times p (g i)) (storing-rows-rest h (at + j) (omega arith) ∙ ap (λ (k : ℕ). getD l₀ k 0) {x = at + j} {y = i * width + j} (omega (arith, h .at-is)))))
 
 -- weights multiplied
 module _ (p base j : ℕ) (l : List ℕ) (i : ℕ) where
