@@ -83,11 +83,11 @@ positive s = omega (arith, s .stripe .prime .big)
 
 module _ (d : Decoding) where
   -- how many rows there are, and how many blocks
-  abbrev pub positions : ℕ
-  positions = 2 ^ suc (d .l)
+  abbrev pub positionsOf : ℕ
+  positionsOf = 2 ^ suc (d .l)
 
-  abbrev pub blocks : ℕ
-  blocks = 2 ^ d .l
+  abbrev pub blocksOf : ℕ
+  blocksOf = 2 ^ d .l
 
   abbrev pub weightsOf : List ℕ
   weightsOf = weights (d .p) (d .w) (d .k) (d .l) (d .marks)
@@ -95,41 +95,41 @@ module _ (d : Decoding) where
   abbrev pub isConsistent : Bool
   isConsistent = consistent (d .p) (d .w) (d .k) (d .l) (d .t) (d .width) (d .marks) (d .rows)
 
-  abbrev pub leaves : List ℕ
-  leaves = decodeLeaves (d .p) (d .w) (d .k) (d .l) (d .t) (d .width) (d .marks) (d .rows)
+  abbrev pub leavesOf : List ℕ
+  leavesOf = decodeLeaves (d .p) (d .w) (d .k) (d .l) (d .t) (d .width) (d .marks) (d .rows)
 
   -- what the steps make of a column
-  abbrev pub step1 : List ℕ → List ℕ
-  step1 c = weighed (d .p) (d .l) (d .marks) weightsOf c
+  abbrev pub weighedOf : List ℕ → List ℕ
+  weighedOf c = weighed (d .p) (d .l) (d .marks) weightsOf c
 
-  abbrev pub step2 : List ℕ → List ℕ
-  step2 c = splitColumn (d .p) (d .w) (d .k) (d .l) (d .t) (d .marks) c
+  abbrev pub splitOf : List ℕ → List ℕ
+  splitOf c = splitColumn (d .p) (d .w) (d .k) (d .l) (d .t) (d .marks) c
 
-  abbrev pub step3 : List ℕ → List ℕ
-  step3 c = derived (d .p) (d .l) (step2 c)
+  abbrev pub derivedOf : List ℕ → List ℕ
+  derivedOf c = derived (d .p) (d .l) (splitOf c)
 
-  abbrev pub step4 : List ℕ → List ℕ
-  step4 c = evaluated (d .p) (d .w) (d .k) (d .l) (step3 c)
+  abbrev pub evaluatedOf : List ℕ → List ℕ
+  evaluatedOf c = evaluated (d .p) (d .w) (d .k) (d .l) (derivedOf c)
 
-  abbrev pub step5 : List ℕ → List ℕ
-  step5 c = chosen (d .p) (d .w) (d .k) (d .l) (d .marks) weightsOf (step4 c)
+  abbrev pub chosenOf : List ℕ → List ℕ
+  chosenOf c = chosen (d .p) (d .w) (d .k) (d .l) (d .marks) weightsOf (evaluatedOf c)
 
-  abbrev pub step6 : List ℕ → List ℕ
-  step6 c = untransform (d .p) (inverse (d .p) (d .w)) (d .k) (d .l) (step5 c)
+  abbrev pub solvedOf : List ℕ → List ℕ
+  solvedOf c = solvedColumn (d .p) (d .w) (d .k) (d .l) (d .t) (d .marks) c
 
 -- WHAT A PART HOLDS after some steps: f done to each column of the rows, m rows in n words, and the rest behind them
 pub record Holds (d : Decoding) (m n : ℕ) (rest : List ℕ) (f : List ℕ → List ℕ) (part : List ℕ) : Type 0 where
   pub size : n ≡ m * d .width
   pub long : (c : List ℕ) → length (f c) ≡ m
   pub words : (c : List ℕ) → Words (d .p) (f c)
-  pub is : part ≡ lifted (d .width) (positions d) m f (d .rows) ++ rest
+  pub is : part ≡ lifted (d .width) (positionsOf d) m f (d .rows) ++ rest
 
 -- all rows, and then the weights; or a half of i words, and then what stood behind it before
 abbrev pub AllRows : (d : Decoding) → (n : ℕ) → (f : List ℕ → List ℕ) → (part : List ℕ) → Type 0
-AllRows d n f part = Holds d (positions d) n (weightsOf d) f part
+AllRows d n f part = Holds d (positionsOf d) n (weightsOf d) f part
 
 abbrev pub HalfRows : (d : Decoding) → (i : ℕ) → (before : List ℕ) → (f : List ℕ → List ℕ) → (part : List ℕ) → Type 0
-HalfRows d i before f part = Holds d (blocks d) i (drop i before) f part
+HalfRows d i before f part = Holds d (blocksOf d) i (drop i before) f part
 
 -- a map on columns of m words of the field
 record OnColumn (p m : ℕ) (g : List ℕ → List ℕ) : Type 0 where
@@ -138,10 +138,10 @@ record OnColumn (p m : ℕ) (g : List ℕ → List ℕ) : Type 0 where
 
 module _ {d : Decoding} {m n : ℕ} {rest : List ℕ} {f : List ℕ → List ℕ} {part : List ℕ} (h : Holds d m n rest f part) where
   abbrev now : List ℕ
-  now = lifted (d .width) (positions d) m f (d .rows)
+  now = lifted (d .width) (positionsOf d) m f (d .rows)
 
   parts : Parts n part now rest
-  parts = record { is = h .is; long = length-lifted (d .width) (positions d) m f (d .rows) ∙ sym (h .size) }
+  parts = record { is = h .is; long = length-lifted (d .width) (positionsOf d) m f (d .rows) ∙ sym (h .size) }
 
   pub length-holds : length part ≡ n + length rest
   length-holds = length-parts parts
@@ -158,7 +158,7 @@ module _ {d : Decoding} {m n : ℕ} {rest : List ℕ} {f : List ℕ → List ℕ
 
   module _ (s : Sound d) where
     words-now : Words (d .p) now
-    words-now = words-lifted (d .p) (d .width) (positions d) m f (d .rows) (positive s) (λ j _. h .words (column (d .width) (positions d) j (d .rows)))
+    words-now = words-lifted (d .p) (d .width) (positionsOf d) m f (d .rows) (positive s) (λ j _. h .words (column (d .width) (positionsOf d) j (d .rows)))
 
     pub words-lent : Words (d .p) (take n part)
     words-lent = rw (lent-front parts) words-now
@@ -172,92 +172,92 @@ module _ {d : Decoding} {m n : ℕ} {rest : List ℕ} {f : List ℕ → List ℕ
     size = h .size;
     long = λ c. o .long (f c) (h .long c);
     words = λ c. o .words (h .words c);
-    is = ap₂ _++_ (e ∙ ap (lifted (d .width) m m g) (lent-front parts) ∙ lifted-then (d .width) (positions d) m m f g (d .rows) (λ c _. h .long c)) (rest-is parts);
+    is = ap₂ _++_ (e ∙ ap (lifted (d .width) m m g) (lent-front parts) ∙ lifted-then (d .width) (positionsOf d) m m f g (d .rows) (λ c _. h .long c)) (rest-is parts);
   }
 
 module _ {d : Decoding} (s : Sound d) where
-  column-of : (j : ℕ) → Column (d .p) (positions d) (column (d .width) (positions d) j (d .rows))
-  column-of j = record { long = length-column (d .width) (positions d) j (d .rows); words = words-column (d .p) (d .width) (positions d) j (s .words) }
+  column-of : (j : ℕ) → Column (d .p) (positionsOf d) (column (d .width) (positionsOf d) j (d .rows))
+  column-of j = record { long = length-column (d .width) (positionsOf d) j (d .rows); words = words-column (d .p) (d .width) (positionsOf d) j (s .words) }
 
   -- THE STEPS on all rows
-  pub weigh : (part : List ℕ) {n : ℕ} {x : List ℕ} → d .rows ≡ take (positions d * d .width) part → drop (positions d * d .width) part ≡ weightsOf d → n ≡ positions d * d .width
+  pub after-weigh : (part : List ℕ) {n : ℕ} {x : List ℕ} → d .rows ≡ take (positionsOf d * d .width) part → drop (positionsOf d * d .width) part ≡ weightsOf d → n ≡ positionsOf d * d .width
       → x
-      ≡ lifted (d .width) (positions d) (positions d) (weighed (d .p) (d .l) (d .marks) (drop (positions d * d .width) part)) (take (positions d * d .width) part)
-      ++ drop (positions d * d .width) part → AllRows d n (step1 d) x
-  weigh part er ew en e = record {
+      ≡ lifted (d .width) (positionsOf d) (positionsOf d) (weighed (d .p) (d .l) (d .marks) (drop (positionsOf d * d .width) part)) (take (positionsOf d * d .width) part)
+      ++ drop (positionsOf d * d .width) part → AllRows d n (weighedOf d) x
+  after-weigh part er ew en e = record {
     size = en;
     long = length-weighed (d .p) (d .l) (d .marks) (weightsOf d);
     words = words-weighed (d .p) (positive s) (d .l) (d .marks) (weightsOf d);
-    is = e ∙ ap₂ (λ (r v : List ℕ). lifted (d .width) (positions d) (positions d) (weighed (d .p) (d .l) (d .marks) v) r ++ v) (sym er) ew;
+    is = e ∙ ap₂ (λ (r v : List ℕ). lifted (d .width) (positionsOf d) (positionsOf d) (weighed (d .p) (d .l) (d .marks) v) r ++ v) (sym er) ew;
   }
 
   module _ {n : ℕ} {part x : List ℕ} where
-    pub split : {back : ℕ} → AllRows d n (step1 d) part → back ≡ inverse (d .p) (d .w)
-        → x ≡ lifted (d .width) (positions d) (positions d) (Decoder.split (d .p) back (d .k) (d .l) (d .t)) (take n part) → AllRows d n (step2 d) (x ++ drop n part)
-    split h eb e =
+    pub after-split : {back : ℕ} → AllRows d n (weighedOf d) part → back ≡ inverse (d .p) (d .w)
+        → x ≡ lifted (d .width) (positionsOf d) (positionsOf d) (Decoder.split (d .p) back (d .k) (d .l) (d .t)) (take n part) → AllRows d n (splitOf d) (x ++ drop n part)
+    after-split h eb e =
         let w = inverse (d .p) (d .w) in
         next h (record { long = length-split (d .p) (d .l) w (d .k) (d .t); words = words-split (d .p) (positive s) (d .l) w (d .k) (d .t) })
-        (e ∙ ap (λ (b : ℕ). lifted (d .width) (positions d) (positions d) (Decoder.split (d .p) b (d .k) (d .l) (d .t)) (take n part)) eb)
+        (e ∙ ap (λ (b : ℕ). lifted (d .width) (positionsOf d) (positionsOf d) (Decoder.split (d .p) b (d .k) (d .l) (d .t)) (take n part)) eb)
 
-    pub derive : AllRows d n (step2 d) part → x ≡ lifted (d .width) (positions d) (positions d) (derived (d .p) (d .l)) (take n part) → AllRows d n (step3 d) (x ++ drop n part)
-    derive h = next h (record { long = length-derived (d .p) (d .l); words = words-derived (d .p) (positive s) (d .l) })
+    pub after-derive : AllRows d n (splitOf d) part → x ≡ lifted (d .width) (positionsOf d) (positionsOf d) (derived (d .p) (d .l)) (take n part) → AllRows d n (derivedOf d) (x ++ drop n part)
+    after-derive h = next h (record { long = length-derived (d .p) (d .l); words = words-derived (d .p) (positive s) (d .l) })
 
-    pub evaluate : AllRows d n (step3 d) part → x ≡ lifted (d .width) (positions d) (positions d) (evaluated (d .p) (d .w) (d .k) (d .l)) (take n part)
-        → AllRows d n (step4 d) (x ++ drop n part)
-    evaluate h = next h (record { long = length-evaluated (d .p) (d .l) (d .w) (d .k); words = words-evaluated (d .p) (positive s) (d .l) (d .w) (d .k) })
+    pub after-evaluate : AllRows d n (derivedOf d) part → x ≡ lifted (d .width) (positionsOf d) (positionsOf d) (evaluated (d .p) (d .w) (d .k) (d .l)) (take n part)
+        → AllRows d n (evaluatedOf d) (x ++ drop n part)
+    after-evaluate h = next h (record { long = length-evaluated (d .p) (d .l) (d .w) (d .k); words = words-evaluated (d .p) (positive s) (d .l) (d .w) (d .k) })
 
     -- rows that do not pass the check are cleared
-    pub leaves-zeros : AllRows d n (step2 d) part → isConsistent d ≡ false → x ≡ take 0 part ++ replicate (n - 0) 0 ++ drop n part → x ≡ leaves d ++ weightsOf d
+    pub leaves-zeros : AllRows d n (splitOf d) part → isConsistent d ≡ false → x ≡ take 0 part ++ replicate (n - 0) 0 ++ drop n part → x ≡ leavesOf d ++ weightsOf d
     unfolding decodeLeaves
     leaves-zeros h c e =
-        e ∙ ap₂ (λ (i : ℕ) (y : List ℕ). replicate i 0 ++ y) {x = n - 0} {y = positions d * d .width} (omega (arith, h .size)) (rest-is (parts h)) ∙ rw (c, decodeLeaves)
+        e ∙ ap₂ (λ (i : ℕ) (y : List ℕ). replicate i 0 ++ y) {x = n - 0} {y = positionsOf d * d .width} (omega (arith, h .size)) (rest-is (parts h)) ∙ rw (c, decodeLeaves)
 
-  pub check : {n e : ℕ} {part : List ℕ} → AllRows d n (step2 d) part → e ≡ erasedCount (d .l) (d .marks) → lowRows (d .l) e (d .width) (take n part) ≡ isConsistent d
-  check h q =
+  pub check-is : {n e : ℕ} {part : List ℕ} → AllRows d n (splitOf d) part → e ≡ erasedCount (d .l) (d .marks) → lowRows (d .l) e (d .width) (take n part) ≡ isConsistent d
+  check-is h q =
       let e = erasedCount (d .l) (d .marks) in
-      let y = lifted (d .width) (positions d) (positions d) (step2 d) (d .rows) in
-      let at : ℕ → List ℕ = λ j. column (d .width) (positions d) j (d .rows) in
+      let y = lifted (d .width) (positionsOf d) (positionsOf d) (splitOf d) (d .rows) in
+      let at : ℕ → List ℕ = λ j. column (d .width) (positionsOf d) j (d .rows) in
       ap₂ (λ (i : ℕ) (z : List ℕ). lowRows (d .l) i (d .width) z) q (lent-front (parts h)) ∙ low-columns (d .l) e (d .width) y
-      ∙ allTo-same (d .width) (λ j. isLow (d .l) e (column (d .width) (positions d) j y)) (λ j. consistentColumn (d .p) (d .w) (d .k) (d .l) (d .t) (d .marks) (at j))
-      (λ j b. ap (isLow (d .l) e) (column-lifted (d .width) (positions d) (positions d) (step2 d) (d .rows) j b (h .long (at j)))
+      ∙ allTo-same (d .width) (λ j. isLow (d .l) e (column (d .width) (positionsOf d) j y)) (λ j. consistentColumn (d .p) (d .w) (d .k) (d .l) (d .t) (d .marks) (at j))
+      (λ j b. ap (isLow (d .l) e) (column-lifted (d .width) (positionsOf d) (positionsOf d) (splitOf d) (d .rows) j b (h .long (at j)))
       ∙ low-consistent (d .p) (d .w) (d .k) (d .l) (d .t) (d .marks) (s .stripe) (s .enough) (at j) (column-of j))
       ∙ sym (consistent-all (d .p) (d .w) (d .k) (d .l) (d .t) (d .width) (d .marks) (d .rows) (d .width))
 
   -- and on the first half
-  pub choose : (i : ℕ) {n : ℕ} {part x : List ℕ} → AllRows d n (step4 d) part → i ≡ blocks d * d .width
+  pub after-choose : (i : ℕ) {n : ℕ} {part x : List ℕ} → AllRows d n (evaluatedOf d) part → i ≡ blocksOf d * d .width
       → x
-      ≡ lifted (d .width) (positions d) (blocks d) (chosen (d .p) (d .w) (d .k) (d .l) (d .marks) (drop (positions d * d .width) part)) (take (positions d * d .width) part)
-      ++ drop (blocks d * d .width) part → HalfRows d i part (step5 d) x
-  choose i {part = part} g ei e =
-      let q : lifted (d .width) (positions d) (blocks d) (chosen (d .p) (d .w) (d .k) (d .l) (d .marks) (drop (positions d * d .width) part)) (take (positions d * d .width) part)
-      ≡ lifted (d .width) (positions d) (blocks d) (step5 d) (d .rows) =
+      ≡ lifted (d .width) (positionsOf d) (blocksOf d) (chosen (d .p) (d .w) (d .k) (d .l) (d .marks) (drop (positionsOf d * d .width) part)) (take (positionsOf d * d .width) part)
+      ++ drop (blocksOf d * d .width) part → HalfRows d i part (chosenOf d) x
+  after-choose i {part = part} g ei e =
+      let q : lifted (d .width) (positionsOf d) (blocksOf d) (chosen (d .p) (d .w) (d .k) (d .l) (d .marks) (drop (positionsOf d * d .width) part)) (take (positionsOf d * d .width) part)
+      ≡ lifted (d .width) (positionsOf d) (blocksOf d) (chosenOf d) (d .rows) =
       rw (← g .size, rest-is (parts g), lent-front (parts g))
-      (lifted-then (d .width) (positions d) (positions d) (blocks d) (step4 d) (chosen (d .p) (d .w) (d .k) (d .l) (d .marks) (weightsOf d)) (d .rows) (λ c _. g .long c)) in
+      (lifted-then (d .width) (positionsOf d) (positionsOf d) (blocksOf d) (evaluatedOf d) (chosen (d .p) (d .w) (d .k) (d .l) (d .marks) (weightsOf d)) (d .rows) (λ c _. g .long c)) in
       record {
         size = ei;
-        long = λ c. length-chosen (d .p) (d .l) (d .w) (d .k) (d .marks) (weightsOf d) (step4 d c);
-        words = λ c. words-chosen (d .p) (positive s) (d .l) (d .w) (d .k) (d .marks) (weightsOf d) (step4 d c);
+        long = λ c. length-chosen (d .p) (d .l) (d .w) (d .k) (d .marks) (weightsOf d) (evaluatedOf d c);
+        words = λ c. words-chosen (d .p) (positive s) (d .l) (d .w) (d .k) (d .marks) (weightsOf d) (evaluatedOf d c);
         is = e ∙ ap₂ (λ (y z : List ℕ). y ++ z) q (ap (λ (j : ℕ). drop j part) (sym ei));
       }
 
-  pub solve : {i back : ℕ} {rest part x : List ℕ} → Holds d (blocks d) i rest (step5 d) part → back ≡ inverse (d .p) (d .w)
-      → x ≡ lifted (d .width) (blocks d) (blocks d) (untransform (d .p) back (d .k) (d .l)) (take i part) → Holds d (blocks d) i rest (step6 d) (x ++ drop i part)
-  solve {i} {part = part} h eb e =
+  pub after-solve : {i back : ℕ} {rest part x : List ℕ} → Holds d (blocksOf d) i rest (chosenOf d) part → back ≡ inverse (d .p) (d .w)
+      → x ≡ lifted (d .width) (blocksOf d) (blocksOf d) (untransform (d .p) back (d .k) (d .l)) (take i part) → Holds d (blocksOf d) i rest (solvedOf d) (x ++ drop i part)
+  after-solve {i} {part = part} h eb e =
       let w = inverse (d .p) (d .w) in
       next h (record { long = length-untransform (d .p) w (d .k) (d .l); words = words-untransform (d .p) (positive s) w (d .k) (d .l) })
-      (e ∙ ap (λ (b : ℕ). lifted (d .width) (blocks d) (blocks d) (untransform (d .p) b (d .k) (d .l)) (take i part)) eb)
+      (e ∙ ap (λ (b : ℕ). lifted (d .width) (blocksOf d) (blocksOf d) (untransform (d .p) b (d .k) (d .l)) (take i part)) eb)
 
   -- rows that pass: the blocks stay, and the second half is cleared
-  pub leaves-blocks : {i : ℕ} {before part x : List ℕ} → AllRows d (i + i) (step4 d) before → HalfRows d i before (step6 d) part → isConsistent d ≡ true
-      → x ≡ take i part ++ replicate (i + i - i) 0 ++ drop (i + i) part → x ≡ leaves d ++ weightsOf d
+  pub leaves-blocks : {i : ℕ} {before part x : List ℕ} → AllRows d (i + i) (evaluatedOf d) before → HalfRows d i before (solvedOf d) part → isConsistent d ≡ true
+      → x ≡ take i part ++ replicate (i + i - i) 0 ++ drop (i + i) part → x ≡ leavesOf d ++ weightsOf d
   unfolding decodeLeaves decodedRows
   leaves-blocks {i} {before} {part} g h c e =
       let z : drop (i + i) part ≡ weightsOf d = sym (drop-drop i i part) ∙ ap (drop i) (rest-is (parts h)) ∙ drop-drop i i before ∙ rest-is (parts g) in
-      let j : i + i - i ≡ blocks d * d .width = omega (arith, h .size) in
+      let j : i + i - i ≡ blocksOf d * d .width = omega (arith, h .size) in
       let f = decodedColumn (d .p) (d .w) (d .k) (d .l) (d .t) (d .marks) in
-      let y : lifted (d .width) (positions d) (blocks d) (step6 d) (d .rows) ≡ lifted (d .width) (positions d) (blocks d) f (d .rows) =
-      lifted-same (d .width) (positions d) (blocks d) (step6 d) f (d .rows)
-      (λ a b. found-solves (d .p) (d .w) (d .k) (d .l) (d .t) (d .marks) (s .stripe) (s .enough) (column (d .width) (positions d) a (d .rows)) (column-of a)
+      let y : lifted (d .width) (positionsOf d) (blocksOf d) (solvedOf d) (d .rows) ≡ lifted (d .width) (positionsOf d) (blocksOf d) f (d .rows) =
+      lifted-same (d .width) (positionsOf d) (blocksOf d) (solvedOf d) f (d .rows)
+      (λ a b. found-solves (d .p) (d .w) (d .k) (d .l) (d .t) (d .marks) (s .stripe) (s .enough) (column (d .width) (positionsOf d) a (d .rows)) (column-of a)
       (each-consistent (d .p) (d .w) (d .k) (d .l) (d .t) (d .width) (d .marks) (d .rows) c a b) .1) in
       e ∙ rw (c, decodeLeaves, lent-front (parts h), j, z, y)
 

@@ -1,4 +1,4 @@
--- Laws of `column` and `lifted` of specs/Rows: what is done to rows is done to each column. Assumes nothing.
+-- Laws of specs/Rows: the places of rows, columns, and `lifted`: what is done to rows is done to each column. Assumes nothing.
 use mathlib.Core.Path.{_≡_, refl, sym, ap, ap₂, _∙_}
 use mathlib.Core.List.{List, [], _∷_, _++_, map}
 use Prim.Native.Nat.{ℕ, zero, suc, _+_, _*_, _-_, _/_, _%_, _^_, _≤_, _<_}

@@ -1,5 +1,5 @@
--- Products over the erased points, as the decoder's weights and as coefficients: a polynomial times z - a for each erased point a, its value and
--- z R'(z) there, and the division by them again. Assumes nothing.
+-- A polynomial times z - a for each erased point a: its value and z R'(z) at the points, by the decoder's weights, and the division by that product.
+-- Assumes nothing.
 use mathlib.Core.Path.{_≡_, refl, sym, ap, _∙_, subst}
 use mathlib.Core.Logic.{_≢_, ⊎-elim}
 use mathlib.Core.Bool.{Bool, true, false, false≢true}

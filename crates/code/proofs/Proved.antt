@@ -1,4 +1,4 @@
--- The promises of specs/Promises, each proved, under one roof. Assumes nothing.
+-- The promises of specs/Promises and those of the decoder's steps (proofs/Decoder), each proved, under one roof. Assumes nothing.
 use Rattle.code.specs.Promises.{ValuesX, ValuesY, PointsDistinct, Untransforms, Transforms, Unscales, HalfFixes, FindsColumn, FoundColumn, FindsBlocks, FoundBlocks}
 use Rattle.code.proofs.Points.{points-distinct}
 use Rattle.code.proofs.Values.{valuesX, valuesY}

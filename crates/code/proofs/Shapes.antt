@@ -1,4 +1,4 @@
--- The length of what each definition on a column gives, its words, and that they are words of the field. Assumes nothing.
+-- The length of what each definition on a column gives, its words, and that they are words of the field; halves of a column. Assumes nothing.
 use mathlib.Core.Path.{_≡_, refl, sym, ap, ap₂, _∙_}
 use mathlib.Core.List.{List, [], _∷_, _++_}
 use Prim.Native.Nat.{ℕ, zero, suc, _+_, _*_, _/_, _%_, _^_, _<_}

@@ -12,8 +12,7 @@ use Rattle.field.proofs.Primes.{fermat-prime}
 use Rattle.field.proofs.Powers.{inverse-lt}
 use Rattle.field.proofs.WordLists.{words-take, words-drop, length-table}
 use Rattle.code.proofs.Lifting.{two-halves}
-use Rattle.code.proofs.DecodeRows as Rows
-use Rattle.code.proofs.DecodeRows.{Decoding, Sound, AllRows, HalfRows, isConsistent, weightsOf, step1, step2, step3, step4, step5, step6, fits, counted, sized, words-lent, words-part, length-holds, length-half}
+use Rattle.code.proofs.DecodeRows.{Decoding, Sound, AllRows, HalfRows, isConsistent, weightsOf, weighedOf, splitOf, derivedOf, evaluatedOf, chosenOf, solvedOf, fits, counted, sized, words-lent, words-part, length-holds, length-half, after-weigh, after-split, check-is, leaves-zeros, after-derive, after-evaluate, after-choose, after-solve, leaves-blocks}
 use Rattle.code.proofs.decoding.decode.Statement.{statement}
 use Rattle.code.proofs.decoding.decode.Tie as tie
 
@@ -67,10 +66,10 @@ First c before f part = HalfRows (decoding (start c)) (half c) before (f (decodi
 abbrev weigh-inverse : tie.After-weigh → tie.After-inverse
 weigh-inverse c = c .before .before
 
-weigh-holds : (c : tie.After-weigh) → All (weigh-inverse c .before) step1 (c .weigh .last .0)
+weigh-holds : (c : tie.After-weigh) → All (weigh-inverse c .before) weighedOf (c .weigh .last .0)
 weigh-holds c =
     let two = weigh-inverse c .before in
-    Rows.weigh (sound (start two)) (start two .args .part .now) refl (start two .pre .1 .1 .1 .1 .1 .1) (all-is two) (c .weigh .ensures)
+    after-weigh (sound (start two)) (start two .args .part .now) refl (start two .pre .1 .1 .1 .1 .1 .1) (all-is two) (c .weigh .ensures)
 
 abbrev split-weigh : tie.After-split → tie.After-weigh
 split-weigh c = c .before .before .before .before
@@ -84,14 +83,14 @@ split-two c = split-inverse c .before
 abbrev split-part : tie.After-split → List ℕ
 split-part c = c .split .last .0 ++ drop (half (split-two c) + half (split-two c)) (split-weigh c .weigh .last .0)
 
-split-holds : (c : tie.After-split) → All (split-two c) step2 (split-part c)
-split-holds c = Rows.split (sound (start (split-two c))) (weigh-holds (split-weigh c)) (split-inverse c .inverse .ensures) (c .split .ensures)
+split-holds : (c : tie.After-split) → All (split-two c) splitOf (split-part c)
+split-holds c = after-split (sound (start (split-two c))) (weigh-holds (split-weigh c)) (split-inverse c .inverse .ensures) (c .split .ensures)
 
 abbrev low-split : tie.After-is-low → tie.After-split
 low-split c = c .before .before .before .before .before
 
 checked : (c : tie.After-is-low) → c .is-low .result ≡ isConsistent (decoding (start (split-two (low-split c))))
-checked c = c .is-low .ensures ∙ Rows.check (sound (start (split-two (low-split c)))) (split-holds (low-split c)) (c .before .before .count-erased .ensures)
+checked c = c .is-low .ensures ∙ check-is (sound (start (split-two (low-split c)))) (split-holds (low-split c)) (c .before .before .count-erased .ensures)
 
 abbrev derive-split : tie.After-derive → tie.After-split
 derive-split c = low-split (c .before .before .before)
@@ -102,8 +101,8 @@ derive-two c = split-two (derive-split c)
 abbrev derive-part : tie.After-derive → List ℕ
 derive-part c = c .derive .last .0 ++ drop (half (derive-two c) + half (derive-two c)) (split-part (derive-split c))
 
-derive-holds : (c : tie.After-derive) → All (derive-two c) step3 (derive-part c)
-derive-holds c = Rows.derive (sound (start (derive-two c))) (split-holds (derive-split c)) (c .derive .ensures)
+derive-holds : (c : tie.After-derive) → All (derive-two c) derivedOf (derive-part c)
+derive-holds c = after-derive (sound (start (derive-two c))) (split-holds (derive-split c)) (c .derive .ensures)
 
 abbrev evaluate-derive : tie.After-evaluate → tie.After-derive
 evaluate-derive c = c .before .before .before .before
@@ -114,8 +113,8 @@ evaluate-two c = derive-two (evaluate-derive c)
 abbrev evaluate-part : tie.After-evaluate → List ℕ
 evaluate-part c = c .evaluate .last .0 ++ drop (half (evaluate-two c) + half (evaluate-two c)) (derive-part (evaluate-derive c))
 
-evaluate-holds : (c : tie.After-evaluate) → All (evaluate-two c) step4 (evaluate-part c)
-evaluate-holds c = Rows.evaluate (sound (start (evaluate-two c))) (derive-holds (evaluate-derive c)) (c .evaluate .ensures)
+evaluate-holds : (c : tie.After-evaluate) → All (evaluate-two c) evaluatedOf (evaluate-part c)
+evaluate-holds c = after-evaluate (sound (start (evaluate-two c))) (derive-holds (evaluate-derive c)) (c .evaluate .ensures)
 
 abbrev choose-evaluate : tie.After-choose → tie.After-evaluate
 choose-evaluate c = c .before .before .before .before
@@ -123,10 +122,10 @@ choose-evaluate c = c .before .before .before .before
 abbrev choose-two : tie.After-choose → tie.After-two-to
 choose-two c = evaluate-two (choose-evaluate c)
 
-choose-holds : (c : tie.After-choose) → First (choose-two c) (evaluate-part (choose-evaluate c)) step5 (c .choose .last .0)
+choose-holds : (c : tie.After-choose) → First (choose-two c) (evaluate-part (choose-evaluate c)) chosenOf (c .choose .last .0)
 choose-holds c =
     let two = choose-two c in
-    Rows.choose (sound (start two)) (half two) (evaluate-holds (choose-evaluate c)) (half-is two) (c .choose .ensures)
+    after-choose (sound (start two)) (half two) (evaluate-holds (choose-evaluate c)) (half-is two) (c .choose .ensures)
 
 abbrev unmix-choose : tie.After-unmix-all → tie.After-choose
 unmix-choose c = c .before .before .before .before
@@ -140,8 +139,8 @@ choose-inverse c = split-inverse (derive-split (evaluate-derive (choose-evaluate
 abbrev unmix-part : tie.After-unmix-all → List ℕ
 unmix-part c = c .unmix-all .last .0 ++ drop (half (unmix-two c)) (unmix-choose c .choose .last .0)
 
-unmix-holds : (c : tie.After-unmix-all) → First (unmix-two c) (evaluate-part (choose-evaluate (unmix-choose c))) step6 (unmix-part c)
-unmix-holds c = Rows.solve (sound (start (unmix-two c))) (choose-holds (unmix-choose c)) (choose-inverse (unmix-choose c) .inverse .ensures) (c .unmix-all .ensures)
+unmix-holds : (c : tie.After-unmix-all) → First (unmix-two c) (evaluate-part (choose-evaluate (unmix-choose c))) solvedOf (unmix-part c)
+unmix-holds c = after-solve (sound (start (unmix-two c))) (choose-holds (unmix-choose c)) (choose-inverse (unmix-choose c) .inverse .ensures) (c .unmix-all .ensures)
 
 unmix-long : (c : tie.After-unmix-all) → length (unmix-part c) ≡ half (unmix-two c) + half (unmix-two c) + 2 ^ suc (start (unmix-two c) .args .level)
 unmix-long c =
@@ -201,7 +200,7 @@ returns c =
     let then = clear .before .before in
     let low = then .before in
     let e = sym (checked low) ∙ not-true (low .is-low .result) (then .if1 .taken) in
-    (sym e, Rows.leaves-zeros (sound (start (split-two (low-split low)))) (split-holds (low-split low)) e (clear .clear .ensures))
+    (sym e, leaves-zeros (sound (start (split-two (low-split low)))) (split-holds (low-split low)) e (clear .clear .ensures))
 
 slice-relend-prefix-derive : tie.Need-slice-relend-prefix-derive
 slice-relend-prefix-derive c = fits (split-holds (low-split (c .before)))
@@ -265,7 +264,7 @@ returns-2 c =
     let evaluate = choose-evaluate (unmix-choose at) in
     let else = evaluate-derive evaluate .before .before in
     let e = sym (checked (else .before)) ∙ not-false (else .before .is-low .result) (else .if1 .left) in
-    (sym e, Rows.leaves-blocks (sound (start (unmix-two at))) (evaluate-holds evaluate) (unmix-holds at) e (clear .clear2 .ensures))
+    (sym e, leaves-blocks (sound (start (unmix-two at))) (evaluate-holds evaluate) (unmix-holds at) e (clear .clear2 .ensures))
 
 pub decode-spec : {M : Type 1} → statement M
 decode-spec =
