@@ -62,6 +62,16 @@ low-columns l e width r =
         ap₂ (λ (x y : ℕ). ltb (reversed l i) e || eqb x y) (sym (column-at width (2 ^ suc l) j r i (omega arith)))
         (ap (λ (q : ℕ). getD r q 0) {x = 2 ^ l * width + i * width + j} {y = (2 ^ l + i) * width + j} (omega arith) ∙ sym (column-at width (2 ^ suc l) j r (2 ^ l + i) (omega arith)))
 
+-- WHAT DECODING LEAVES, by the check
+module _ (p w k l t width : ℕ) (ms : List Bool) (r : List ℕ) where
+  pub leaves-blocks : consistent p w k l t width ms r ≡ true → decodeLeaves p w k l t width ms r ≡ decodedRows p w k l t width ms r ++ replicate (2 ^ l * width) 0
+  unfolding decodeLeaves
+  leaves-blocks e = rw (e, decodeLeaves)
+
+  pub leaves-zeros : consistent p w k l t width ms r ≡ false → decodeLeaves p w k l t width ms r ≡ replicate (2 ^ suc l * width) 0
+  unfolding decodeLeaves
+  leaves-zeros e = rw (e, decodeLeaves)
+
 -- A DECODING: the field and the root, the levels of the vault and of the stripe, t0, the words of a row, the marks and the rows
 pub record Decoding : Type 0 where
   pub p : ℕ
@@ -207,10 +217,10 @@ module _ {d : Decoding} (s : Sound d) where
     after-evaluate h = next h (record { long = length-evaluated (d .p) (d .l) (d .w) (d .k); words = words-evaluated (d .p) (positive s) (d .l) (d .w) (d .k) })
 
     -- rows that do not pass the check are cleared
-    pub leaves-zeros : AllRows d n (splitOf d) part → isConsistent d ≡ false → x ≡ take 0 part ++ replicate (n - 0) 0 ++ drop n part → x ≡ leavesOf d ++ weightsOf d
-    unfolding decodeLeaves
-    leaves-zeros h c e =
-        e ∙ ap₂ (λ (i : ℕ) (y : List ℕ). replicate i 0 ++ y) {x = n - 0} {y = positionsOf d * d .width} (omega (arith, h .size)) (rest-is (parts h)) ∙ rw (c, decodeLeaves)
+    pub after-refusal : AllRows d n (splitOf d) part → isConsistent d ≡ false → x ≡ take 0 part ++ replicate (n - 0) 0 ++ drop n part → x ≡ leavesOf d ++ weightsOf d
+    after-refusal h c e =
+        e ∙ ap₂ (λ (i : ℕ) (y : List ℕ). replicate i 0 ++ y) {x = n - 0} {y = positionsOf d * d .width} (omega (arith, h .size)) (rest-is (parts h))
+        ∙ ap (λ (y : List ℕ). y ++ weightsOf d) (sym (leaves-zeros (d .p) (d .w) (d .k) (d .l) (d .t) (d .width) (d .marks) (d .rows) c))
 
   pub check-is : {n e : ℕ} {part : List ℕ} → AllRows d n (splitOf d) part → e ≡ erasedCount (d .l) (d .marks) → lowRows (d .l) e (d .width) (take n part) ≡ isConsistent d
   check-is h q =
@@ -248,10 +258,10 @@ module _ {d : Decoding} (s : Sound d) where
       (e ∙ ap (λ (b : ℕ). lifted (d .width) (blocksOf d) (blocksOf d) (untransform (d .p) b (d .k) (d .l)) (take i part)) eb)
 
   -- rows that pass: the blocks stay, and the second half is cleared
-  pub leaves-blocks : {i : ℕ} {before part x : List ℕ} → AllRows d (i + i) (evaluatedOf d) before → HalfRows d i before (solvedOf d) part → isConsistent d ≡ true
+  pub after-blocks : {i : ℕ} {before part x : List ℕ} → AllRows d (i + i) (evaluatedOf d) before → HalfRows d i before (solvedOf d) part → isConsistent d ≡ true
       → x ≡ take i part ++ replicate (i + i - i) 0 ++ drop (i + i) part → x ≡ leavesOf d ++ weightsOf d
-  unfolding decodeLeaves decodedRows
-  leaves-blocks {i} {before} {part} g h c e =
+  unfolding decodedRows
+  after-blocks {i} {before} {part} g h c e =
       let z : drop (i + i) part ≡ weightsOf d = sym (drop-drop i i part) ∙ ap (drop i) (rest-is (parts h)) ∙ drop-drop i i before ∙ rest-is (parts g) in
       let j : i + i - i ≡ blocksOf d * d .width = omega (arith, h .size) in
       let f = decodedColumn (d .p) (d .w) (d .k) (d .l) (d .t) (d .marks) in
@@ -259,7 +269,7 @@ module _ {d : Decoding} (s : Sound d) where
       lifted-same (d .width) (positionsOf d) (blocksOf d) (solvedOf d) f (d .rows)
       (λ a b. found-solves (d .p) (d .w) (d .k) (d .l) (d .t) (d .marks) (s .stripe) (s .enough) (column (d .width) (positionsOf d) a (d .rows)) (column-of a)
       (each-consistent (d .p) (d .w) (d .k) (d .l) (d .t) (d .width) (d .marks) (d .rows) c a b) .1) in
-      e ∙ rw (c, decodeLeaves, lent-front (parts h), j, z, y)
+      e ∙ rw (lent-front (parts h), j, z, y) (ap (λ (q : List ℕ). q ++ weightsOf d) (sym (leaves-blocks (d .p) (d .w) (d .k) (d .l) (d .t) (d .width) (d .marks) (d .rows) c)))
 
 pub length-half : {d : Decoding} {i : ℕ} {before part : List ℕ} {f g : List ℕ → List ℕ} → AllRows d (i + i) f before → HalfRows d i before g part → length part ≡ length before
 length-half {i = i} {before = before} h g = length-holds g ∙ ap (λ (j : ℕ). i + j) (length-drop i before) ∙ omega (arith, fits h)

@@ -12,7 +12,7 @@ use Rattle.field.proofs.Primes.{fermat-prime}
 use Rattle.field.proofs.Powers.{inverse-lt}
 use Rattle.field.proofs.WordLists.{words-take, words-drop, length-table}
 use Rattle.code.proofs.Lifting.{two-halves}
-use Rattle.code.proofs.DecodeRows.{Decoding, Sound, AllRows, HalfRows, isConsistent, weightsOf, weighedOf, splitOf, derivedOf, evaluatedOf, chosenOf, solvedOf, fits, counted, sized, words-lent, words-part, length-holds, length-half, after-weigh, after-split, check-is, leaves-zeros, after-derive, after-evaluate, after-choose, after-solve, leaves-blocks}
+use Rattle.code.proofs.DecodeRows.{Decoding, Sound, AllRows, HalfRows, isConsistent, weightsOf, weighedOf, splitOf, derivedOf, evaluatedOf, chosenOf, solvedOf, fits, counted, sized, words-lent, words-part, length-holds, length-half, after-weigh, after-split, check-is, after-refusal, after-derive, after-evaluate, after-choose, after-solve, after-blocks}
 use Rattle.code.proofs.decoding.decode.Statement.{statement}
 use Rattle.code.proofs.decoding.decode.Tie as tie
 
@@ -200,7 +200,7 @@ returns c =
     let then = clear .before .before in
     let low = then .before in
     let e = sym (checked low) ∙ not-true (low .is-low .result) (then .if1 .taken) in
-    (sym e, leaves-zeros (sound (start (split-two (low-split low)))) (split-holds (low-split low)) e (clear .clear .ensures))
+    (sym e, after-refusal (sound (start (split-two (low-split low)))) (split-holds (low-split low)) e (clear .clear .ensures))
 
 slice-relend-prefix-derive : tie.Need-slice-relend-prefix-derive
 slice-relend-prefix-derive c = fits (split-holds (low-split (c .before)))
@@ -264,7 +264,7 @@ returns-2 c =
     let evaluate = choose-evaluate (unmix-choose at) in
     let else = evaluate-derive evaluate .before .before in
     let e = sym (checked (else .before)) ∙ not-false (else .before .is-low .result) (else .if1 .left) in
-    (sym e, leaves-blocks (sound (start (unmix-two at))) (evaluate-holds evaluate) (unmix-holds at) e (clear .clear2 .ensures))
+    (sym e, after-blocks (sound (start (unmix-two at))) (evaluate-holds evaluate) (unmix-holds at) e (clear .clear2 .ensures))
 
 pub decode-spec : {M : Type 1} → statement M
 decode-spec =
