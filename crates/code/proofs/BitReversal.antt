@@ -25,7 +25,7 @@ unfolding reversed
 reversed-suc k t = refl
 
 -- s above l bits j: s's bits come first, and j's above them
-pub reversed-parts : (l n k s j : ℕ) → n ≡ k + l → j < 2 ^ l → reversed n (2 ^ l * s + j) ≡ reversed k s + 2 ^ k * reversed l j
+reversed-parts : (l n k s j : ℕ) → n ≡ k + l → j < 2 ^ l → reversed n (2 ^ l * s + j) ≡ reversed k s + 2 ^ k * reversed l j
 reversed-parts zero n k s j e b =
     ap₂ reversed {x = n} {y = k} {u = 1 * s + j} {v = s} (omega arith) (omega arith) ∙ omega (arith, ap (λ (t : ℕ). 2 ^ k * t) (reversed-zero j))
 reversed-parts (suc l) zero k s j e b = absurd (omega arith)
@@ -41,10 +41,10 @@ reversed-one : (b : ℕ) → reversed 1 b ≡ b % 2
 unfolding reversed
 reversed-one b = omega arith
 
-pub reversed-even : (l j : ℕ) → reversed (suc l) (2 * j) ≡ reversed l j
+reversed-even : (l j : ℕ) → reversed (suc l) (2 * j) ≡ reversed l j
 reversed-even l j = reversed-suc l (2 * j) ∙ ap₂ (λ (x y : ℕ). 2 ^ l * x + reversed l y) {x = 2 * j % 2} {y = 0} {u = 2 * j / 2} {v = j} (omega arith) (omega arith) ∙ omega arith
 
-pub reversed-odd : (l j : ℕ) → reversed (suc l) (suc (2 * j)) ≡ 2 ^ l + reversed l j
+reversed-odd : (l j : ℕ) → reversed (suc l) (suc (2 * j)) ≡ 2 ^ l + reversed l j
 reversed-odd l j = reversed-suc l (suc (2 * j)) ∙ ap₂ (λ (x y : ℕ). 2 ^ l * x + reversed l y) {x = suc (2 * j) % 2} {y = 1} {u = suc (2 * j) / 2} {v = j} (omega arith) (omega arith) ∙ omega arith
 
 -- a bit above l others comes lowest

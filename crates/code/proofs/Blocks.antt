@@ -5,25 +5,25 @@ use Prim.Native.Nat.{ℕ, zero, suc, _+_, _-_, _*_, _/_, _^_, _≤_, _<_}
 use native.Mathlib.Nat.{add-mul, add-assoc, zero-add, zero-mul, one-mul, mul-assoc, mul-comm, pow-suc, le-mul-of-pos-right}
 use native.Mathlib.Numerals.{add-one}
 use native.Mathlib.Omega.{arith}
-use lib.Pow.{pow-pos, pow-mono, pow-add, shl-shr}
+use lib.Pow.{pow-pos, pow-mono, pow-add}
 use lib.ListN.{length, take, drop, length-append, length-drop, take-append-drop}
 use lib.Seq.{length-take-le, take-at, drop-at, take-add, drop-drop, take-append-add, drop-append-add, take-length, drop-length}
 use borrow.Rule.Slice.PartMut.{putMid, mid-len}
 use Rattle.field.specs.Words.{Words}
+use Rattle.field.proofs.Unity.{two-div}
 use Rattle.field.proofs.WordLists.{words-take, words-drop, words-part, words-append}
 use Rattle.code.specs.Rows.{column, lifted}
 use Rattle.code.specs.Transform.{mixedHalves, unmixed}
 use Rattle.code.specs.MixTrace.{eachBlock}
-use Rattle.code.proofs.Lifting.{length-lifted, length-column, words-lifted, lifted-id, lifted-same, lifted-then, lifted-append}
+use Rattle.code.proofs.Lifting.{length-lifted, length-column, words-lifted, lifted-id, lifted-same, lifted-then, lifted-append, row-in}
 use Rattle.code.proofs.Shapes.{words-mixed, words-unmixed}
-use Rattle.code.proofs.Crossing.{row-in}
 
 -- what is done to a block gives as many words, and words of the field
 pub record OnBlock (p n : ℕ) (f : List ℕ → List ℕ) : Type 0 where
   pub long : (a : List ℕ) → length (f a) ≡ n
   pub words : (a : List ℕ) → Words p (f a)
 
-pub lifted-block : (p width n : ℕ) (f : List ℕ → List ℕ) → 0 < p → ((c : List ℕ) → Words p (f c)) → OnBlock p (n * width) (lifted width n n f)
+lifted-block : (p width n : ℕ) (f : List ℕ → List ℕ) → 0 < p → ((c : List ℕ) → Words p (f c)) → OnBlock p (n * width) (lifted width n n f)
 lifted-block p width n f h u =
     record { long = length-lifted width n n f; words = λ a. words-lifted p width n n f a h (λ j b. u (column width n j a)) }
 
@@ -34,7 +34,7 @@ pub unmixing-block : (width m v : ℕ) → OnBlock 65537 ((m + m) * width) (lift
 unmixing-block width m v = lifted-block 65537 width (m + m) (unmixed 65537 v m) (omega arith) (words-unmixed 65537 (omega arith) v m)
 
 -- l with f done to its n words from index `from`
-unfoldable pub patched : (from n : ℕ) → (f : List ℕ → List ℕ) → List ℕ → List ℕ
+unfoldable patched : (from n : ℕ) → (f : List ℕ → List ℕ) → List ℕ → List ℕ
 patched from n f l = take from l ++ (f (take n (drop from l)) ++ drop (from + n) l)
 
 -- A PART THAT IS LENT from `from` to `from + n`: its length, its words, and the whole once f is done to it
@@ -45,19 +45,19 @@ module _ (from n : ℕ) where
   pub part-words : {p : ℕ} {l : List ℕ} → 0 < p → Words p l → Words p (take (from + n - from) (drop from l))
   part-words {p} h w = words-part p h (from + n - from) from w
 
-  pub put-patched : (f : List ℕ → List ℕ) (l ys : List ℕ) → ys ≡ f (take (from + n - from) (drop from l)) → putMid from (from + n - from) l ys ≡ patched from n f l
+  put-patched : (f : List ℕ → List ℕ) (l ys : List ℕ) → ys ≡ f (take (from + n - from) (drop from l)) → putMid from (from + n - from) l ys ≡ patched from n f l
   unfolding patched
   put-patched f l ys e =
       let d : from + n - from ≡ n = omega arith in
       rw (e, d, drop-drop)
 
-  pub length-patched : (f : List ℕ → List ℕ) (l : List ℕ) → from + n ≤ length l → length (f (take n (drop from l))) ≡ n → length (patched from n f l) ≡ length l
+  length-patched : (f : List ℕ → List ℕ) (l : List ℕ) → from + n ≤ length l → length (f (take n (drop from l))) ≡ n → length (patched from n f l) ≡ length l
   unfolding patched
   length-patched f l h e =
       let front : length (take from l) ≡ from = length-take-le from l (omega arith) in
       simp (length-append, length-drop, e, front) (omega arith)
 
-  pub words-patched : {p : ℕ} (f : List ℕ → List ℕ) {l : List ℕ} → 0 < p → Words p l → Words p (f (take n (drop from l))) → Words p (patched from n f l)
+  words-patched : {p : ℕ} (f : List ℕ → List ℕ) {l : List ℕ} → 0 < p → Words p l → Words p (f (take n (drop from l))) → Words p (patched from n f l)
   unfolding patched
   words-patched {p} f {l} h w u = words-append p h {a = take from l} (words-take p h from w) (words-append p h {a = f (take n (drop from l))} u (words-drop p h (from + n) w))
 
@@ -190,9 +190,7 @@ pub pow-down : {n l : ℕ} → l < n → 2 ^ (n - l) ≡ 2 ^ (n - suc l) * 2
 pow-down {n} {l} h = ap (λ (i : ℕ). 2 ^ i) {x = n - l} {y = suc (n - suc l)} (omega arith) ∙ pow-suc 2 (n - suc l)
 
 pub pow-over : {n l : ℕ} → l ≤ n → 2 ^ n / 2 ^ l ≡ 2 ^ (n - l)
-pow-over {n} {l} h =
-    let e : 2 ^ n ≡ 2 ^ (n - l) * 2 ^ l = ap (λ (i : ℕ). 2 ^ i) {x = n} {y = n - l + l} (omega arith) ∙ pow-add 2 (n - l) l in
-    rw e (shl-shr (2 ^ (n - l)) l)
+pow-over {n} {l} h = two-div n l h
 
 -- A LEVEL of a half of 2 ^ level rows: b blocks of m + m rows, where m is 2 ^ l
 pub record Level (width level l len b m : ℕ) : Type 0 where

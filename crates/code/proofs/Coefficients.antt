@@ -82,7 +82,7 @@ module _ (p : ℕ) (h : 0 < p) where
       let t = v (euler p q x) in
       ring p h (v x ⊗ (v e ⊕ (v x ⊖ v a) ⊗ s ⊕ (v x ⊗ s ⊕ (v x ⊖ v a) ⊗ t))) (v x ⊗ (v e ⊕ v x ⊗ s) ⊕ (v x ⊖ v a) ⊗ (v x ⊗ (s ⊕ t))) h h (omega arith))
 
-  pub horner-plus : (n : ℕ) (f g : ℕ → ℕ) (x : ℕ) → horner p (table n (λ j. plus p (f j) (g j))) x ≡ plus p (horner p (table n f) x) (horner p (table n g) x)
+  horner-plus : (n : ℕ) (f g : ℕ → ℕ) (x : ℕ) → horner p (table n (λ j. plus p (f j) (g j))) x ≡ plus p (horner p (table n f) x) (horner p (table n g) x)
   unfolding horner table
   horner-plus zero f g x = ring p h (v 0) (v 0 ⊕ v 0) h h (omega arith)
   horner-plus (suc n) f g x =
@@ -91,7 +91,7 @@ module _ (p : ℕ) (h : 0 < p) where
       let t = v (horner p (table n (λ j. g (suc j))) x) in
       ring p h (v (f 0) ⊕ v (g 0) ⊕ v x ⊗ (s ⊕ t)) (v (f 0) ⊕ v x ⊗ s ⊕ (v (g 0) ⊕ v x ⊗ t)) h h (omega arith))
 
-  pub horner-minus : (n : ℕ) (f g : ℕ → ℕ) (x : ℕ) → horner p (table n (λ j. minus p (f j) (g j))) x ≡ minus p (horner p (table n f) x) (horner p (table n g) x)
+  horner-minus : (n : ℕ) (f g : ℕ → ℕ) (x : ℕ) → horner p (table n (λ j. minus p (f j) (g j))) x ≡ minus p (horner p (table n f) x) (horner p (table n g) x)
   unfolding horner table
   horner-minus zero f g x = ring p h (v 0) (v 0 ⊖ v 0) h h (omega arith)
   horner-minus (suc n) f g x =
@@ -102,7 +102,7 @@ module _ (p : ℕ) (h : 0 < p) where
 
 -- a polynomial of n + m coefficients, cut at n
 module _ (p : ℕ) (h : 1 < p) where
-  pub horner-parts : (n m : ℕ) (f : ℕ → ℕ) (x : ℕ) → horner p (table (n + m) f) x ≡ plus p (horner p (table n f) x) (times p (power p x n) (horner p (table m (λ j. f (n + j))) x))
+  horner-parts : (n m : ℕ) (f : ℕ → ℕ) (x : ℕ) → horner p (table (n + m) f) x ≡ plus p (horner p (table n f) x) (times p (power p x n) (horner p (table m (λ j. f (n + j))) x))
   unfolding horner table
   horner-parts zero m f x =
       let t = horner p (table m (λ j. f (0 + j))) x in

@@ -1,67 +1,38 @@
 -- Decoding of a column: the column found is the one that codes to all surviving words, if there is one. Assumes nothing.
 use mathlib.Core.Path.{_≡_, refl, sym, ap, _∙_, subst}
-use mathlib.Core.Bool.{Bool, true, false, _||_, and-eq-true-iff}
-use mathlib.Core.List.{List, [], _∷_, map}
+use mathlib.Core.Bool.{Bool, true, false, _&&_, _||_}
+use mathlib.Core.List.{List, map}
 use Prim.Native.Nat.{ℕ, zero, suc, _^_, _<_}
-use native.Mathlib.Decide.{decLt}
 use native.Mathlib.Omega.{arith}
 use lib.Dec.{eqb}
 use lib.ListN.{length, getD, take, length-map}
 use lib.Seq.{length-take-le, getD-take}
-use borrow.Author.Tests.{eqb-true, eq-eqb}
 use Rattle.field.specs.Polynomial.{horner, interpolate}
 use Rattle.field.specs.Words.{Words}
 use Rattle.field.proofs.Polynomials.{Distinct, interpolate-length, interpolate-words, interpolate-is}
-use Rattle.field.proofs.WordLists.{words-nil, words-cons}
+use Rattle.field.proofs.WordLists.{words-map, getD-map}
 use Rattle.code.specs.Stripe.{coded}
 use Rattle.code.specs.Decoding.{survivors, pointAt, valueAt, bitReversed, decodedColumn, agrees, consistentColumn}
+use Rattle.code.specs.DecodeTrace.{allTo}
 use Rattle.code.specs.Promises.{Stripe, Column, Enough, Agrees, FindsColumn, FoundColumn}
-use Rattle.code.proofs.Shapes.{words-coded}
+use Rattle.code.proofs.Shapes.{words-coded, column-reversed}
 use Rattle.code.proofs.BitReversal.{bitReversed-twice}
 use Rattle.code.proofs.Survivors.{Survivors, survivors-are}
-use Rattle.code.proofs.Values.{points-distinct}
-use Rattle.code.proofs.Half.{value-same, value-lt, value-is, point-lt, column-reversed, same-polynomial}
+use Rattle.code.proofs.Tests.{unless-same, same-unless, allTo-all, allTo-each}
+use Rattle.code.proofs.Points.{point-lt, points-distinct}
+use Rattle.code.proofs.Half.{value-same, value-lt, value-is, same-polynomial}
 
 -- the test `agrees` says what `Agrees` does
-unmarked : (b : Bool) (x y : ℕ) → (b ≡ false → x ≡ y) → (b || eqb x y) ≡ true
-unmarked true x y e = refl
-unmarked false x y e = eq-eqb x y (e refl)
+agrees-all : (ms : List Bool) (n : ℕ) (a b : List ℕ) → agrees ms n a b ≡ allTo n (λ i. getD ms i false || eqb (getD a i 0) (getD b i 0))
+unfolding agrees allTo
+agrees-all ms zero a b = refl
+agrees-all ms (suc n) a b = ap (λ (t : Bool). (getD ms n false || eqb (getD a n 0) (getD b n 0)) && t) (agrees-all ms n a b)
 
-pub agrees-true : (ms : List Bool) (n : ℕ) (a b : List ℕ) → Agrees ms n a b → agrees ms n a b ≡ true
-unfolding agrees
-agrees-true ms zero a b A = refl
-agrees-true ms (suc n) a b A =
-    and-eq-true-iff (getD ms n false || eqb (getD a n 0) (getD b n 0)) (agrees ms n a b) .1
-    (unmarked (getD ms n false) (getD a n 0) (getD b n 0) (A .same n (omega arith)), agrees-true ms n a b (record { same = λ i l. A .same i (omega arith) }))
+agrees-true : (ms : List Bool) (n : ℕ) (a b : List ℕ) → Agrees ms n a b → agrees ms n a b ≡ true
+agrees-true ms n a b A = agrees-all ms n a b ∙ allTo-all n _ (λ i l. unless-same (getD ms i false) (getD a i 0) (getD b i 0) (A .same i l))
 
-unmarked-same : (b : Bool) (x y : ℕ) → (b || eqb x y) ≡ true → b ≡ false → x ≡ y
-unmarked-same true x y e m = cc
-unmarked-same false x y e m = eqb-true x y e
-
-agrees-at : (ms : List Bool) (n : ℕ) (a b : List ℕ) → agrees ms n a b ≡ true → (i : ℕ) → i < n → getD ms i false ≡ false → getD a i 0 ≡ getD b i 0
-unfolding agrees
-agrees-at ms zero a b e i l = absurd (omega arith)
-agrees-at ms (suc n) a b e i l =
-    let t = and-eq-true-iff (getD ms n false || eqb (getD a n 0) (getD b n 0)) (agrees ms n a b) .0 e in
-    below (decLt i n) (unmarked-same (getD ms n false) (getD a n 0) (getD b n 0) (t .0)) (agrees-at ms n a b (t .1) i)
-  where
-    below : Dec (i < n) → (getD ms n false ≡ false → getD a n 0 ≡ getD b n 0) → (i < n → getD ms i false ≡ false → getD a i 0 ≡ getD b i 0)
-        → getD ms i false ≡ false → getD a i 0 ≡ getD b i 0
-    below (yes y) last rest = rest y
-    below (no y) last rest = subst (λ (j : ℕ). getD ms j false ≡ false → getD a j 0 ≡ getD b j 0) {x = n} {y = i} (omega arith) last
-
-pub agrees-same : (ms : List Bool) (n : ℕ) (a b : List ℕ) → agrees ms n a b ≡ true → Agrees ms n a b
-agrees-same ms n a b e = record { same = agrees-at ms n a b e }
-
--- a function of each element of a list
-pub getD-map : (f : ℕ → ℕ) (s : List ℕ) (k : ℕ) → k < length s → getD (map f s) k 0 ≡ f (getD s k 0)
-getD-map f [] k b = absurd (omega arith)
-getD-map f (x ∷ s) zero b = refl
-getD-map f (x ∷ s) (suc k) b = getD-map f s k (omega arith)
-
-pub words-map : (p : ℕ) → 0 < p → (f : ℕ → ℕ) (s : List ℕ) → ((k : ℕ) → k < length s → f (getD s k 0) < p) → Words p (map f s)
-words-map p h f [] b = words-nil p h
-words-map p h f (x ∷ s) b = words-cons p h (b 0 (omega arith)) (words-map p h f s (λ k l. b (suc k) (omega arith)))
+agrees-same : (ms : List Bool) (n : ℕ) (a b : List ℕ) → agrees ms n a b ≡ true → Agrees ms n a b
+agrees-same ms n a b e = record { same = λ i l. same-unless (getD ms i false) (getD a i 0) (getD b i 0) (allTo-each n _ (sym (agrees-all ms n a b) ∙ e) i l) }
 
 -- the polynomial that is interpolated from the words at the first 2 ^ l surviving positions
 abbrev firsts : (l : ℕ) → List Bool → List ℕ
@@ -118,7 +89,7 @@ module _ (p w k l t : ℕ) (ms : List Bool) (c : List ℕ) (S : Stripe p w k l t
   found-value j m =
       ap (horner p (found p w k l t ms c)) (sym (point-is j m))
       ∙ interpolate-is p (S .prime) (map (pointAt p w k l) (firsts l ms)) (map (valueAt p w k l t c) (firsts l ms)) (long-points ∙ sym long-values)
-      (words-map p h (pointAt p w k l) (firsts l ms) (λ i n. point-lt p w k l (getD (firsts l ms) i 0) (S .prime .big))) words-values points-apart j (omega (arith, long-points))
+      (words-map p h (pointAt p w k l) (firsts l ms) (λ i n. point-lt p w k l (S .prime .big) (getD (firsts l ms) i 0))) words-values points-apart j (omega (arith, long-points))
       ∙ getD-map (valueAt p w k l t c) (firsts l ms) j (omega (arith, long-firsts)) ∙ ap (valueAt p w k l t c) (first-is j m)
 
 -- a column that codes to the words at those positions is the one found
@@ -127,7 +98,7 @@ decoded-same : (p w k l t : ℕ) (ms : List Bool) (c xs : List ℕ) → Stripe p
 decoded-same p w k l t ms c xs S E C A =
     decoded-is p w k l t ms c
     ∙ ap (bitReversed l)
-    (same-polynomial p w k l t ms (found p w k l t ms c) (bitReversed l xs) S E (found-column p w k l t ms c S E below) (column-reversed p l xs h′ C)
+    (same-polynomial p w k l t ms (found p w k l t ms c) (bitReversed l xs) S E (found-column p w k l t ms c S E below) (column-reversed p h′ l xs C)
     (λ j m. found-value p w k l t ms c S E below j m ∙ sym (value-same p w k l t ys c (at j) (same j m)) ∙ sym (value-is p w k l t xs S C (at j) (inside j m))))
     ∙ bitReversed-twice l xs (C .long)
   where
@@ -159,4 +130,4 @@ pub foundColumn : FoundColumn
 unfolding consistentColumn
 foundColumn p w k l t ms c S E C e =
     let h′ : 0 < p = omega (arith, S .root .odd) in
-    (rw decoded-is (column-reversed p l (found p w k l t ms c) h′ (found-column p w k l t ms c S E (λ j m. C .words .word _))), agrees-same ms (2 ^ suc l) _ c e)
+    (rw decoded-is (column-reversed p h′ l (found p w k l t ms c) (found-column p w k l t ms c S E (λ j m. C .words .word _))), agrees-same ms (2 ^ suc l) _ c e)

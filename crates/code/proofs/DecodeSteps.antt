@@ -17,10 +17,10 @@ use Rattle.code.specs.Transform.{reversed}
 use Rattle.code.specs.Rows.{column, lifted}
 use Rattle.code.specs.Decoder.{halfOf, derivedAt, derived, divisorAt, chosenAt, chosen, weighedAt, weighed}
 use Rattle.code.specs.RowTrace.{stored}
-use Rattle.code.proofs.Lifting.{length-column, column-at, is-lifted, lifted-append}
+use Rattle.code.proofs.Tests.{choice-lt}
+use Rattle.code.proofs.Lifting.{length-column, column-at, is-lifted, lifted-append, table-lifted, two-halves}
 use Rattle.code.proofs.DecoderShapes.{derived-low, derived-high, chosen-at, weighed-at}
-use Rattle.code.proofs.RowLaws.{length-stored, stored-before, stored-at, stored-is, scaledRowsWord, scaleRows}
-use Rattle.code.proofs.DecodeTraces.{table-lifted, two-halves}
+use Rattle.code.proofs.RowLaws.{length-stored, stored-before, stored-at, stored-is, scaledRowsWord}
 
 -- STEP 3, word q of the second half
 unfoldable pub deriveWord : (p level width : ℕ) → (rows : List ℕ) → (q : ℕ) → ℕ
@@ -93,33 +93,28 @@ weightOr ms ws i = elim (getD ms i false) [ true ↦ 0 | false ↦ getD ws i 0 ]
 
 pub weightOr-lt : (p : ℕ) → 0 < p → (ms : List Bool) {ws : List ℕ} → Words p ws → (i : ℕ) → weightOr ms ws i < p
 unfolding weightOr
-weightOr-lt p z ms {ws} w i = marked (getD ms i false)
-  where
-    marked : (m : Bool) → elim m [ true ↦ 0 | false ↦ getD ws i 0 ] < p
-    marked true = z
-    marked false = w .word i
+weightOr-lt p z ms w i = choice-lt (getD ms i false) z (w .word i)
 
 module _ (p : ℕ) (z : 0 < p) (l width : ℕ) (ms : List Bool) (part : List ℕ) (long : 2 ^ suc l * width ≤ length part) where
   weigh-word : (i j : ℕ) → i < 2 ^ suc l → j < width
-      → scaledRowsWord p width 0 (weightOr ms (drop (2 ^ suc l * width) part)) part (i * width + j)
+      → scaledRowsWord p width (weightOr ms (drop (2 ^ suc l * width) part)) part (i * width + j)
       ≡ getD (weighed p l ms (drop (2 ^ suc l * width) part) (column width (2 ^ suc l) j (take (2 ^ suc l * width) part))) i 0
   unfolding scaledRowsWord weightOr weighedAt
   weigh-word i j h b =
       let ws = drop (2 ^ suc l * width) part in
       let c = column width (2 ^ suc l) j (take (2 ^ suc l * width) part) in
       let x : getD c i 0 ≡ getD part (i * width + j) 0 = column-take width (2 ^ suc l) i j part h b in
-      rw (digits-div i b, zero-add, ← x) (marked (getD ms i false) (getD ws i 0) (getD c i 0)) ∙ sym (weighed-at p l ms ws c i h)
+      rw (digits-div i b, ← x) (marked (getD ms i false) (getD ws i 0) (getD c i 0)) ∙ sym (weighed-at p l ms ws c i h)
     where
       marked : (m : Bool) (a b : ℕ) → times p (elim m [ true ↦ 0 | false ↦ a ]) b ≡ elim m [ true ↦ 0 | false ↦ times p a b ]
       marked true a b = times-comm p z 0 b ∙ times-zero p z b
       marked false a b = refl
 
-  pub weigh-rows : scaleRows p width 0 (weightOr ms (drop (2 ^ suc l * width) part)) (2 ^ suc l) part
+  pub weigh-rows : stored 0 (scaledRowsWord p width (weightOr ms (drop (2 ^ suc l * width) part)) part) (2 ^ suc l * width) part
       ≡ lifted width (2 ^ suc l) (2 ^ suc l) (weighed p l ms (drop (2 ^ suc l * width) part)) (take (2 ^ suc l * width) part) ++ drop (2 ^ suc l * width) part
-  unfolding scaleRows
   weigh-rows =
       let ws = drop (2 ^ suc l * width) part in
-      let f = scaledRowsWord p width 0 (weightOr ms ws) part in
+      let f = scaledRowsWord p width (weightOr ms ws) part in
       stored-is 0 f (2 ^ suc l * width) part (omega arith)
       ∙ rw (zero-add, table-lifted width (2 ^ suc l) (2 ^ suc l) (weighed p l ms ws) f (take (2 ^ suc l * width) part) weigh-word)
 

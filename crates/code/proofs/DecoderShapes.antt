@@ -1,18 +1,17 @@
 -- The length of what each step of the decoder gives, its words, and that they are words of the field. Assumes nothing.
-use mathlib.Core.Path.{_≡_, sym, ap, _∙_}
-use mathlib.Core.Bool.{Bool, true, false}
-use mathlib.Core.List.{List, _++_}
-use Prim.Native.Nat.{ℕ, suc, _+_, _-_, _^_, _<_}
-use lib.ListN.{length, getD, take, drop, List·getD-append}
-use lib.Seq.{getD-append-add, getD-take}
-use Rattle.field.specs.Residue.{times}
-use Rattle.field.specs.Power.{inverse}
+use mathlib.Core.Path.{_≡_, _∙_}
+use mathlib.Core.Bool.{Bool, false}
+use mathlib.Core.List.{List}
+use Prim.Native.Nat.{ℕ, suc, _+_, _^_, _<_}
+use lib.ListN.{length, getD, take, drop}
+use lib.Seq.{getD-take}
 use Rattle.field.specs.Words.{Words, table}
-use Rattle.field.proofs.Powers.{power-lt}
+use Rattle.field.proofs.Laws.{minus-lt, times-lt}
 use Rattle.field.proofs.WordLists.{words-take, words-drop, words-append, words-table, length-table, getD-table}
 use Rattle.code.specs.Transform.{transform, untransform, turned}
 use Rattle.code.specs.Decoder.{weighedAt, weighed, split, derivedAt, derived, evaluated, chosenAt, chosen}
-use Rattle.code.proofs.Shapes.{take-half, drop-half, length-halves, length-transform, length-untransform, length-turned, times-lt, minus-lt, words-transform, words-untransform, words-turned}
+use Rattle.code.proofs.Tests.{choice-lt}
+use Rattle.code.proofs.Shapes.{take-half, drop-half, length-halves, length-transform, length-untransform, length-turned, append-low, append-high, words-transform, words-untransform, words-turned}
 
 -- lengths
 module _ (p l : ℕ) where
@@ -48,33 +47,21 @@ module _ (p l : ℕ) where
 
   pub derived-low : (c : List ℕ) (i : ℕ) → length c ≡ 2 ^ suc l → i < 2 ^ l → getD (derived p l c) i 0 ≡ getD c i 0
   unfolding derived
-  derived-low c i e b =
-      let b′ : i < length (take (2 ^ l) c) = rw (take-half l c e) b in
-      List·getD-append (take (2 ^ l) c) (table (2 ^ l) (derivedAt p l c)) 0 i b′ ∙ getD-take (2 ^ l) c i 0 b
+  derived-low c i e b = append-low (take (2 ^ l) c) (table (2 ^ l) (derivedAt p l c)) (take-half l c e) i b ∙ getD-take (2 ^ l) c i 0 b
 
   pub derived-high : (c : List ℕ) (i : ℕ) → length c ≡ 2 ^ suc l → i < 2 ^ l → getD (derived p l c) (2 ^ l + i) 0 ≡ derivedAt p l c i
   unfolding derived
-  derived-high c i e b =
-      ap (λ (n : ℕ). getD (take (2 ^ l) c ++ table (2 ^ l) (derivedAt p l c)) (n + i) 0) (sym (take-half l c e))
-      ∙ getD-append-add (take (2 ^ l) c) (table (2 ^ l) (derivedAt p l c)) i 0 ∙ getD-table (2 ^ l) i (derivedAt p l c) b
+  derived-high c i e b = append-high (take (2 ^ l) c) (table (2 ^ l) (derivedAt p l c)) (take-half l c e) i ∙ getD-table (2 ^ l) i (derivedAt p l c) b
 
   pub chosen-at : (w k : ℕ) (ms : List Bool) (ws c : List ℕ) (i : ℕ) → i < 2 ^ l → getD (chosen p w k l ms ws c) i 0 ≡ chosenAt p w k l ms ws c i
   unfolding chosen
   chosen-at w k ms ws c i b = getD-table (2 ^ l) i (chosenAt p w k l ms ws c) b
 
 -- words of the field
-pub inverse-lt : (p : ℕ) → 1 < p → (x : ℕ) → inverse p x < p
-unfolding inverse
-inverse-lt p h x = power-lt p h x (p - 2)
-
 module _ (p : ℕ) (h : 0 < p) (l : ℕ) where
   pub words-weighed : (ms : List Bool) (ws c : List ℕ) → Words p (weighed p l ms ws c)
   unfolding weighed weighedAt
-  words-weighed ms ws c = words-table p h (2 ^ suc l) (weighedAt p ms ws c) (λ i _. word (getD ms i false) i)
-    where
-      word : (m : Bool) (i : ℕ) → elim m [ true ↦ 0 | false ↦ times p (getD ws i 0) (getD c i 0) ] < p
-      word true i = h
-      word false i = times-lt p h (getD ws i 0) (getD c i 0)
+  words-weighed ms ws c = words-table p h (2 ^ suc l) (weighedAt p ms ws c) (λ i _. choice-lt (getD ms i false) h (times-lt p h _ _))
 
   pub words-split : (w k t : ℕ) {c : List ℕ} → Words p c → Words p (split p w k l t c)
   unfolding split

@@ -1,49 +1,34 @@
 -- What a transform and its inverse do to a polynomial: coefficients, at bit-reversed places, become the values at the points of X or Y, and values
--- become 2 ^ level times the coefficients. Assumes nothing but what the sections take: promises of specs/Promises.
+-- become 2 ^ level times the coefficients. Assumes nothing.
 use mathlib.Core.Path.{_≡_, refl, sym, ap, ap₂, _∙_}
-use mathlib.Core.Logic.{⊎-elim}
-use mathlib.Core.List.{List, [], _∷_, _++_}
-use Prim.Native.Nat.{ℕ, zero, suc, _+_, _*_, _/_, _%_, _^_, _<_}
-use native.Mathlib.Nat.{mod-self, mod-eq-of-lt}
+use mathlib.Core.List.{List, [], _∷_}
+use Prim.Native.Nat.{ℕ, suc, _+_, _/_, _^_, _<_}
 use native.Mathlib.Omega.{arith}
-use lib.Pow.{pow-pos}
-use lib.ListN.{length, getD, List·getD-append}
-use lib.Seq.{getD-append-add, ext-getD}
+use lib.ListN.{length, getD}
+use lib.Seq.{ext-getD}
 use Rattle.field.specs.Residue.{times}
 use Rattle.field.specs.Power.{power, inverse}
 use Rattle.field.specs.Polynomial.{horner}
 use Rattle.field.specs.Field.{Prime, Root}
 use Rattle.field.specs.Words.{Words, table}
-use Rattle.field.proofs.Congruence.{Cong, of-eq, intro, trans~, times~}
-use Rattle.field.proofs.Ring.{v, _⊗_, ring, lin, lin~}
+use Rattle.field.proofs.Congruence.{Cong, of-eq}
+use Rattle.field.proofs.Ring.{v, _⊗_, lin, lin~}
+use Rattle.field.proofs.PowersOfTwo.{two-inverse}
 use Rattle.field.proofs.Unity.{power-inverse}
-use Rattle.field.proofs.WordLists.{length-table, getD-table, is-table, words-table, words-tail}
+use Rattle.field.proofs.WordLists.{is-table, words-tail}
 use Rattle.code.specs.Transform.{transform, untransform, turned, scaled, reversed}
-use Rattle.code.specs.Stripe.{coded}
 use Rattle.code.specs.Decoding.{pointAt, bitReversed}
 use Rattle.code.specs.Decoder.{halfOf}
-use Rattle.code.specs.Promises.{Stripe, Column, ValuesX, ValuesY, Untransforms, Transforms, Unscales}
-use Rattle.code.proofs.Shapes.{length-transform, length-untransform, length-scaled, length-turned, length-bitReversed, bitReversed-at, scaled-at, reversed-lt, words-untransform, words-turned, words-bitReversed}
+use Rattle.code.specs.Promises.{Stripe, Column}
+use Rattle.code.proofs.Shapes.{length-transform, length-untransform, length-scaled, length-turned, length-bitReversed, bitReversed-at, coded-low, coded-high, scaled-at, reversed-lt, words-untransform, column-reversed, column-turned}
 use Rattle.code.proofs.BitReversal.{bitReversed-twice}
+use Rattle.code.proofs.Values.{valuesX, valuesY}
+use Rattle.code.proofs.Inverse.{untransforms, transforms}
 
--- 2 has an inverse modulo an odd prime
-module _ (p : ℕ) (P : Prime p) (b : 2 < p) where
-  odd : p % 2 ≡ 1
-  odd = go (p % 2) refl
-    where
-      go : (r : ℕ) → p % 2 ≡ r → p % 2 ≡ 1
-      go zero e =
-          let d : 2 * (p / 2) % p ≡ 0 = ap (λ (n : ℕ). n % p) {x = 2 * (p / 2)} {y = p} (omega arith) ∙ mod-self p in
-          absurd (⊎-elim (λ z. let y : 2 ≡ 0 = sym (mod-eq-of-lt {n = 2} {m = p} b) ∙ z in omega arith) (λ z. let y : p / 2 ≡ 0 = sym (mod-eq-of-lt {n = p / 2} {m = p} (omega arith)) ∙ z in omega arith) (P .domain 2 (p / 2) d))
-      go (suc zero) e = e
-      go (suc (suc r)) e = absurd (omega arith)
-
-  pub two-inverse : Cong p (times p 2 ((p + 1) / 2)) 1
-  two-inverse = trans~ (times~ p 2 ((p + 1) / 2)) (intro p (2 * ((p + 1) / 2)) 1 0 1 (omega (arith, odd)))
-
-  pub half-is : (l : ℕ) → Cong p (times p 2 (halfOf p l)) (2 ^ l)
-  unfolding halfOf
-  half-is l = let g = v ((p + 1) / 2) in let m = v (2 ^ l) in lin~ p (omega arith) (v 2 ⊗ (g ⊗ m)) m m (v 2 ⊗ g) (v 1) two-inverse (omega arith)
+-- M / 2
+pub half-is : (p : ℕ) → Prime p → 2 < p → (l : ℕ) → Cong p (times p 2 (halfOf p l)) (2 ^ l)
+unfolding halfOf
+half-is p P b l = let g = v ((p + 1) / 2) in let m = v (2 ^ l) in lin~ p (omega arith) (v 2 ⊗ (g ⊗ m)) m m (v 2 ⊗ g) (v 1) (two-inverse p P b) (omega arith)
 
 pub bitReversed-scaled : (p g l : ℕ) (cs : List ℕ) → length cs ≡ 2 ^ l → bitReversed l (scaled p g cs) ≡ scaled p g (bitReversed l cs)
 bitReversed-scaled p g l cs e =
@@ -58,7 +43,7 @@ module _ (p w k : ℕ) (P : Prime p) (R : Root p k w) where
   h : 0 < p
   h = omega (arith, P .big)
 
-  pub unturned : (g t : ℕ) (xs : List ℕ) → turned p (inverse p w) k t (scaled p g (turned p w k t xs)) ≡ scaled p g xs
+  unturned : (g t : ℕ) (xs : List ℕ) → turned p (inverse p w) k t (scaled p g (turned p w k t xs)) ≡ scaled p g xs
   unfolding turned scaled
   unturned g t [] = refl
   unturned g t (x ∷ xs) =
@@ -66,7 +51,7 @@ module _ (p w k : ℕ) (P : Prime p) (R : Root p k w) where
       let b = v (power p (inverse p w) (reversed k t)) in
       ap₂ _∷_ (lin p h (b ⊗ (v g ⊗ (a ⊗ v x))) (v g ⊗ v x) (v g ⊗ v x) (a ⊗ b) (v 1) (of-eq p (power-inverse p k w P R (reversed k t))) h h (omega arith)) (unturned g (suc t) xs)
 
-  pub returned : (t : ℕ) (xs : List ℕ) → Words p xs → turned p w k t (turned p (inverse p w) k t xs) ≡ xs
+  returned : (t : ℕ) (xs : List ℕ) → Words p xs → turned p w k t (turned p (inverse p w) k t xs) ≡ xs
   unfolding turned
   returned t [] u = refl
   returned t (x ∷ xs) u =
@@ -74,88 +59,58 @@ module _ (p w k : ℕ) (P : Prime p) (R : Root p k w) where
       let b = v (power p (inverse p w) (reversed k t)) in
       ap₂ _∷_ (lin p h (a ⊗ (b ⊗ v x)) (v x) (v x) (a ⊗ b) (v 1) (of-eq p (power-inverse p k w P R (reversed k t))) h (u .word 0) (omega arith)) (returned (suc t) xs (words-tail u))
 
--- X and Y of a coded column
-module _ (p w k l t : ℕ) (xs : List ℕ) (long : length xs ≡ 2 ^ l) where
-  coded-low : (i : ℕ) → i < 2 ^ l → getD (transform p w k l xs) i 0 ≡ getD (coded p w k l t xs) i 0
-  unfolding coded
-  coded-low i b = sym (List·getD-append (transform p w k l xs) (transform p w k l (turned p w k t xs)) 0 i (omega (arith, length-transform p w k l xs long)))
-
-  coded-high : (i : ℕ) → getD (transform p w k l (turned p w k t xs)) i 0 ≡ getD (coded p w k l t xs) (2 ^ l + i) 0
-  unfolding coded
-  coded-high i =
-      sym (getD-append-add (transform p w k l xs) (transform p w k l (turned p w k t xs)) i 0)
-      ∙ ap (λ (n : ℕ). getD (transform p w k l xs ++ transform p w k l (turned p w k t xs)) (n + i) 0) (length-transform p w k l xs long)
-
 module _ (p w k l t : ℕ) (stripe : Stripe p w k l t) where
   positive : 0 < p
   positive = omega (arith, stripe .prime .big)
 
-  -- M = 2 ^ level has an inverse
-  pub size-inverse : Unscales → times p (inverse p (2 ^ l % p)) (2 ^ l) ≡ 1
-  size-inverse unscales =
-      let n = 2 ^ l in
-      let g = inverse p (2 ^ l % p) in
-      let b : 0 < 2 ^ l = pow-pos l in
-      let ones = table n (λ _. 1) in
-      let e = unscales p w k l t ones stripe (record { long = length-table n (λ _. 1); words = words-table p positive n (λ _. 1) (λ _ _. stripe .prime .big) }) in
-      ring p positive (v g ⊗ v n) (v g ⊗ (v n ⊗ v 1)) positive positive (omega arith) ∙ ap (λ (x : ℕ). times p g (times p n x)) (sym (getD-table n 0 (λ _. 1) b))
-      ∙ ap (times p g) (sym (scaled-at p n ones 0 (omega (arith, length-table n (λ _. 1)))))
-      ∙ sym (scaled-at p g (scaled p n ones) 0 (omega (arith, length-scaled p n ones, length-table n (λ _. 1))))
-      ∙ ap (λ (xs : List ℕ). getD xs 0 0) e ∙ getD-table n 0 (λ _. 1) b
-
-  pub turned-column : (xs : List ℕ) → length xs ≡ 2 ^ l → Column p (2 ^ l) (turned p w k t xs)
-  turned-column xs e = record { long = length-turned p w k t xs ∙ e; words = words-turned p positive w k t xs }
-
   module _ (cs : List ℕ) (column : Column p (2 ^ l) cs) where
-    pub reversed-column : Column p (2 ^ l) (bitReversed l cs)
-    reversed-column = record { long = length-bitReversed l cs; words = words-bitReversed p positive l (column .words) }
+    reversed-column : Column p (2 ^ l) (bitReversed l cs)
+    reversed-column = column-reversed p positive l cs column
 
-    pub transform-values : ValuesX → transform p w k l (bitReversed l cs) ≡ table (2 ^ l) (λ i. horner p cs (pointAt p w k l i))
-    transform-values valuesX =
+    pub transform-values : transform p w k l (bitReversed l cs) ≡ table (2 ^ l) (λ i. horner p cs (pointAt p w k l i))
+    transform-values =
         is-table (transform p w k l (bitReversed l cs)) (2 ^ l) (λ i. horner p cs (pointAt p w k l i)) (length-transform p w k l (bitReversed l cs) (length-bitReversed l cs))
-        (λ i b. coded-low p w k l t (bitReversed l cs) (length-bitReversed l cs) i b ∙ valuesX p w k l t (bitReversed l cs) i stripe reversed-column b
+        (λ i b. sym (coded-low p w k l t (bitReversed l cs) (length-bitReversed l cs) i b) ∙ valuesX p w k l t (bitReversed l cs) i stripe reversed-column b
         ∙ ap (λ ds. horner p ds (pointAt p w k l i)) (bitReversed-twice l cs (column .long)))
 
-    pub transform-turned-values : ValuesY
-        → transform p w k l (turned p w k t (bitReversed l cs)) ≡ table (2 ^ l) (λ i. times p (power p w (reversed k t)) (horner p cs (pointAt p w k l (2 ^ l + i))))
-    transform-turned-values valuesY =
+    transform-turned-values : transform p w k l (turned p w k t (bitReversed l cs)) ≡ table (2 ^ l) (λ i. times p (power p w (reversed k t)) (horner p cs (pointAt p w k l (2 ^ l + i))))
+    transform-turned-values =
         is-table (transform p w k l (turned p w k t (bitReversed l cs))) (2 ^ l) (λ i. times p (power p w (reversed k t)) (horner p cs (pointAt p w k l (2 ^ l + i))))
         (length-transform p w k l (turned p w k t (bitReversed l cs)) (length-turned p w k t (bitReversed l cs) ∙ length-bitReversed l cs))
-        (λ i b. coded-high p w k l t (bitReversed l cs) (length-bitReversed l cs) i ∙ valuesY p w k l t (bitReversed l cs) i stripe reversed-column b
+        (λ i b. sym (coded-high p w k l t (bitReversed l cs) (length-bitReversed l cs) i) ∙ valuesY p w k l t (bitReversed l cs) i stripe reversed-column b
         ∙ ap (λ ds. times p (power p w (reversed k t)) (horner p ds (pointAt p w k l (2 ^ l + i)))) (bitReversed-twice l cs (column .long)))
 
-    pub untransform-values : ValuesX → Untransforms → untransform p (inverse p w) k l (table (2 ^ l) (λ i. horner p cs (pointAt p w k l i))) ≡ scaled p (2 ^ l) (bitReversed l cs)
-    untransform-values valuesX untransforms = ap (untransform p (inverse p w) k l) (sym (transform-values valuesX)) ∙ untransforms p w k l t (bitReversed l cs) stripe reversed-column
+    pub untransform-values : untransform p (inverse p w) k l (table (2 ^ l) (λ i. horner p cs (pointAt p w k l i))) ≡ scaled p (2 ^ l) (bitReversed l cs)
+    untransform-values = ap (untransform p (inverse p w) k l) (sym transform-values) ∙ untransforms p w k l t (bitReversed l cs) stripe reversed-column
 
-    pub untransform-turned-values : ValuesY → Untransforms
-        → turned p (inverse p w) k t (untransform p (inverse p w) k l (table (2 ^ l) (λ i. times p (power p w (reversed k t)) (horner p cs (pointAt p w k l (2 ^ l + i))))))
+    pub untransform-turned-values : turned p (inverse p w) k t (untransform p (inverse p w) k l (table (2 ^ l) (λ i. times p (power p w (reversed k t)) (horner p cs (pointAt p w k l (2 ^ l + i))))))
         ≡ scaled p (2 ^ l) (bitReversed l cs)
-    untransform-turned-values valuesY untransforms =
-        ap (λ c. turned p (inverse p w) k t (untransform p (inverse p w) k l c)) (sym (transform-turned-values valuesY))
-        ∙ ap (turned p (inverse p w) k t) (untransforms p w k l t (turned p w k t (bitReversed l cs)) stripe (turned-column (bitReversed l cs) (length-bitReversed l cs)))
+    untransform-turned-values =
+        ap (λ c. turned p (inverse p w) k t (untransform p (inverse p w) k l c)) (sym transform-turned-values)
+        ∙ ap (turned p (inverse p w) k t) (untransforms p w k l t (turned p w k t (bitReversed l cs)) stripe (column-turned p positive w k t (bitReversed l cs) (length-bitReversed l cs)))
         ∙ unturned p w k (stripe .prime) (stripe .root) (2 ^ l) t (bitReversed l cs)
 
   -- values that are untransformed are 2 ^ level times the coefficients' values
-  module _ (vs : List ℕ) (column : Column p (2 ^ l) vs) (transforms : Transforms) where
+  module _ (vs : List ℕ) (column : Column p (2 ^ l) vs) where
     transformed-at : (i : ℕ) → i < 2 ^ l → getD (transform p w k l (untransform p (inverse p w) k l vs)) i 0 ≡ times p (2 ^ l) (getD vs i 0)
     transformed-at i b =
         ap (λ (c : List ℕ). getD c i 0) (transforms p w k l t vs stripe column) ∙ scaled-at p (2 ^ l) vs i (omega (arith, column .long))
 
-    pub untransformed-value : ValuesX → (i : ℕ) → i < 2 ^ l
+    pub untransformed-value : (i : ℕ) → i < 2 ^ l
         → horner p (bitReversed l (untransform p (inverse p w) k l vs)) (pointAt p w k l i) ≡ times p (2 ^ l) (getD vs i 0)
-    untransformed-value valuesX i b =
+    untransformed-value i b =
         let a = untransform p (inverse p w) k l vs in
         let e : length a ≡ 2 ^ l = length-untransform p (inverse p w) k l vs (column .long) in
         sym (valuesX p w k l t a i stripe (record { long = e; words = words-untransform p positive (inverse p w) k l (column .words) }) b)
-        ∙ sym (coded-low p w k l t a e i b) ∙ transformed-at i b
+        ∙ coded-low p w k l t a e i b ∙ transformed-at i b
 
-    pub untransformed-turned-value : ValuesY → (i : ℕ) → i < 2 ^ l
+    pub untransformed-turned-value : (i : ℕ) → i < 2 ^ l
         → times p (power p w (reversed k t)) (horner p (bitReversed l (turned p (inverse p w) k t (untransform p (inverse p w) k l vs))) (pointAt p w k l (2 ^ l + i)))
         ≡ times p (2 ^ l) (getD vs i 0)
-    untransformed-turned-value valuesY i b =
+    untransformed-turned-value i b =
         let a = untransform p (inverse p w) k l vs in
         let d = turned p (inverse p w) k t a in
         let e : length d ≡ 2 ^ l = length-turned p (inverse p w) k t a ∙ length-untransform p (inverse p w) k l vs (column .long) in
-        sym (valuesY p w k l t d i stripe (record { long = e; words = words-turned p positive (inverse p w) k t a }) b) ∙ sym (coded-high p w k l t d e i)
+        sym (valuesY p w k l t d i stripe (column-turned p positive (inverse p w) k t a (length-untransform p (inverse p w) k l vs (column .long))) b) ∙ coded-high p w k l t d e i
         ∙ ap (λ (c : List ℕ). getD (transform p w k l c) i 0) (returned p w k (stripe .prime) (stripe .root) t a (words-untransform p positive (inverse p w) k l (column .words)))
         ∙ transformed-at i b

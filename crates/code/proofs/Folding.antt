@@ -1,75 +1,58 @@
 -- The decoder's steps on the values of a polynomial R of 2M coefficients f 0, f 1, .., M = 2 ^ level, from the values at the 2M points to M times R and
--- M times z R'(z) at the points of X. Assumes nothing but what the section takes: promises of specs/Promises.
+-- M times z R'(z) at the points of X. Assumes nothing.
 use mathlib.Core.Path.{_≡_, refl, sym, ap, ap₂, _∙_}
-use mathlib.Core.Logic.{⊎-elim}
-use mathlib.Core.Bool.{Bool, true, false, _&&_, _||_}
+use mathlib.Core.Bool.{Bool, true, _&&_, _||_}
 use mathlib.Core.List.{List, _++_}
 use Prim.Native.Nat.{ℕ, zero, suc, _+_, _^_, _≤_, _<_}
-use native.Mathlib.Nat.{eq-or-lt-of-le}
 use native.Mathlib.Decide.{decLt}
 use native.Mathlib.Omega.{arith}
 use lib.Dec.{ltb, eqb}
-use lib.ListN.{length, getD, take, drop, length-append, List·getD-append, List·getD-eq-default}
-use lib.Seq.{getD-append-add, getD-take, getD-drop, take-at, drop-at}
-use borrow.Author.Tests.{ltb-false, eqb-true, eq-eqb, le-ltb}
+use lib.ListN.{length, getD, take, drop, length-append, List·getD-eq-default}
+use lib.Seq.{getD-take, getD-drop, take-at, drop-at}
+use borrow.Author.Tests.{ltb-false, le-ltb}
 use Rattle.field.specs.Residue.{plus, minus, times}
 use Rattle.field.specs.Power.{power, inverse}
 use Rattle.field.specs.Polynomial.{horner}
 use Rattle.field.specs.Words.{table}
 use Rattle.field.proofs.Ring.{v, _⊕_, _⊖_, _⊗_, _⊞_, ring, lin}
-use Rattle.field.proofs.WordLists.{length-table, getD-table, is-table, same-table, words-table, table-low, table-high}
+use Rattle.field.proofs.Laws.{plus-lt, minus-lt}
+use Rattle.field.proofs.WordLists.{length-table, getD-table, is-table, same-table, table-low, table-high}
 use Rattle.code.specs.Transform.{transform, untransform, turned, scaled, reversed}
 use Rattle.code.specs.Decoding.{pointAt, bitReversed}
 use Rattle.code.specs.Decoder.{split, lowTo, halfOf, derivedAt, derived, evaluated}
-use Rattle.code.specs.Promises.{Stripe, Column, ValuesX, ValuesY, Untransforms}
-use Rattle.code.proofs.Shapes.{plus-lt, minus-lt, take-half, drop-half, length-scaled, length-bitReversed, bitReversed-at, scaled-at, reversed-lt, words-scaled}
+use Rattle.code.specs.DecodeTrace.{allTo}
+use Rattle.code.specs.Promises.{Stripe}
+use Rattle.code.proofs.Tests.{unless-same, same-unless, allTo-all, allTo-each}
+use Rattle.code.proofs.Shapes.{append-low, append-high, take-half, drop-half, length-scaled, length-bitReversed, bitReversed-at, scaled-at, reversed-lt, column-scaled, column-table}
 use Rattle.code.proofs.BitReversal.{reversed-twice}
 use Rattle.code.proofs.Coefficients.{euler, euler-is, horner-table, horner-scaled, fold-plus, fold-minus}
 use Rattle.code.proofs.Points.{point-power-low, point-power-high}
 use Rattle.code.proofs.Evaluation.{half-is, bitReversed-scaled, transform-values, untransform-values, untransform-turned-values}
 
 -- R folded at n, where z^n is 1 and where it is -1, and z R'(z) folded where z^n is 1
-abbrev pub sums : (p n : ℕ) → (ℕ → ℕ) → List ℕ
+abbrev sums : (p n : ℕ) → (ℕ → ℕ) → List ℕ
 sums p n f = table n (λ j. plus p (f j) (f (n + j)))
 
-abbrev pub differences : (p n : ℕ) → (ℕ → ℕ) → List ℕ
+abbrev differences : (p n : ℕ) → (ℕ → ℕ) → List ℕ
 differences p n f = table n (λ j. minus p (f j) (f (n + j)))
 
-abbrev pub slopes : (p n : ℕ) → (ℕ → ℕ) → List ℕ
+abbrev slopes : (p n : ℕ) → (ℕ → ℕ) → List ℕ
 slopes p n f = table n (λ j. plus p (times p j (f j)) (times p (n + j) (f (n + j))))
 
--- words of two parts of n words
-module _ {n : ℕ} (a b : List ℕ) (long : length a ≡ n) where
-  pub append-low : (i : ℕ) → i < n → getD (a ++ b) i 0 ≡ getD a i 0
-  append-low i l = List·getD-append a b 0 i (omega arith)
-
-  pub append-high : (i : ℕ) → getD (a ++ b) (n + i) 0 ≡ getD b i 0
-  append-high i = ap (λ (m : ℕ). getD (a ++ b) (m + i) 0) (sym long) ∙ getD-append-add a b i 0
-
 -- what the check of S and D says, and what it follows from
-pub low-true : (l e : ℕ) (c : List ℕ) (n : ℕ) → ((j : ℕ) → j < n → e ≤ reversed l j → getD c j 0 ≡ getD c (2 ^ l + j) 0) → lowTo l e c n ≡ true
-unfolding lowTo
-low-true l e c zero s = refl
-low-true l e c (suc n) s = go (ltb (reversed l n) e) refl (low-true l e c n (λ j b. s j (omega arith)))
-  where
-    go : (b : Bool) → ltb (reversed l n) e ≡ b → lowTo l e c n ≡ true → ((b || eqb (getD c n 0) (getD c (2 ^ l + n) 0)) && lowTo l e c n) ≡ true
-    go true f r = r
-    go false f r = rw (eq-eqb (getD c n 0) (getD c (2 ^ l + n) 0) (s n (omega arith) (ltb-false (reversed l n) e f))) r
+pub low-all : (l e n : ℕ) (c : List ℕ) → lowTo l e c n ≡ allTo n (λ i. ltb (reversed l i) e || eqb (getD c i 0) (getD c (2 ^ l + i) 0))
+unfolding lowTo allTo
+low-all l e zero c = refl
+low-all l e (suc n) c = ap (λ (b : Bool). (ltb (reversed l n) e || eqb (getD c n 0) (getD c (2 ^ l + n) 0)) && b) (low-all l e n c)
 
-both : (a b : Bool) → (a && b) ≡ true → (a ≡ true) × (b ≡ true)
-both true b e = (refl, e)
-both false b e = (e, let z : _≡_ {A = ℕ} 0 1 = cc in absurd (omega arith))
+low-true : (l e : ℕ) (c : List ℕ) (n : ℕ) → ((j : ℕ) → j < n → e ≤ reversed l j → getD c j 0 ≡ getD c (2 ^ l + j) 0) → lowTo l e c n ≡ true
+low-true l e c n s =
+    low-all l e n c
+    ∙ allTo-all n _ (λ j b. unless-same (ltb (reversed l j) e) (getD c j 0) (getD c (2 ^ l + j) 0) (λ f. s j b (ltb-false (reversed l j) e f)))
 
 pub low-same : (l e : ℕ) (c : List ℕ) (n : ℕ) → lowTo l e c n ≡ true → (j : ℕ) → j < n → e ≤ reversed l j → getD c j 0 ≡ getD c (2 ^ l + j) 0
-unfolding lowTo
-low-same l e c zero s j b g = absurd (omega arith)
-low-same l e c (suc n) s j b g =
-    let r = both (ltb (reversed l n) e || eqb (getD c n 0) (getD c (2 ^ l + n) 0)) (lowTo l e c n) s in
-    ⊎-elim (λ q. at q (r .0)) (λ d. low-same l e c n (r .1) j d g) (eq-or-lt-of-le {n = j} {m = n} (omega arith))
-  where
-    at : j ≡ n → (ltb (reversed l n) e || eqb (getD c n 0) (getD c (2 ^ l + n) 0)) ≡ true → getD c j 0 ≡ getD c (2 ^ l + j) 0
-    at q a =
-        rw q (eqb-true (getD c n 0) (getD c (2 ^ l + n) 0) (rw (le-ltb (reversed l n) e (rw q at g)) at a))
+low-same l e c n s j b g =
+    same-unless (ltb (reversed l j) e) (getD c j 0) (getD c (2 ^ l + j) 0) (allTo-each n _ (sym (low-all l e n c) ∙ s) j b) (le-ltb (reversed l j) e g)
 
 -- a word of g times a column at bit-reversed places
 scaled-reversed : (p g l : ℕ) (f : ℕ → ℕ) (j : ℕ) → j < 2 ^ l → getD (scaled p g (bitReversed l (table (2 ^ l) f))) j 0 ≡ times p g (f (reversed l j))
@@ -88,9 +71,6 @@ module _ (p w k l t : ℕ) (stripe : Stripe p w k l t) (f : ℕ → ℕ) where
   h : 0 < p
   h = omega (arith, stripe .prime .big)
 
-  table-column : (n : ℕ) (g : ℕ → ℕ) → ((j : ℕ) → g j < p) → Column p n (table n g)
-  table-column n g b = record { long = length-table n g; words = words-table p h n g (λ j _. b j) }
-
   abbrev S : List ℕ
   S = scaled p (2 ^ l) (bitReversed l (sums p (2 ^ l) f))
 
@@ -107,22 +87,22 @@ module _ (p w k l t : ℕ) (stripe : Stripe p w k l t) (f : ℕ → ℕ) where
   D-at j b = append-high S D (length-scaled-reversed p (2 ^ l) l (sums p (2 ^ l) f)) j ∙ scaled-reversed p (2 ^ l) l _ j b
 
   -- 2. from R's values
-  pub split-is : ValuesX → ValuesY → Untransforms → (c : List ℕ) → length c ≡ 2 ^ suc l
+  pub split-is : (c : List ℕ) → length c ≡ 2 ^ suc l
       → ((i : ℕ) → i < 2 ^ l → getD c i 0 ≡ horner p (table (2 ^ l + 2 ^ l) f) (pointAt p w k l i))
       → ((i : ℕ) → i < 2 ^ l → getD c (2 ^ l + i) 0 ≡ times p (power p w (reversed k t)) (horner p (table (2 ^ l + 2 ^ l) f) (pointAt p w k l (2 ^ l + i))))
       → split p (inverse p w) k l t c ≡ folded p l f
   unfolding split
-  split-is valuesX valuesY untransforms c long x y =
+  split-is c long x y =
       ap₂ _++_
       (ap (untransform p (inverse p w) k l)
       (is-table (take (2 ^ l) c) (2 ^ l) (λ i. horner p (sums p (2 ^ l) f) (pointAt p w k l i)) (take-half l c long)
-      (λ i b. getD-take (2 ^ l) c i 0 b ∙ x i b ∙ fold-plus p (stripe .prime .big) (2 ^ l) f (pointAt p w k l i) (point-power-low p w k l t stripe i b)))
-      ∙ untransform-values p w k l t stripe (sums p (2 ^ l) f) (table-column (2 ^ l) _ (λ j. plus-lt p h _ _)) valuesX untransforms)
+      (λ i b. getD-take (2 ^ l) c i 0 b ∙ x i b ∙ fold-plus p (stripe .prime .big) (2 ^ l) f (pointAt p w k l i) (point-power-low p w k l (stripe .root) (stripe .within) i b)))
+      ∙ untransform-values p w k l t stripe (sums p (2 ^ l) f) (column-table p h (2 ^ l) _ (λ j. plus-lt p h _ _)))
       (ap (λ d. turned p (inverse p w) k t (untransform p (inverse p w) k l d))
       (is-table (drop (2 ^ l) c) (2 ^ l) (λ i. times p (power p w (reversed k t)) (horner p (differences p (2 ^ l) f) (pointAt p w k l (2 ^ l + i)))) (drop-half l c long)
       (λ i b. getD-drop (2 ^ l) c i 0 ∙ y i b
-      ∙ ap (times p (power p w (reversed k t))) (fold-minus p (stripe .prime .big) (2 ^ l) f (pointAt p w k l (2 ^ l + i)) (point-power-high p w k l t stripe i))))
-      ∙ untransform-turned-values p w k l t stripe (differences p (2 ^ l) f) (table-column (2 ^ l) _ (λ j. minus-lt p h _ _)) valuesY untransforms)
+      ∙ ap (times p (power p w (reversed k t))) (fold-minus p (stripe .prime .big) (2 ^ l) f (pointAt p w k l (2 ^ l + i)) (point-power-high p w k l (stripe .root) (stripe .within) i))))
+      ∙ untransform-turned-values p w k l t stripe (differences p (2 ^ l) f) (column-table p h (2 ^ l) _ (λ j. minus-lt p h _ _)))
 
   -- the check: no coefficient from M + e on
   pub low-is : (e : ℕ) → ((j : ℕ) → e ≤ j → f (2 ^ l + j) ≡ 0) → lowTo l e (folded p l f) (2 ^ l) ≡ true
@@ -153,31 +133,30 @@ module _ (p w k l t : ℕ) (stripe : Stripe p w k l t) (f : ℕ → ℕ) where
       (sym (is-table G (2 ^ l) (derivedAt p l (folded p l f)) (length-scaled-reversed p (2 ^ l) l (slopes p (2 ^ l) f)) (λ j b. scaled-reversed p (2 ^ l) l _ j b ∙ sym (derivedAt-is j b))))
 
   -- 4. M times R, and M times z R'(z), at the points of X
-  module _ (valuesX : ValuesX) where
-    transform-scaled : (cs : List ℕ) → length cs ≡ 2 ^ l → transform p w k l (scaled p (2 ^ l) (bitReversed l cs)) ≡ table (2 ^ l) (λ i. times p (2 ^ l) (horner p cs (pointAt p w k l i)))
-    transform-scaled cs e =
-        ap (transform p w k l) (sym (bitReversed-scaled p (2 ^ l) l cs e))
-        ∙ transform-values p w k l t stripe (scaled p (2 ^ l) cs) (record { long = length-scaled p (2 ^ l) cs ∙ e; words = words-scaled p h (2 ^ l) cs }) valuesX
-        ∙ same-table (2 ^ l) _ _ (λ i _. horner-scaled p h (2 ^ l) cs (pointAt p w k l i))
+  transform-scaled : (cs : List ℕ) → length cs ≡ 2 ^ l → transform p w k l (scaled p (2 ^ l) (bitReversed l cs)) ≡ table (2 ^ l) (λ i. times p (2 ^ l) (horner p cs (pointAt p w k l i)))
+  transform-scaled cs e =
+      ap (transform p w k l) (sym (bitReversed-scaled p (2 ^ l) l cs e))
+      ∙ transform-values p w k l t stripe (scaled p (2 ^ l) cs) (column-scaled p h (2 ^ l) cs e)
+      ∙ same-table (2 ^ l) _ _ (λ i _. horner-scaled p h (2 ^ l) cs (pointAt p w k l i))
 
-    evaluated-is : evaluated p w k l (derived p l (folded p l f))
-        ≡ table (2 ^ l) (λ i. times p (2 ^ l) (horner p (sums p (2 ^ l) f) (pointAt p w k l i))) ++ table (2 ^ l) (λ i. times p (2 ^ l) (horner p (slopes p (2 ^ l) f) (pointAt p w k l i)))
-    unfolding evaluated
-    evaluated-is =
-        ap (evaluated p w k l) derived-is
-        ∙ ap₂ _++_
-        (ap (transform p w k l) (take-at S G (2 ^ l) (length-scaled-reversed p (2 ^ l) l (sums p (2 ^ l) f))) ∙ transform-scaled (sums p (2 ^ l) f) (length-table (2 ^ l) _))
-        (ap (transform p w k l) (drop-at S G (2 ^ l) (length-scaled-reversed p (2 ^ l) l (sums p (2 ^ l) f))) ∙ transform-scaled (slopes p (2 ^ l) f) (length-table (2 ^ l) _))
+  evaluated-is : evaluated p w k l (derived p l (folded p l f))
+      ≡ table (2 ^ l) (λ i. times p (2 ^ l) (horner p (sums p (2 ^ l) f) (pointAt p w k l i))) ++ table (2 ^ l) (λ i. times p (2 ^ l) (horner p (slopes p (2 ^ l) f) (pointAt p w k l i)))
+  unfolding evaluated
+  evaluated-is =
+      ap (evaluated p w k l) derived-is
+      ∙ ap₂ _++_
+      (ap (transform p w k l) (take-at S G (2 ^ l) (length-scaled-reversed p (2 ^ l) l (sums p (2 ^ l) f))) ∙ transform-scaled (sums p (2 ^ l) f) (length-table (2 ^ l) _))
+      (ap (transform p w k l) (drop-at S G (2 ^ l) (length-scaled-reversed p (2 ^ l) l (sums p (2 ^ l) f))) ∙ transform-scaled (slopes p (2 ^ l) f) (length-table (2 ^ l) _))
 
-    pub evaluated-low : (i : ℕ) → i < 2 ^ l → getD (evaluated p w k l (derived p l (folded p l f))) i 0 ≡ times p (2 ^ l) (horner p (table (2 ^ l + 2 ^ l) f) (pointAt p w k l i))
-    evaluated-low i b =
-        ap (λ (c : List ℕ). getD c i 0) evaluated-is ∙ table-low (2 ^ l) (2 ^ l) _ _ i b
-        ∙ ap (times p (2 ^ l)) (sym (fold-plus p (stripe .prime .big) (2 ^ l) f (pointAt p w k l i) (point-power-low p w k l t stripe i b)))
+  pub evaluated-low : (i : ℕ) → i < 2 ^ l → getD (evaluated p w k l (derived p l (folded p l f))) i 0 ≡ times p (2 ^ l) (horner p (table (2 ^ l + 2 ^ l) f) (pointAt p w k l i))
+  evaluated-low i b =
+      ap (λ (c : List ℕ). getD c i 0) evaluated-is ∙ table-low (2 ^ l) (2 ^ l) _ _ i b
+      ∙ ap (times p (2 ^ l)) (sym (fold-plus p (stripe .prime .big) (2 ^ l) f (pointAt p w k l i) (point-power-low p w k l (stripe .root) (stripe .within) i b)))
 
-    pub evaluated-high : (i : ℕ) → i < 2 ^ l → getD (evaluated p w k l (derived p l (folded p l f))) (2 ^ l + i) 0 ≡ times p (2 ^ l) (euler p (table (2 ^ l + 2 ^ l) f) (pointAt p w k l i))
-    evaluated-high i b =
-        ap (λ (c : List ℕ). getD c (2 ^ l + i) 0) evaluated-is ∙ table-high (2 ^ l) (2 ^ l) _ _ i b
-        ∙ ap (times p (2 ^ l)) (sym (fold-plus p (stripe .prime .big) (2 ^ l) (λ j. times p j (f j)) (pointAt p w k l i) (point-power-low p w k l t stripe i b)) ∙ euler-is p h (2 ^ l + 2 ^ l) f (pointAt p w k l i))
+  pub evaluated-high : (i : ℕ) → i < 2 ^ l → getD (evaluated p w k l (derived p l (folded p l f))) (2 ^ l + i) 0 ≡ times p (2 ^ l) (euler p (table (2 ^ l + 2 ^ l) f) (pointAt p w k l i))
+  evaluated-high i b =
+      ap (λ (c : List ℕ). getD c (2 ^ l + i) 0) evaluated-is ∙ table-high (2 ^ l) (2 ^ l) _ _ i b
+      ∙ ap (times p (2 ^ l)) (sym (fold-plus p (stripe .prime .big) (2 ^ l) (λ j. times p j (f j)) (pointAt p w k l i) (point-power-low p w k l (stripe .root) (stripe .within) i b)) ∙ euler-is p h (2 ^ l + 2 ^ l) f (pointAt p w k l i))
 
 -- THE OTHER WAY ROUND: 2R's coefficients from S and D (not times M), a and d, which are equal at the places of R's coefficients from M + e on
 abbrev sumOf : (p l : ℕ) → (a d : List ℕ) → ℕ → ℕ
@@ -226,7 +205,7 @@ module _ (p w k l t : ℕ) (stripe : Stripe p w k l t) (e : ℕ) (few : e ≤ 2 
       let f : ℕ → ℕ = λ j. getD cs j 0 in
       let x = pointAt p w k l i in
       sym (horner-table p positive (2 ^ l + 2 ^ l) cs x (omega (arith, length-unfolded p l e a d)))
-      ∙ fold-plus p (stripe .prime .big) (2 ^ l) f x (point-power-low p w k l t stripe i b)
+      ∙ fold-plus p (stripe .prime .big) (2 ^ l) f x (point-power-low p w k l (stripe .root) (stripe .within) i b)
       ∙ ap (λ (ds : List ℕ). horner p ds x)
       (doubled a _ (λ j c. ap₂ (plus p) (unfolded-lower j c) (unfolded-upper j c)
       ∙ (let y = v (getD a (reversed l j) 0) in
@@ -240,7 +219,7 @@ module _ (p w k l t : ℕ) (stripe : Stripe p w k l t) (e : ℕ) (few : e ≤ 2 
       let f : ℕ → ℕ = λ j. getD cs j 0 in
       let x = pointAt p w k l (2 ^ l + i) in
       sym (horner-table p positive (2 ^ l + 2 ^ l) cs x (omega (arith, length-unfolded p l e a d)))
-      ∙ fold-minus p (stripe .prime .big) (2 ^ l) f x (point-power-high p w k l t stripe i)
+      ∙ fold-minus p (stripe .prime .big) (2 ^ l) f x (point-power-high p w k l (stripe .root) (stripe .within) i)
       ∙ ap (λ (ds : List ℕ). horner p ds x)
       (doubled d _ (λ j c. ap₂ (minus p) (unfolded-lower j c) (unfolded-upper j c)
       ∙ (let y = v (getD a (reversed l j) 0) in

@@ -2,7 +2,7 @@
 use mathlib.Core.Path.{_≡_, sym, ap, _∙_}
 use mathlib.Core.Bool.{Bool, true, false}
 use mathlib.Core.List.{List}
-use Prim.Native.Nat.{ℕ, suc, _+_, _*_, _-_, _/_, _^_, _<_}
+use Prim.Native.Nat.{ℕ, suc, _+_, _^_, _<_}
 use native.Mathlib.Omega.{arith}
 use lib.Dec.{ltb}
 use lib.ListN.{getD}
@@ -12,6 +12,7 @@ use Rattle.field.specs.Power.{power, inverse}
 use Rattle.field.specs.Polynomial.{horner}
 use Rattle.field.proofs.Congruence.{of-eq}
 use Rattle.field.proofs.Ring.{v, _⊗_, lin}
+use Rattle.field.proofs.Laws.{times-lt}
 use Rattle.field.proofs.Powers.{power-lt}
 use Rattle.field.proofs.Polynomials.{horner-lt, determined, inverse-is}
 use Rattle.field.proofs.Unity.{root-positive}
@@ -19,10 +20,12 @@ use Rattle.code.specs.Transform.{reversed}
 use Rattle.code.specs.Stripe.{coded}
 use Rattle.code.specs.Decoding.{survivors, pointAt, valueAt, bitReversed}
 use Rattle.code.specs.Promises.{Stripe, Column, Enough, HalfFixes}
-use Rattle.code.proofs.Shapes.{reversed-lt, length-bitReversed, words-bitReversed, times-lt}
+use Rattle.code.proofs.Shapes.{reversed-lt, column-reversed}
 use Rattle.code.proofs.BitReversal.{bitReversed-twice}
 use Rattle.code.proofs.Survivors.{Survivors, survivors-are}
-use Rattle.code.proofs.Values.{by-halves, valuesX, valuesY, points-distinct}
+use Rattle.code.proofs.Tests.{choice-lt}
+use Rattle.code.proofs.Points.{by-halves, point-lt, points-distinct}
+use Rattle.code.proofs.Values.{valuesX, valuesY}
 
 -- `valueAt` at a position of X, and of Y
 module _ (p w k l t : ℕ) (c : List ℕ) (i : ℕ) where
@@ -41,24 +44,7 @@ value-same p w k l t c d i e = ap (λ (x : ℕ). elim (ltb i (2 ^ l)) [ true ↦
 
 pub value-lt : (p w k l t : ℕ) (c : List ℕ) (i : ℕ) → 0 < p → getD c i 0 < p → valueAt p w k l t c i < p
 unfolding valueAt
-value-lt p w k l t c i h b = go (ltb i (2 ^ l))
-  where
-    go : (s : Bool) → elim s [ true ↦ getD c i 0 | false ↦ times p (inverse p (power p w (reversed k t))) (getD c i 0) ] < p
-    go true = b
-    go false = times-lt p h _ _
-
--- a point, and a column's polynomial
-pub point-lt : (p w k l i : ℕ) → 1 < p → pointAt p w k l i < p
-unfolding pointAt
-point-lt p w k l i h = go (ltb i (2 ^ l))
-  where
-    go : (s : Bool)
-        → elim s [ true ↦ power p (power p w (2 ^ k / 2 ^ l)) (2 * i) | false ↦ power p (power p w (2 ^ k / 2 ^ l)) (2 * (i - 2 ^ l) + 1) ] < p
-    go true = power-lt p h _ _
-    go false = power-lt p h _ _
-
-pub column-reversed : (p l : ℕ) (xs : List ℕ) → 0 < p → Column p (2 ^ l) xs → Column p (2 ^ l) (bitReversed l xs)
-column-reversed p l xs h C = record { long = length-bitReversed l xs; words = words-bitReversed p h l (C .words) }
+value-lt p w k l t c i h b = choice-lt (ltb i (2 ^ l)) b (times-lt p h _ _)
 
 -- a coded word says the polynomial's value at its position's point
 module _ (p w k l t : ℕ) (xs : List ℕ) (S : Stripe p w k l t) (C : Column p (2 ^ l) xs) where
@@ -81,7 +67,7 @@ pub same-polynomial : (p w k l t : ℕ) (ms : List Bool) (cs ds : List ℕ) → 
 same-polynomial p w k l t ms cs ds S E C D q =
     let s = survivors l ms in
     let R : Survivors ms 0 (2 ^ suc l) s = survivors-are ms 0 (2 ^ suc l) in
-    determined p (S .prime) cs ds (C .long ∙ sym (D .long)) (C .words) (D .words) (λ j. pointAt p w k l (getD s j 0)) (λ j b. point-lt p w k l (getD s j 0) (S .prime .big))
+    determined p (S .prime) cs ds (C .long ∙ sym (D .long)) (C .words) (D .words) (λ j. pointAt p w k l (getD s j 0)) (λ j b. point-lt p w k l (S .prime .big) (getD s j 0))
     (λ i j a b. points-distinct p w k l t (getD s i 0) (getD s j 0) S (R .rising i j a (omega (arith, C .long))) (omega (arith, R .high j (omega (arith, C .long)))))
     (λ j b. q j (omega (arith, C .long)))
 
@@ -92,7 +78,7 @@ halfFixes p w k l t ms xs ys S E C D A =
     let R : Survivors ms 0 (2 ^ suc l) s = survivors-are ms 0 (2 ^ suc l) in
     sym (bitReversed-twice l xs (C .long))
     ∙ ap (bitReversed l)
-    (same-polynomial p w k l t ms (bitReversed l xs) (bitReversed l ys) S E (column-reversed p l xs h C) (column-reversed p l ys h D)
+    (same-polynomial p w k l t ms (bitReversed l xs) (bitReversed l ys) S E (column-reversed p h l xs C) (column-reversed p h l ys D)
     (λ j b.
     let i = getD s j 0 in
     let m : i < 2 ^ suc l = omega (arith, R .high j (omega arith)) in

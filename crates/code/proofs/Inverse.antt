@@ -1,56 +1,58 @@
 -- The inverse of the transform: what is transformed comes back times 2 ^ level, either way round, and that factor has an inverse. Assumes nothing.
 use mathlib.Core.Path.{_≡_, refl, sym, ap, ap₂, _∙_}
-use mathlib.Core.Logic.{_≢_, ⊎-elim}
 use mathlib.Core.List.{List, [], _∷_, _++_}
 use Prim.Native.Nat.{ℕ, zero, suc, _+_, _*_, _/_, _%_, _^_, _<_}
-use native.Mathlib.Nat.{pow-suc, pow-succ', mod-eq-of-lt, mod-lt}
+use native.Mathlib.Nat.{pow-suc, pow-succ'}
 use native.Mathlib.Omega.{arith}
 use lib.ListN.{length, getD, take, drop, take-append-drop, List·getD-append}
 use lib.Seq.{ext-getD, take-at, drop-at, getD-take, getD-drop, getD-append-add}
 use Rattle.field.specs.Residue.{plus, minus, times}
 use Rattle.field.specs.Power.{power, inverse}
-use Rattle.field.specs.Field.{Prime}
 use Rattle.field.specs.Words.{Words}
-use Rattle.field.proofs.Congruence.{Cong, of-eq}
-use Rattle.field.proofs.Ring.{v, _⊕_, _⊖_, _⊗_, _⊠_, m, ring, lin, lin~}
+use Rattle.field.proofs.Congruence.{Cong, of-eq, sym~, trans~, times~}
+use Rattle.field.proofs.Ring.{v, _⊕_, _⊖_, _⊗_, _⊠_, ring, lin}
 use Rattle.field.proofs.Powers.{power-mul}
-use Rattle.field.proofs.Polynomials.{inverse-is}
+use Rattle.field.proofs.PowersOfTwo.{two-power-inverse}
 use Rattle.field.proofs.Unity.{power-inverse}
 use Rattle.field.proofs.WordLists.{words-take, words-drop, words-tail}
 use Rattle.code.specs.Transform.{mixed, transform, unmixed, untransform, scaled}
 use Rattle.code.specs.Promises.{Untransforms, Transforms, Unscales}
-use Rattle.code.proofs.Shapes.{take-half, drop-half, length-halves, length-mixed, length-transform, length-unmixed, length-untransform, length-scaled, mixed-low, unmixed-low, unmixed-high, scaled-at, words-unmixed}
-use Rattle.code.proofs.Values.{by-halves, mixed-second}
+use Rattle.code.proofs.Shapes.{take-half, drop-half, length-halves, length-mixed, length-transform, length-unmixed, length-untransform, length-scaled, mixed-low, mixed-high, unmixed-low, unmixed-high, scaled-at, words-unmixed}
+use Rattle.code.proofs.Points.{by-halves}
 
 -- laws of `scaled`
 module _ (p : ℕ) where
-  pub scaled-append : (g : ℕ) (a b : List ℕ) → scaled p g (a ++ b) ≡ scaled p g a ++ scaled p g b
+  scaled-append : (g : ℕ) (a b : List ℕ) → scaled p g (a ++ b) ≡ scaled p g a ++ scaled p g b
   unfolding scaled
   scaled-append g [] b = refl
   scaled-append g (x ∷ a) b = ap (λ (l : List ℕ). times p g x ∷ l) (scaled-append g a b)
 
-  pub take-scaled : (n g : ℕ) (xs : List ℕ) → take n (scaled p g xs) ≡ scaled p g (take n xs)
+  take-scaled : (n g : ℕ) (xs : List ℕ) → take n (scaled p g xs) ≡ scaled p g (take n xs)
   unfolding scaled
   take-scaled zero g xs = refl
   take-scaled (suc n) g [] = refl
   take-scaled (suc n) g (x ∷ xs) = ap (λ (l : List ℕ). times p g x ∷ l) (take-scaled n g xs)
 
-  pub drop-scaled : (n g : ℕ) (xs : List ℕ) → drop n (scaled p g xs) ≡ scaled p g (drop n xs)
+  drop-scaled : (n g : ℕ) (xs : List ℕ) → drop n (scaled p g xs) ≡ scaled p g (drop n xs)
   unfolding scaled
   drop-scaled zero g xs = refl
   drop-scaled (suc n) g [] = refl
   drop-scaled (suc n) g (x ∷ xs) = drop-scaled n g xs
 
 module _ (p : ℕ) (h : 0 < p) where
-  pub scaled-times : (f g : ℕ) (xs : List ℕ) → scaled p f (scaled p g xs) ≡ scaled p (f * g) xs
+  scaled-times : (f g : ℕ) (xs : List ℕ) → scaled p f (scaled p g xs) ≡ scaled p (f * g) xs
   unfolding scaled
   scaled-times f g [] = refl
   scaled-times f g (x ∷ xs) = ap₂ _∷_ (ring p h (v f ⊗ (v g ⊗ v x)) ((v f ⊠ v g) ⊗ v x) h h (omega arith)) (scaled-times f g xs)
 
-  pub scaled-one : (g : ℕ) (xs : List ℕ) → Cong p g 1 → Words p xs → scaled p g xs ≡ xs
+  scaled-one : (g : ℕ) (xs : List ℕ) → Cong p g 1 → Words p xs → scaled p g xs ≡ xs
   unfolding scaled
   scaled-one g [] e w = refl
   scaled-one g (x ∷ xs) e w = ap₂ _∷_ (lin p h (v g ⊗ v x) (v x) (v x) (v g) (v 1) e h (w .word 0) (omega arith)) (scaled-one g xs e (words-tail w))
+
+  -- a factor and its inverse
+  pub unscaled : (f g : ℕ) (xs : List ℕ) → times p f g ≡ 1 → Words p xs → scaled p f (scaled p g xs) ≡ xs
+  unscaled f g xs e w = scaled-times f g xs ∙ scaled-one (f * g) xs (trans~ (sym~ (times~ p f g)) (of-eq p e)) w
 
   -- a list of 2 ^ suc l words is another times g if its halves are, word by word
   module _ (l g : ℕ) where
@@ -89,8 +91,8 @@ module _ (p : ℕ) (h : 0 < p) where
         let x = getD a i 0 in
         let y = getD b i 0 in
         let z = power p u i in
-        mixed-second p u (2 ^ l) (scaled p g a) (scaled p g b) i n m ∙ ap₂ (λ (s t : ℕ). minus p s (times p z t)) (scaled-at p g a i (omega arith)) (scaled-at p g b i (omega arith))
-        ∙ ring p h (v g ⊗ v x ⊖ v z ⊗ (v g ⊗ v y)) (v g ⊗ (v x ⊖ v z ⊗ v y)) h h (omega arith) ∙ ap (times p g) (sym (mixed-second p u (2 ^ l) a b i e m)))
+        mixed-high p u (2 ^ l) (scaled p g a) (scaled p g b) i n m ∙ ap₂ (λ (s t : ℕ). minus p s (times p z t)) (scaled-at p g a i (omega arith)) (scaled-at p g b i (omega arith))
+        ∙ ring p h (v g ⊗ v x ⊖ v z ⊗ (v g ⊗ v y)) (v g ⊗ (v x ⊖ v z ⊗ v y)) h h (omega arith) ∙ ap (times p g) (sym (mixed-high p u (2 ^ l) a b i e m)))
 
   -- one level, where u′ is the inverse of u
   module _ (l u u′ : ℕ) (inv : (i : ℕ) → times p (power p u i) (power p u′ i) ≡ 1) where
@@ -102,14 +104,14 @@ module _ (p : ℕ) (h : 0 < p) where
         let x = getD a i 0 in
         let y = getD b i 0 in
         let z = power p u i in
-        unmixed-low p u′ (2 ^ l) c i m ∙ ap₂ (plus p) (mixed-low p u a b i (omega arith)) (mixed-second p u (2 ^ l) a b i e m)
+        unmixed-low p u′ (2 ^ l) c i m ∙ ap₂ (plus p) (mixed-low p u a b i (omega arith)) (mixed-high p u (2 ^ l) a b i e m)
         ∙ ring p h (v x ⊕ v z ⊗ v y ⊕ (v x ⊖ v z ⊗ v y)) (v 2 ⊗ v x) h h (omega arith) ∙ ap (times p 2) (sym (List·getD-append a b 0 i (omega arith))))
         (λ i m.
         let x = getD a i 0 in
         let y = getD b i 0 in
         let z = power p u i in
         let z′ = power p u′ i in
-        unmixed-high p u′ (2 ^ l) c i m ∙ ap₂ (λ (s t : ℕ). times p z′ (minus p s t)) (mixed-low p u a b i (omega arith)) (mixed-second p u (2 ^ l) a b i e m)
+        unmixed-high p u′ (2 ^ l) c i m ∙ ap₂ (λ (s t : ℕ). times p z′ (minus p s t)) (mixed-low p u a b i (omega arith)) (mixed-high p u (2 ^ l) a b i e m)
         ∙ lin p h (v z′ ⊗ ((v x ⊕ v z ⊗ v y) ⊖ (v x ⊖ v z ⊗ v y))) (v 2 ⊗ v y) (v 2 ⊗ v y) (v z ⊗ v z′) (v 1) (of-eq p (inv i)) h h (omega arith)
         ∙ ap (times p 2) (sym (ap (λ (n : ℕ). getD (a ++ b) (n + i) 0) (sym e) ∙ getD-append-add a b i 0)))
 
@@ -133,12 +135,12 @@ module _ (p : ℕ) (h : 0 < p) where
         let y = getD c (2 ^ l + i) 0 in
         let z = power p u i in
         let z′ = power p u′ i in
-        mixed-second p u (2 ^ l) a b i n m
+        mixed-high p u (2 ^ l) a b i n m
         ∙ ap₂ (λ (s t : ℕ). minus p s (times p z t)) (getD-take (2 ^ l) d i 0 m ∙ unmixed-low p u′ (2 ^ l) c i m) (getD-drop (2 ^ l) d i 0 ∙ unmixed-high p u′ (2 ^ l) c i m)
         ∙ lin p h (v x ⊕ v y ⊖ v z ⊗ (v z′ ⊗ (v x ⊖ v y))) (v 2 ⊗ v y) (v y ⊖ v x) (v z ⊗ v z′) (v 1) (of-eq p (inv i)) h h (omega arith))
 
   -- a common factor passes through
-  pub untransform-scaled : (w k l g : ℕ) (c : List ℕ) → length c ≡ 2 ^ l → untransform p w k l (scaled p g c) ≡ scaled p g (untransform p w k l c)
+  untransform-scaled : (w k l g : ℕ) (c : List ℕ) → length c ≡ 2 ^ l → untransform p w k l (scaled p g c) ≡ scaled p g (untransform p w k l c)
   unfolding untransform
   untransform-scaled w k zero g c e = refl
   untransform-scaled w k (suc l) g c e =
@@ -155,7 +157,7 @@ module _ (p : ℕ) (h : 0 < p) where
     inv-level : (e i : ℕ) → times p (power p (power p w e) i) (power p (power p w′ e) i) ≡ 1
     inv-level e i = ap₂ (times p) (sym (power-mul p big w e i)) (sym (power-mul p big w′ e i)) ∙ inv (e * i)
 
-    pub untransform-transform : (l : ℕ) (xs : List ℕ) → length xs ≡ 2 ^ l → Words p xs → untransform p w′ k l (transform p w k l xs) ≡ scaled p (2 ^ l) xs
+    untransform-transform : (l : ℕ) (xs : List ℕ) → length xs ≡ 2 ^ l → Words p xs → untransform p w′ k l (transform p w k l xs) ≡ scaled p (2 ^ l) xs
     unfolding transform untransform
     untransform-transform zero xs e ws = sym (scaled-one 1 xs (of-eq p refl) ws)
     untransform-transform (suc l) xs e ws =
@@ -172,7 +174,7 @@ module _ (p : ℕ) (h : 0 < p) where
         ∙ sym (scaled-append p 2 (scaled p (2 ^ l) x) (scaled p (2 ^ l) y)) ∙ ap (scaled p 2) (sym (scaled-append p (2 ^ l) x y) ∙ ap (scaled p (2 ^ l)) (take-append-drop (2 ^ l) xs))
         ∙ scaled-times 2 (2 ^ l) xs ∙ ap (λ (g : ℕ). scaled p g xs) (sym (pow-succ' 2 l))
 
-    pub transform-untransform : (l : ℕ) (c : List ℕ) → length c ≡ 2 ^ l → Words p c → transform p w k l (untransform p w′ k l c) ≡ scaled p (2 ^ l) c
+    transform-untransform : (l : ℕ) (c : List ℕ) → length c ≡ 2 ^ l → Words p c → transform p w k l (untransform p w′ k l c) ≡ scaled p (2 ^ l) c
     unfolding transform untransform
     transform-untransform zero c e ws = sym (scaled-one 1 c (of-eq p refl) ws)
     transform-untransform (suc l) c e ws =
@@ -199,17 +201,5 @@ pub transforms : Transforms
 transforms p w k l t xs S C =
     transform-untransform p (omega (arith, S .root .odd)) w (inverse p w) k (S .prime .big) (power-inverse p k w (S .prime) (S .root)) l xs (C .long) (C .words)
 
--- no power of 2 is 0 modulo an odd prime
-pub two-power : (p : ℕ) → Prime p → 2 < p → (l : ℕ) → 2 ^ l % p ≢ 0
-two-power p P h zero e = let d : 1 % p ≡ 1 = mod-eq-of-lt (omega arith) in omega arith
-two-power p P h (suc l) e =
-    ⊎-elim (λ z. let d : 2 % p ≡ 2 = mod-eq-of-lt h in omega arith) (two-power p P h l) (P .domain 2 (2 ^ l) (ap (λ (t : ℕ). t % p) (sym (pow-succ' 2 l)) ∙ e))
-
 pub unscales : Unscales
-unscales p w k l t xs S C =
-    let h : 0 < p = omega (arith, S .root .odd) in
-    let g = 2 ^ l in
-    let f = inverse p (g % p) in
-    scaled-times p h f g xs
-    ∙ scaled-one p h (f * g) xs
-    (lin~ p h (v f ⊠ v g) (v 1) (v 1) (m (v g) ⊗ v f) (v 1) (of-eq p (inverse-is p (S .prime) (g % p) (mod-lt g h) (two-power p (S .prime) (S .root .odd) l))) (omega arith)) (C .words)
+unscales p w k l t xs S C = unscaled p (omega (arith, S .root .odd)) (inverse p (2 ^ l % p)) (2 ^ l) xs (two-power-inverse p (S .prime) (S .root .odd) l) (C .words)

@@ -6,7 +6,6 @@ pub mod Columns
 pub mod Crossing
 pub mod DecodeRows
 pub mod DecodeSteps
-pub mod DecodeTraces
 pub mod Decoder
 pub mod DecoderShapes
 pub mod Evaluation
@@ -20,6 +19,7 @@ pub mod Proved
 pub mod RowLaws
 pub mod Shapes
 pub mod Survivors
+pub mod Tests
 pub mod Values
 pub mod WeightLaws
 pub mod Worked

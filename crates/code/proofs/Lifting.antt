@@ -1,16 +1,28 @@
--- Laws of `column` and `lifted` of specs/Rows: what is done to rows is done to each column. Assumes nothing.
-use mathlib.Core.Path.{_≡_, refl, sym, ap, ap₂, _∙_, subst}
+-- Laws of specs/Rows: the places of rows, columns, and `lifted`: what is done to rows is done to each column. Assumes nothing.
+use mathlib.Core.Path.{_≡_, refl, sym, ap, ap₂, _∙_}
 use mathlib.Core.List.{List, [], _∷_, _++_, map}
-use Prim.Native.Nat.{ℕ, zero, suc, _+_, _*_, _-_, _/_, _%_, _≤_, _<_}
-use native.Mathlib.Nat.{mod-lt, suc-mul, zero-mul, add-zero, add-comm, add-assoc, div-add-mod', div-lt-iff-lt-mul, eq-zero-or-pos, mul-zero, add-mul}
+use Prim.Native.Nat.{ℕ, zero, suc, _+_, _*_, _-_, _/_, _%_, _^_, _≤_, _<_}
+use native.Mathlib.Nat.{pow-succ', mul-le-mul-right, mod-lt, suc-mul, zero-mul, add-zero, div-add-mod', div-lt-iff-lt-mul, eq-zero-or-pos, mul-zero, add-mul}
+use native.Mathlib.Numerals.{add-one}
 use native.Mathlib.Omega.{arith}
 use mathlib.Core.Logic.{⊎-elim}
 use native.Mathlib.Decide.{decLt}
-use lib.ListN.{length, getD, take, drop, length-append, length-drop, List·getD-append, List·getD-eq-default}
+use lib.ListN.{length, getD, take, drop, length-append, List·getD-append, List·getD-eq-default}
 use lib.Seq.{getD-append-add, getD-drop, ext-getD, take-at, drop-at}
-use lib.Arith.{digits-lt, digits-div, digits-mod}
-use Rattle.field.specs.Words.{Words}
+use lib.Arith.{digits-lt}
+use Rattle.field.specs.Words.{Words, table}
+use Rattle.field.proofs.WordLists.{length-table, getD-table}
 use Rattle.code.specs.Rows.{column, columnsFrom, rowOf, rowsFrom, lifted}
+
+-- places of rows: both halves of 2 ^ suc l rows, the row after one, and that row i of m is within them
+pub two-halves : (l width : ℕ) → 2 ^ suc l * width ≡ 2 ^ l * width + 2 ^ l * width
+two-halves l width = ap (λ (n : ℕ). n * width) (pow-succ' 2 l) ∙ omega arith
+
+pub row-next : (i width : ℕ) → (i + 1) * width ≡ i * width + width
+row-next i width = ap (λ (n : ℕ). n * width) (add-one i) ∙ suc-mul i width
+
+pub row-in : {i m : ℕ} (width : ℕ) → i < m → i * width + width ≤ m * width
+row-in {i} width h = rw suc-mul at (mul-le-mul-right {m = suc i} width h)
 
 -- a column's length and words
 pub length-column : (width n j : ℕ) (l : List ℕ) → length (column width n j l) ≡ n
@@ -105,6 +117,12 @@ pub is-lifted : (width n m : ℕ) (f : List ℕ → List ℕ) (l r : List ℕ) �
     → ((i j : ℕ) → i < m → j < width → getD r (i * width + j) 0 ≡ getD (f (column width n j l)) i 0) → r ≡ lifted width n m f l
 is-lifted width n m f l r e g = rows-ext width m r (lifted width n m f l) e (length-lifted width n m f l) (λ i j h b. g i j h b ∙ sym (lifted-at width n m f l i j h b))
 
+-- a run of m rows whose words are f's is f done to each column
+pub table-lifted : (width n m : ℕ) (f : List ℕ → List ℕ) (g : ℕ → ℕ) (l : List ℕ)
+    → ((i j : ℕ) → i < m → j < width → g (i * width + j) ≡ getD (f (column width n j l)) i 0) → table (m * width) g ≡ lifted width n m f l
+table-lifted width n m f g l e =
+    is-lifted width n m f l (table (m * width) g) (length-table (m * width) g) (λ i j h b. getD-table (m * width) (i * width + j) g (digits-lt h b) ∙ e i j h b)
+
 -- f and g that agree on the columns
 pub lifted-same : (width n m : ℕ) (f g : List ℕ → List ℕ) (l : List ℕ) → ((j : ℕ) → j < width → f (column width n j l) ≡ g (column width n j l))
     → lifted width n m f l ≡ lifted width n m g l
@@ -147,7 +165,7 @@ words-lifted p width n m f l z u =
     words-rows p width m (lifted width n m f l) z (length-lifted width n m f l) (λ i j h b. rw (lifted-at width n m f l i j h b) (u j b .word i))
 
 -- columns of one list after the other
-pub column-append : (width n m j : ℕ) (a b : List ℕ) → j < width → length a ≡ n * width → column width (n + m) j (a ++ b) ≡ column width n j a ++ column width m j b
+column-append : (width n m j : ℕ) (a b : List ℕ) → j < width → length a ≡ n * width → column width (n + m) j (a ++ b) ≡ column width n j a ++ column width m j b
 column-append width n m j a b h e =
     ext-getD 0 (column width (n + m) j (a ++ b)) (column width n j a ++ column width m j b) long
     (λ i l. let l′ : i < n + m = rw length-column at l in column-at width (n + m) j (a ++ b) i l′ ∙ at i l′ (decLt i n))
@@ -196,3 +214,16 @@ lifted-append width n m n′ m′ f g a b e keeps =
 
     long : length (lifted width n m f a ++ lifted width n′ m′ g b) ≡ (m + m′) * width
     long = simp (length-append, length-lifted) (sym (add-mul m m′ width))
+
+-- f and g done to the same rows, what f gives first
+pub lifted-both : (width n m m′ : ℕ) (f g : List ℕ → List ℕ) (l : List ℕ) → length l ≡ n * width → ((c : List ℕ) → length c ≡ n → length (f c) ≡ m)
+    → lifted width n (m + m′) (λ c. f c ++ g c) l ≡ lifted width n m f l ++ lifted width n m′ g l
+lifted-both width n m m′ f g l e keeps =
+    sym (lifted-append width n m n m′ f g l l e keeps
+    ∙ is-lifted width n (m + m′) (λ c. f c ++ g c) l (lifted width (n + n) (m + m′) (λ c. f (take n c) ++ g (drop n c)) (l ++ l)) (length-lifted width (n + n) (m + m′) (λ c. f (take n c) ++ g (drop n c)) (l ++ l))
+    (λ i j h t. lifted-at width (n + n) (m + m′) (λ c. f (take n c) ++ g (drop n c)) (l ++ l) i j h t ∙ at i j t))
+  where
+    at : (i j : ℕ) → j < width → getD (f (take n (column width (n + n) j (l ++ l))) ++ g (drop n (column width (n + n) j (l ++ l)))) i 0 ≡ getD (f (column width n j l) ++ g (column width n j l)) i 0
+    at i j t =
+        let c = column width n j l in
+        rw (column-append width n n j l l t e, take-at c c n (length-column width n j l), drop-at c c n (length-column width n j l))

@@ -1,12 +1,11 @@
--- Products over the erased points, as the decoder's weights and as coefficients: a polynomial times z - a for each erased point a, its value and
--- z R'(z) there, and the division by them again. Assumes nothing.
+-- A polynomial times z - a for each erased point a: its value and z R'(z) at the points, by the decoder's weights, and the division by that product.
+-- Assumes nothing.
 use mathlib.Core.Path.{_≡_, refl, sym, ap, _∙_, subst}
-use mathlib.Core.Logic.{_≢_, _⊎_, inl, inr, ⊎-elim}
-use mathlib.Core.Bool.{Bool, true, false}
+use mathlib.Core.Logic.{_≢_, ⊎-elim}
+use mathlib.Core.Bool.{Bool, true, false, false≢true}
 use mathlib.Core.List.{List, [], _∷_}
-use Prim.Native.Nat.{ℕ, zero, suc, _+_, _^_, _<_}
-use native.Mathlib.Nat.{zero-add, add-zero, eq-or-lt-of-le}
-use native.Mathlib.Decide.{ℕ-discrete}
+use Prim.Native.Nat.{ℕ, zero, suc, _+_, _<_}
+use native.Mathlib.Nat.{add-zero, eq-or-lt-of-le}
 use native.Mathlib.Omega.{arith}
 use lib.ListN.{length, getD}
 use borrow.Author.Tests.{eq-eqb, ne-eqb}
@@ -15,16 +14,15 @@ use Rattle.field.specs.Polynomial.{horner, lift}
 use Rattle.field.specs.Field.{Prime}
 use Rattle.field.proofs.Congruence.{of-eq}
 use Rattle.field.proofs.Ring.{v, _⊕_, _⊖_, _⊗_, ring, lin, from, fact, none}
-use Rattle.field.proofs.Polynomials.{quotient, quotient-length, divide, lift-is, lift-length, horner-lt, minus-lt, minus-zero, no-divisors}
-use Rattle.field.proofs.Powers.{times-lt}
-use Rattle.code.specs.Decoding.{survivorsFrom, pointAt}
-use Rattle.code.specs.Decoder.{erasedCount, weightTo}
+use Rattle.field.proofs.Polynomials.{quotient, quotient-length, divide, lift-is, lift-length, horner-lt, minus-zero, no-divisors}
+use Rattle.field.proofs.Laws.{minus-lt}
+use Rattle.code.specs.Decoding.{pointAt}
+use Rattle.code.specs.Decoder.{weightTo}
+use Rattle.code.proofs.Tests.{either}
+use Rattle.code.proofs.Points.{point-lt}
+use Rattle.code.proofs.Survivors.{erasedTo, erased-zero, erased-true, erased-false}
+use Rattle.code.proofs.WeightLaws.{weight-zero, weight-survivor, weight-own, weight-other}
 use Rattle.code.proofs.Coefficients.{euler, euler-lift}
-
--- how many of the positions below n are erased
-unfoldable pub erasedTo : List Bool → ℕ → ℕ
-erasedTo ms zero = 0
-erasedTo ms (suc n) = elim (getD ms n false) [ true ↦ suc (erasedTo ms n) | false ↦ erasedTo ms n ]
 
 -- the coefficients of a polynomial times z - a, for the point a of each erased position below n
 unfoldable pub multiplied : (p w k level : ℕ) → (marks : List Bool) → List ℕ → ℕ → List ℕ
@@ -37,69 +35,15 @@ multiplied p w k l ms cs (suc n) =
 abbrev pub Spared : List Bool → ℕ → ℕ → Type 0
 Spared ms n i = (j : ℕ) → j < n → getD ms j false ≡ true → j ≢ i
 
-pub either : (b : Bool) → (b ≡ true) ⊎ (b ≡ false)
-either true = inl refl
-either false = inr refl
-
-true-false : {b : Bool} → b ≡ true → b ≡ false → ⊥
-true-false e f = let z : _≡_ {A = ℕ} 0 1 = cc in omega arith
-
 -- what holds at suc i, and of suc n where it holds of n, holds of all n above i
 above : (Q : ℕ → Type 0) (i : ℕ) → Q (suc i) → ((n : ℕ) → i < n → Q n → Q (suc n)) → (n : ℕ) → i < n → Q n
 above Q i q s zero b = absurd (omega arith)
 above Q i q s (suc n) b = ⊎-elim (λ e. subst (λ (t : ℕ). Q (suc t)) e q) (λ c. s n c (above Q i q s n c)) (eq-or-lt-of-le {n = i} {m = n} (omega arith))
 
-module _ (ms : List Bool) where
-  pub spared-survivor : (n i : ℕ) → getD ms i false ≡ false → Spared ms n i
-  spared-survivor n i e j b f q = true-false f (ap (λ (t : ℕ). getD ms t false) q ∙ e)
-
-  erased-true : (n : ℕ) → getD ms n false ≡ true → erasedTo ms (suc n) ≡ suc (erasedTo ms n)
-  unfolding erasedTo
-  erased-true n e = rw (e, erasedTo)
-
-  erased-false : (n : ℕ) → getD ms n false ≡ false → erasedTo ms (suc n) ≡ erasedTo ms n
-  unfolding erasedTo
-  erased-false n e = rw (e, erasedTo)
-
-  survivors-true : (i n : ℕ) → getD ms i false ≡ true → length (survivorsFrom ms i (suc n)) ≡ length (survivorsFrom ms (suc i) n)
-  unfolding survivorsFrom
-  survivors-true i n e = rw (e, survivorsFrom)
-
-  survivors-false : (i n : ℕ) → getD ms i false ≡ false → length (survivorsFrom ms i (suc n)) ≡ suc (length (survivorsFrom ms (suc i) n))
-  unfolding survivorsFrom
-  survivors-false i n e = rw (e, survivorsFrom)
-
-  survivors-zero : (i : ℕ) → length (survivorsFrom ms i zero) ≡ 0
-  unfolding survivorsFrom
-  survivors-zero i = refl
-
-  -- of the n positions from i on, those that survive and those that are erased
-  counted : (i n : ℕ) → length (survivorsFrom ms i n) + erasedTo ms (i + n) ≡ n + erasedTo ms i
-  counted i zero = omega (arith, survivors-zero i, ap (erasedTo ms) (add-zero i))
-  counted i (suc n) =
-      let r : erasedTo ms (i + suc n) ≡ erasedTo ms (suc i + n) = ap (erasedTo ms) {x = i + suc n} {y = suc i + n} (omega arith) in
-      let c = counted (suc i) n in
-      ⊎-elim (λ e. omega (arith, survivors-true i n e, erased-true i e)) (λ e. omega (arith, survivors-false i n e, erased-false i e)) (either (getD ms i false))
-
-  pub count : (l : ℕ) → erasedCount l ms ≡ erasedTo ms (2 ^ suc l)
-  unfolding erasedTo
-  count l = omega (arith, counted 0 (2 ^ suc l), ap (erasedTo ms) (zero-add (2 ^ suc l)))
+pub spared-survivor : (ms : List Bool) (n i : ℕ) → getD ms i false ≡ false → Spared ms n i
+spared-survivor ms n i e j b f q = false≢true (sym e ∙ ap (λ (t : ℕ). getD ms t false) (sym q) ∙ f)
 
 module _ (p w k l : ℕ) (ms : List Bool) where
-  -- the weight's factors
-  weight-survivor : (i n : ℕ) → getD ms n false ≡ false → weightTo p w k l ms i (suc n) ≡ weightTo p w k l ms i n
-  unfolding weightTo
-  weight-survivor i n e = rw (e, weightTo)
-
-  weight-self : (i n : ℕ) → getD ms n false ≡ true → n ≡ i → weightTo p w k l ms i (suc n) ≡ weightTo p w k l ms i n
-  unfolding weightTo
-  weight-self i n e q = rw (e, eq-eqb n i q, weightTo)
-
-  weight-other : (i n : ℕ) → getD ms n false ≡ true → n ≢ i
-      → weightTo p w k l ms i (suc n) ≡ times p (weightTo p w k l ms i n) (minus p (pointAt p w k l i) (pointAt p w k l n))
-  unfolding weightTo
-  weight-other i n e d = rw (e, ne-eqb n i d, weightTo)
-
   multiplied-true : (cs : List ℕ) (n : ℕ) → getD ms n false ≡ true → multiplied p w k l ms cs (suc n) ≡ lift p (pointAt p w k l n) 0 (multiplied p w k l ms cs n)
   unfolding multiplied
   multiplied-true cs n e = rw (e, multiplied)
@@ -112,13 +56,9 @@ module _ (p w k l : ℕ) (ms : List Bool) where
   unfolding multiplied
   multiplied-zero cs = refl
 
-  weight-zero : (i : ℕ) → weightTo p w k l ms i zero ≡ 1
-  unfolding weightTo
-  weight-zero i = refl
-
   pub length-multiplied : (cs : List ℕ) (n : ℕ) → length (multiplied p w k l ms cs n) ≡ length cs + erasedTo ms n
-  unfolding erasedTo multiplied
-  length-multiplied cs zero = omega arith
+  unfolding multiplied
+  length-multiplied cs zero = omega (arith, erased-zero ms)
   length-multiplied cs (suc n) =
       ⊎-elim
       (λ e. ap length (multiplied-true cs n e) ∙ lift-length p (pointAt p w k l n) 0 (multiplied p w k l ms cs n) ∙ omega (arith, length-multiplied cs n, erased-true ms n e))
@@ -135,7 +75,7 @@ module _ (p w k l : ℕ) (ms : List Bool) where
     multiplied-value cs i zero s =
         let y = horner p cs (pointAt p w k l i) in
         ap (λ c. horner p c (pointAt p w k l i)) (multiplied-zero cs) ∙ ring p h (v y) (v 1 ⊗ v y) (horner-lt p h cs (pointAt p w k l i)) h (omega arith)
-        ∙ ap (λ u. times p u y) (sym (weight-zero i))
+        ∙ ap (λ u. times p u y) (sym (weight-zero p w k l ms i))
     multiplied-value cs i (suc n) s =
         let x = pointAt p w k l i in
         let a = pointAt p w k l n in
@@ -144,8 +84,8 @@ module _ (p w k l : ℕ) (ms : List Bool) where
         let r = multiplied-value cs i n (λ j b. s j (omega arith)) in
         ⊎-elim
         (λ e. ap (λ c. horner p c x) (multiplied-true cs n e) ∙ lift-value a x (multiplied p w k l ms cs n) ∙ ap (times p (minus p x a)) r
-        ∙ ring p h ((v x ⊖ v a) ⊗ (v u ⊗ v y)) (v u ⊗ (v x ⊖ v a) ⊗ v y) h h (omega arith) ∙ ap (λ t. times p t y) (sym (weight-other i n e (s n (omega arith) e))))
-        (λ e. ap (λ c. horner p c x) (multiplied-false cs n e) ∙ r ∙ ap (λ t. times p t y) (sym (weight-survivor i n e))) (either (getD ms n false))
+        ∙ ring p h ((v x ⊖ v a) ⊗ (v u ⊗ v y)) (v u ⊗ (v x ⊖ v a) ⊗ v y) h h (omega arith) ∙ ap (λ t. times p t y) (sym (weight-other p w k l ms i n e (ne-eqb n i (s n (omega arith) e)))))
+        (λ e. ap (λ c. horner p c x) (multiplied-false cs n e) ∙ r ∙ ap (λ t. times p t y) (sym (weight-survivor p w k l ms i n e))) (either (getD ms n false))
 
     -- at an erased point it is 0
     pub multiplied-root : (cs : List ℕ) (i n : ℕ) → i < n → getD ms i false ≡ true → horner p (multiplied p w k l ms cs n) (pointAt p w k l i) ≡ 0
@@ -189,7 +129,7 @@ module _ (p w k l : ℕ) (ms : List Bool) where
             let u = v (weightTo p w k l ms i i) in
             at i f
             ∙ lin p h (v x ⊗ r ⊕ (v x ⊖ v x) ⊗ d) (v x ⊗ u ⊗ v y) (v x) r (u ⊗ v y) (of-eq p (multiplied-value cs i i (λ j b _ q. omega arith))) h h (omega arith)
-            ∙ ap (λ t. times p (times p x t) y) (sym (weight-self i i f refl))
+            ∙ ap (λ t. times p (times p x t) y) (sym (weight-own p w k l ms i i (eq-eqb i i refl)))
 
         next : (n : ℕ) → i < n → euler p (multiplied p w k l ms cs n) x ≡ times p (times p x (weightTo p w k l ms i n)) y
             → euler p (multiplied p w k l ms cs (suc n)) x ≡ times p (times p x (weightTo p w k l ms i (suc n))) y
@@ -202,8 +142,8 @@ module _ (p w k l : ℕ) (ms : List Bool) where
             (λ e. at n e
             ∙ from p h (fact (v x) g (v 0) (of-eq p (multiplied-root cs i n b f)) (fact (v x ⊖ a) d (v x ⊗ u ⊗ v y) (of-eq p r) none))
             (v x ⊗ g ⊕ (v x ⊖ a) ⊗ d) (v x ⊗ (u ⊗ (v x ⊖ a)) ⊗ v y) h h (omega arith)
-            ∙ ap (λ t. times p (times p x t) y) (sym (weight-other i n e (λ q. omega arith))))
-            (λ e. ap (λ c. euler p c x) (multiplied-false cs n e) ∙ r ∙ ap (λ t. times p (times p x t) y) (sym (weight-survivor i n e))) (either (getD ms n false))
+            ∙ ap (λ t. times p (times p x t) y) (sym (weight-other p w k l ms i n e (ne-eqb n i (λ q. omega arith)))))
+            (λ e. ap (λ c. euler p c x) (multiplied-false cs n e) ∙ r ∙ ap (λ t. times p (times p x t) y) (sym (weight-survivor p w k l ms i n e))) (either (getD ms n false))
 
 -- a polynomial as the product of z - a over the erased points below n, and m more coefficients
 pub record Divided (p w k l : ℕ) (ms : List Bool) (m n : ℕ) (cs : List ℕ) : Type 0 where
@@ -229,40 +169,12 @@ dividedBy-is p h a x (c ∷ cs) e =
     divide p h a x c cs ∙ ap (λ t. plus p t (times p (minus p x a) (horner p (quotient p a cs) x))) e ∙ ring p h (v 0 ⊕ (v x ⊖ v a) ⊗ q) ((v x ⊖ v a) ⊗ q) h h (omega arith)
 
 -- where the points differ
-module _ (p w k l : ℕ) (ms : List Bool) (P : Prime p) (small : (i : ℕ) → pointAt p w k l i < p) where
+module _ (p w k l : ℕ) (ms : List Bool) (P : Prime p) where
   h : 0 < p
   h = omega (arith, P .big)
 
-  apart : (x a : ℕ) → x < p → a < p → x ≢ a → minus p x a ≢ 0
-  apart x a b c d e = d (minus-zero p h x a b c e)
-
-  -- one more position has a factor, or none
-  weight-step : (i n : ℕ)
-      → (weightTo p w k l ms i (suc n) ≡ weightTo p w k l ms i n)
-      ⊎ ((n ≢ i) × (weightTo p w k l ms i (suc n) ≡ times p (weightTo p w k l ms i n) (minus p (pointAt p w k l i) (pointAt p w k l n))))
-  weight-step i n = ⊎-elim (λ e. same-or e (ℕ-discrete n i)) (λ e. inl (weight-survivor p w k l ms i n e)) (either (getD ms n false))
-    where
-      same-or : getD ms n false ≡ true → Dec (n ≡ i)
-          → (weightTo p w k l ms i (suc n) ≡ weightTo p w k l ms i n)
-          ⊎ ((n ≢ i) × (weightTo p w k l ms i (suc n) ≡ times p (weightTo p w k l ms i n) (minus p (pointAt p w k l i) (pointAt p w k l n))))
-      same-or e (yes q) = inl (weight-self p w k l ms i n e q)
-      same-or e (no d) = inr (d, weight-other p w k l ms i n e d)
-
-  pub weight-lt : (i n : ℕ) → weightTo p w k l ms i n < p
-  weight-lt i zero = rw (weight-zero p w k l ms i) (P .big)
-  weight-lt i (suc n) = ⊎-elim (λ e. rw e (weight-lt i n)) (λ e. rw (e .1) (times-lt p (P .big) _ _)) (weight-step i n)
-
-  -- no weight is 0
-  pub weight-nonzero : (i n : ℕ) → ((j : ℕ) → j < n → j ≢ i → pointAt p w k l i ≢ pointAt p w k l j) → weightTo p w k l ms i n ≢ 0
-  weight-nonzero i zero d e = let z : _≡_ {A = ℕ} 1 0 = sym (weight-zero p w k l ms i) ∙ e in omega arith
-  weight-nonzero i (suc n) d e =
-      let r : weightTo p w k l ms i n ≢ 0 = weight-nonzero i n (λ j b. d j (omega arith)) in
-      let x = pointAt p w k l i in
-      let a = pointAt p w k l n in
-      ⊎-elim (λ f. r (sym f ∙ e))
-      (λ f. apart x a (small i) (small n) (d n (omega arith) (f .0))
-      (no-divisors p P (weightTo p w k l ms i n) (minus p x a) (minus-lt p h x a) (weight-lt i n) r (sym (f .1) ∙ e)))
-      (weight-step i n)
+  apart : (i j : ℕ) → pointAt p w k l i ≢ pointAt p w k l j → minus p (pointAt p w k l i) (pointAt p w k l j) ≢ 0
+  apart i j d e = d (minus-zero p h (pointAt p w k l i) (pointAt p w k l j) (point-lt p w k l (P .big) i) (point-lt p w k l (P .big) j) e)
 
   -- one more position, that survives or is erased
   divided-survivor : (m n : ℕ) (cs : List ℕ) → getD ms n false ≡ false → Divided p w k l ms m n cs → Divided p w k l ms m (suc n) cs
@@ -283,17 +195,16 @@ module _ (p w k l : ℕ) (ms : List Bool) (P : Prime p) (small : (i : ℕ) → p
         let u = weightTo p w k l ms i n in
         let y = horner p (q .rest) x in
         dividedBy-is p h a x cs z ∙ ap (times p (minus p x a)) (q .value i (λ j b. s j (omega arith))) ∙ ring p h ((v x ⊖ v a) ⊗ (v u ⊗ v y)) (v u ⊗ (v x ⊖ v a) ⊗ v y) h h (omega arith)
-        ∙ ap (λ t. times p t y) (sym (weight-other p w k l ms i n e (s n (omega arith) e)));
+        ∙ ap (λ t. times p t y) (sym (weight-other p w k l ms i n e (ne-eqb n i (s n (omega arith) e))));
   }
 
   -- a polynomial that is 0 at the erased points, which differ, is such a product
   pub divided : (m n : ℕ) (cs : List ℕ) → length cs ≡ m + erasedTo ms n
       → ((i j : ℕ) → i < j → j < n → pointAt p w k l i ≢ pointAt p w k l j)
       → ((i : ℕ) → i < n → getD ms i false ≡ true → horner p cs (pointAt p w k l i) ≡ 0) → Divided p w k l ms m n cs
-  unfolding erasedTo
   divided m zero cs long d r = record {
     rest = cs;
-    long = long ∙ add-zero m;
+    long = long ∙ ap (λ (e : ℕ). m + e) (erased-zero ms) ∙ add-zero m;
     value = λ i s.
         let y = horner p cs (pointAt p w k l i) in
         ring p h (v y) (v 1 ⊗ v y) (horner-lt p h cs (pointAt p w k l i)) h (omega arith) ∙ ap (λ u. times p u y) (sym (weight-zero p w k l ms i));
@@ -306,6 +217,6 @@ module _ (p w k l : ℕ) (ms : List Bool) (P : Prime p) (small : (i : ℕ) → p
       divided-erased m n cs e z
       (divided m n (dividedBy p a cs) (length-dividedBy p a (m + erasedTo ms n) cs (omega (arith, erased-true ms n e))) d′
       (λ i b f. let x = pointAt p w k l i in
-      no-divisors p P (minus p x a) (horner p (dividedBy p a cs) x) (horner-lt p h (dividedBy p a cs) x) (minus-lt p h x a) (apart x a (small i) (small n) (d i n b (omega arith)))
+      no-divisors p P (minus p x a) (horner p (dividedBy p a cs) x) (horner-lt p h (dividedBy p a cs) x) (minus-lt p h x a) (apart i n (d i n b (omega arith)))
       (sym (dividedBy-is p h a x cs z) ∙ r i (omega arith) f))))
       (λ e. divided-survivor m n cs e (divided m n cs (omega (arith, erased-false ms n e)) d′ (λ i b. r i (omega arith)))) (either (getD ms n false))

@@ -1,33 +1,32 @@
--- Laws of specs/RowTrace: the length of what is stored, its words, and the words around it, and the loops that store. Rows that are scaled one after the
--- other; a list in two parts that are lent; two functions done to the same rows. Assumes nothing.
+-- Laws of specs/RowTrace: what is stored and the words around it, and loops that store a word or a row a turn; a list in two parts that are lent.
+-- Assumes nothing.
 use mathlib.Core.Path.{_≡_, refl, sym, ap, ap₂, _∙_}
 use mathlib.Core.Logic.{⊎-elim, _≢_}
 use mathlib.Core.Bool.{true, false}
 use mathlib.Core.List.{List, _++_, append-nil}
 use Prim.Native.Nat.{ℕ, zero, suc, _+_, _*_, _-_, _/_, _≤_, _<_}
-use native.Mathlib.Nat.{eq-or-lt-of-le, add-zero, add-suc, add-assoc, suc-mul, zero-mul}
+use native.Mathlib.Nat.{eq-or-lt-of-le, add-zero, add-suc, add-assoc, zero-mul}
 use native.Mathlib.Numerals.{add-one}
 use native.Mathlib.Decide.{decLt}
 use native.Mathlib.Omega.{arith}
 use borrow.Rule.Slice.PartMut.{putMid}
-use lib.ListN.{length, getD, set, take, drop, replicate, drop-of-length-le, length-replicate, getD-replicate, length-set, length-append, length-drop, List·getD-append}
+use lib.ListN.{length, getD, set, take, drop, replicate, take-append-drop, drop-of-length-le, length-replicate, getD-replicate, length-set, length-append, length-drop, List·getD-append}
 use lib.Seq.{take-all, take-at, drop-at, set-comm, drop-length, getD-set-same, getD-set-other, getD-append-add, getD-take, getD-drop, length-take-le, ext-getD}
-use lib.Arith.{digits-div, digits-lt}
+use lib.Arith.{digits-div}
 use lib.Dec.{eqb}
 use Rattle.field.specs.Residue.{minus, times}
 use Rattle.field.specs.Words.{Words, table}
+use Rattle.field.proofs.Laws.{times-lt}
 use Rattle.field.proofs.WordLists.{words-set, length-table, getD-table, is-table}
-use Rattle.code.specs.Rows.{column, lifted}
 use Rattle.code.specs.RowTrace.{stored, scaledWord, scaleRow, weighedBy}
-use Rattle.code.proofs.Shapes.{times-lt}
-use Rattle.code.proofs.Lifting.{length-column, length-lifted, lifted-at, is-lifted, column-append, lifted-append}
+use Rattle.code.proofs.Lifting.{row-next, row-in}
 
 pub length-stored : (a : ℕ) (f : ℕ → ℕ) (n : ℕ) (l : List ℕ) → length (stored a f n l) ≡ length l
 unfolding stored
 length-stored a f zero l = refl
 length-stored a f (suc n) l = length-set (stored a f n l) (a + n) (f n) ∙ length-stored a f n l
 
-pub words-stored : (p : ℕ) → 0 < p → (a : ℕ) (f : ℕ → ℕ) (n : ℕ) {l : List ℕ} → Words p l → ((i : ℕ) → i < n → f i < p) → Words p (stored a f n l)
+words-stored : (p : ℕ) → 0 < p → (a : ℕ) (f : ℕ → ℕ) (n : ℕ) {l : List ℕ} → Words p l → ((i : ℕ) → i < n → f i < p) → Words p (stored a f n l)
 unfolding stored
 words-stored p h a f zero w b = w
 words-stored p h a f (suc n) w b = words-set p h (a + n) (words-stored p h a f n w (λ i t. b i (omega arith))) (b n (omega arith))
@@ -143,70 +142,58 @@ storing-rest {a} {f} {l₀ = l₀} {i = i} h k b = ap (λ (m : List ℕ). getD m
 pub storing-front : {a : ℕ} {f : ℕ → ℕ} {n : ℕ} {l₀ l : List ℕ} {i : ℕ} → Storing a f n l₀ l i → (k : ℕ) → k < a → getD l k 0 ≡ getD l₀ k 0
 storing-front {a} {f} {l₀ = l₀} {i = i} h k b = ap (λ (m : List ℕ). getD m k 0) (h .now) ∙ stored-before a f i l₀ k b
 
--- a row that is scaled
-module _ (p width a g : ℕ) where
-  pub length-scaleRow : (l : List ℕ) → length (scaleRow p width a g l) ≡ length l
-  unfolding scaleRow
-  length-scaleRow l = length-stored a (scaledWord p a g l) width l
+-- A LOOP THAT STORES A ROW A TURN: i of m rows of `width` words, from index a on, and the next at `at`
+pub record StoringRows (a : ℕ) (f : ℕ → ℕ) (m width : ℕ) (l₀ l : List ℕ) (at i : ℕ) : Type 0 where
+  pub turns : i ≤ m
+  pub at-is : at ≡ a + i * width
+  pub same : length l ≡ length l₀
+  pub now : l ≡ stored a f (i * width) l₀
 
-  pub words-scaleRow : 0 < p → {l : List ℕ} → Words p l → Words p (scaleRow p width a g l)
-  unfolding scaleRow scaledWord
-  words-scaleRow h {l} w = words-stored p h a (scaledWord p a g l) width w (λ i t. times-lt p h g (getD l (a + i) 0))
+pub storing-rows-start : (a : ℕ) (f : ℕ → ℕ) (m width : ℕ) (l : List ℕ) → StoringRows a f m width l l a 0
+unfolding stored
+storing-rows-start a f m width l = record { turns = omega arith; at-is = omega (arith, zero-mul width); same = refl; now = rw zero-mul }
 
-  pub scaleRow-at : (l : List ℕ) (j : ℕ) → a + width ≤ length l → j < width → getD (scaleRow p width a g l) (a + j) 0 ≡ times p g (getD l (a + j) 0)
-  unfolding scaleRow scaledWord
-  scaleRow-at l j h b = stored-at a (scaledWord p a g l) width l j h b
+module _ {a : ℕ} {f : ℕ → ℕ} {m width : ℕ} {l₀ l : List ℕ} {at i : ℕ} (h : StoringRows a f m width l₀ l at i) where
+  pub storing-rows-room : i < m → at + width ≤ a + m * width
+  storing-rows-room b = omega (arith, row-in width b)
 
-  pub scaleRow-before : (l : List ℕ) (k : ℕ) → k < a → getD (scaleRow p width a g l) k 0 ≡ getD l k 0
-  unfolding scaleRow
-  scaleRow-before l k h = stored-before a (scaledWord p a g l) width l k h
+  pub storing-rows-rest : (k : ℕ) → at ≤ k → getD l k 0 ≡ getD l₀ k 0
+  storing-rows-rest k b = ap (λ (r : List ℕ). getD r k 0) (h .now) ∙ stored-after a f (i * width) l₀ k (omega arith)
 
-  pub scaleRow-after : (l : List ℕ) (k : ℕ) → a + width ≤ k → getD (scaleRow p width a g l) k 0 ≡ getD l k 0
-  unfolding scaleRow
-  scaleRow-after l k h = stored-after a (scaledWord p a g l) width l k h
+  pub storing-rows-front : (k : ℕ) → k < a → getD l k 0 ≡ getD l₀ k 0
+  storing-rows-front k b = ap (λ (r : List ℕ). getD r k 0) (h .now) ∙ stored-before a f (i * width) l₀ k b
 
--- ROWS scaled one after the other, n of them from index a on; row i by g i
-unfoldable pub scaledRowsWord : (p width a : ℕ) → (g : ℕ → ℕ) → (l : List ℕ) → (x : ℕ) → ℕ
-scaledRowsWord p width a g l x = times p (g (x / width)) (getD l (a + x) 0)
+  pub storing-rows-words : {p : ℕ} → 0 < p → Words p l₀ → ((k : ℕ) → f k < p) → Words p l
+  storing-rows-words {p} z w b = rw (h .now) (words-stored p z a f (i * width) w (λ k _. b k))
 
-unfoldable pub scaleRows : (p width a : ℕ) → (g : ℕ → ℕ) → (n : ℕ) → (l : List ℕ) → List ℕ
-scaleRows p width a g n l = stored a (scaledRowsWord p width a g l) (n * width) l
+  pub storing-rows-turn : (g : ℕ → ℕ) {l′ : List ℕ} → i < m → l′ ≡ stored at g width l → ((j : ℕ) → j < width → g j ≡ f (i * width + j)) → StoringRows a f m width l₀ l′ (at + width) (i + 1)
+  storing-rows-turn g b e s = record {
+    turns = omega arith;
+    at-is = omega (arith, row-next i width);
+    same = ap length e ∙ length-stored at g width l ∙ h .same;
+    now = e ∙ rw (row-next, h .at-is, h .now) (stored-more a f g (i * width) width l₀ s);
+  }
 
-module _ (p width a : ℕ) (g : ℕ → ℕ) where
-  pub length-scaleRows : (n : ℕ) (l : List ℕ) → length (scaleRows p width a g n l) ≡ length l
-  unfolding scaleRows
-  length-scaleRows n l = length-stored a (scaledRowsWord p width a g l) (n * width) l
+  pub storing-rows-done : m ≤ i → l ≡ stored a f (m * width) l₀
+  storing-rows-done b =
+      let e : i ≡ m = omega arith in
+      rw e at (h .now)
 
-  pub words-scaleRows : 0 < p → (n : ℕ) {l : List ℕ} → Words p l → Words p (scaleRows p width a g n l)
-  unfolding scaleRows scaledRowsWord
-  words-scaleRows h n {l} w = words-stored p h a (scaledRowsWord p width a g l) (n * width) w (λ i t. times-lt p h (g (i / width)) (getD l (a + i) 0))
+-- rows that are scaled, row i by g i
+unfoldable pub scaledRowsWord : (p width : ℕ) → (g : ℕ → ℕ) → (words : List ℕ) → (x : ℕ) → ℕ
+scaledRowsWord p width g l x = times p (g (x / width)) (getD l x 0)
 
-  pub scaleRows-none : (l : List ℕ) → scaleRows p width a g 0 l ≡ l
-  unfolding scaleRows stored
-  scaleRows-none l = rw zero-mul
+module _ (p width : ℕ) (g : ℕ → ℕ) {m : ℕ} {l₀ l : List ℕ} {at i : ℕ} (h : StoringRows 0 (scaledRowsWord p width g l₀) m width l₀ l at i) where
+  pub scaling-words : 0 < p → Words p l₀ → Words p l
+  unfolding scaledRowsWord
+  scaling-words z w = storing-rows-words h z w (λ k. times-lt p z _ _)
 
-  -- one row more
-  pub scaleRows-more : (n : ℕ) (l : List ℕ) → scaleRow p width (a + n * width) (g n) (scaleRows p width a g n l) ≡ scaleRows p width a g (suc n) l
-  unfolding scaleRow scaleRows scaledRowsWord scaledWord
-  scaleRows-more n l =
-      stored-more a (scaledRowsWord p width a g l) (scaledWord p (a + n * width) (g n) (stored a (scaledRowsWord p width a g l) (n * width) l)) (n * width) width l at
-      ∙ ap (λ (m : ℕ). stored a (scaledRowsWord p width a g l) m l) (sym (suc-mul n width))
-    where
-      at : (i : ℕ) → i < width → times p (g n) (getD (stored a (scaledRowsWord p width a g l) (n * width) l) (a + n * width + i) 0) ≡ times p (g ((n * width + i) / width)) (getD l (a + (n * width + i)) 0)
-      at i b = rw (digits-div n b, stored-after a (scaledRowsWord p width a g l) (n * width) l (a + n * width + i) (omega arith), add-assoc)
-
-  pub scaleRows-at : (n : ℕ) (l : List ℕ) (i j : ℕ) → a + n * width ≤ length l → i < n → j < width
-      → getD (scaleRows p width a g n l) (a + (i * width + j)) 0 ≡ times p (g i) (getD l (a + (i * width + j)) 0)
-  unfolding scaleRows scaledRowsWord
-  scaleRows-at n l i j h b t = stored-at a (scaledRowsWord p width a g l) (n * width) l (i * width + j) h (digits-lt b t) ∙ rw (digits-div i t)
-
-  pub scaleRows-before : (n : ℕ) (l : List ℕ) (k : ℕ) → k < a → getD (scaleRows p width a g n l) k 0 ≡ getD l k 0
-  unfolding scaleRows
-  scaleRows-before n l k h = stored-before a (scaledRowsWord p width a g l) (n * width) l k h
-
-  pub scaleRows-after : (n : ℕ) (l : List ℕ) (k : ℕ) → a + n * width ≤ k → getD (scaleRows p width a g n l) k 0 ≡ getD l k 0
-  unfolding scaleRows
-  scaleRows-after n l k h = stored-after a (scaledRowsWord p width a g l) (n * width) l k h
+  pub scaling-turn : {x : ℕ} {l′ : List ℕ} → i < m → x ≡ g i → l′ ≡ scaleRow p width at x l → StoringRows 0 (scaledRowsWord p width g l₀) m width l₀ l′ (at + width) (i + 1)
+  unfolding scaleRow scaledWord scaledRowsWord
+  scaling-turn {x} b ex e =
+      storing-rows-turn h (scaledWord p at x l) b e
+      (λ j t. rw (digits-div i t, ex)
+      (ap (times p (g i)) (storing-rows-rest h (at + j) (omega arith) ∙ ap (λ (k : ℕ). getD l₀ k 0) {x = at + j} {y = i * width + j} (omega (arith, h .at-is)))))
 
 -- weights multiplied
 module _ (p base j : ℕ) (l : List ℕ) (i : ℕ) where
@@ -223,11 +210,14 @@ pub record Parts (n : ℕ) (l a b : List ℕ) : Type 0 where
   pub is : l ≡ a ++ b
   pub long : length a ≡ n
 
+pub cut : (n : ℕ) (l : List ℕ) → n ≤ length l → Parts n l (take n l) (drop n l)
+cut n l h = record { is = sym (take-append-drop n l); long = length-take-le n l h }
+
 module _ {n : ℕ} {l a b : List ℕ} (h : Parts n l a b) where
   pub length-parts : length l ≡ n + length b
   length-parts = ap length (h .is) ∙ length-append a b ∙ ap (λ (m : ℕ). m + length b) (h .long)
 
-  rest-is : drop n l ≡ b
+  pub rest-is : drop n l ≡ b
   rest-is = ap (drop n) (h .is) ∙ drop-at a b n (h .long)
 
   pub lent-front : take n l ≡ a
@@ -244,16 +234,3 @@ module _ {n : ℕ} {l a b : List ℕ} (h : Parts n l a b) where
     is = ap₂ (λ (y z : List ℕ). y ++ (x ++ z)) lent-front (ap (drop (length l - n)) rest-is ∙ drop-of-length-le b {i = length l - n} (omega (arith, length-parts))) ∙ ap (λ (r : List ℕ). a ++ r) (append-nil x);
     long = h .long;
   }
-
--- f and g done to the same rows, what f gives first
-pub lifted-both : (width n m m′ : ℕ) (f g : List ℕ → List ℕ) (l : List ℕ) → length l ≡ n * width → ((c : List ℕ) → length c ≡ n → length (f c) ≡ m)
-    → lifted width n (m + m′) (λ c. f c ++ g c) l ≡ lifted width n m f l ++ lifted width n m′ g l
-lifted-both width n m m′ f g l e keeps =
-    sym (lifted-append width n m n m′ f g l l e keeps
-    ∙ is-lifted width n (m + m′) (λ c. f c ++ g c) l (lifted width (n + n) (m + m′) (λ c. f (take n c) ++ g (drop n c)) (l ++ l)) (length-lifted width (n + n) (m + m′) (λ c. f (take n c) ++ g (drop n c)) (l ++ l))
-    (λ i j h t. lifted-at width (n + n) (m + m′) (λ c. f (take n c) ++ g (drop n c)) (l ++ l) i j h t ∙ at i j t))
-  where
-    at : (i j : ℕ) → j < width → getD (f (take n (column width (n + n) j (l ++ l))) ++ g (drop n (column width (n + n) j (l ++ l)))) i 0 ≡ getD (f (column width n j l) ++ g (column width n j l)) i 0
-    at i j t =
-        let c = column width n j l in
-        rw (column-append width n n j l l t e, take-at c c n (length-column width n j l), drop-at c c n (length-column width n j l))

@@ -1,19 +1,25 @@
--- The length of what each definition on a column gives, its words, and that they are words of the field. Assumes nothing.
+-- The length of what each definition on a column gives, its words, and that they are words of the field; halves of a column. Assumes nothing.
 use mathlib.Core.Path.{_≡_, refl, sym, ap, ap₂, _∙_}
 use mathlib.Core.List.{List, [], _∷_, _++_}
-use Prim.Native.Nat.{ℕ, zero, suc, _+_, _*_, _-_, _/_, _%_, _^_, _≤_, _<_}
-use native.Mathlib.Nat.{mod-lt, add-zero, add-suc, pow-succ'}
+use Prim.Native.Nat.{ℕ, zero, suc, _+_, _*_, _/_, _%_, _^_, _<_}
+use native.Mathlib.Nat.{mod-lt, add-zero}
+use native.Mathlib.Numerals.{add-one}
 use native.Mathlib.Omega.{arith}
-use lib.ListN.{length, getD, take, drop, length-append, length-take, length-drop}
-use lib.Seq.{length-take-le}
-use lib.Pow.{pow-pos}
+use lib.ListN.{length, getD, take, drop, length-append, length-drop, List·getD-append}
+use lib.Seq.{length-take-le, getD-append-add}
 use Rattle.field.specs.Residue.{plus, minus, times}
 use Rattle.field.specs.Power.{power}
 use Rattle.field.specs.Words.{Words, table}
-use Rattle.field.proofs.WordLists.{words-nil, words-cons, words-tail, words-take, words-drop, words-append, words-table, length-table, getD-table, table-low, table-high}
+use Rattle.field.proofs.Laws.{plus-lt, minus-lt, times-lt}
+use Rattle.field.proofs.WordLists.{words-nil, words-cons, words-take, words-drop, words-append, words-table, length-table, getD-table, table-low, table-high}
 use Rattle.code.specs.Transform.{sumAt, differenceAt, mixed, transform, evenAt, oddAt, unmixed, untransform, scaled, reversed, turned}
 use Rattle.code.specs.Stripe.{coded}
 use Rattle.code.specs.Decoding.{bitReversed}
+use Rattle.code.specs.Promises.{Column}
+
+-- the count of positions, as the code writes it
+pub positions : (l : ℕ) {n : ℕ} → n ≡ 2 ^ (l + 1) → n ≡ 2 ^ suc l
+positions l e = e ∙ ap (λ (i : ℕ). 2 ^ i) (add-one l)
 
 -- halves of 2 ^ suc l words
 pub take-half : (l : ℕ) (xs : List ℕ) → length xs ≡ 2 ^ suc l → length (take (2 ^ l) xs) ≡ 2 ^ l
@@ -27,6 +33,14 @@ length-two a b e f = length-append a b ∙ ap₂ _+_ e f
 
 pub length-halves : (l : ℕ) (a b : List ℕ) → length a ≡ 2 ^ l → length b ≡ 2 ^ l → length (a ++ b) ≡ 2 ^ suc l
 length-halves l a b e f = length-two a b e f ∙ omega arith
+
+-- words of two parts, the first of n words
+module _ {n : ℕ} (a b : List ℕ) (long : length a ≡ n) where
+  pub append-low : (i : ℕ) → i < n → getD (a ++ b) i 0 ≡ getD a i 0
+  append-low i l = List·getD-append a b 0 i (omega arith)
+
+  pub append-high : (i : ℕ) → getD (a ++ b) (n + i) 0 ≡ getD b i 0
+  append-high i = ap (λ (m : ℕ). getD (a ++ b) (m + i) 0) (sym long) ∙ getD-append-add a b i 0
 
 -- reversed bits
 pub reversed-lt : (k t : ℕ) → reversed k t < 2 ^ k
@@ -92,14 +106,24 @@ pub bitReversed-at : (l : ℕ) (cs : List ℕ) (j : ℕ) → j < 2 ^ l → getD 
 unfolding bitReversed
 bitReversed-at l cs j b = getD-table (2 ^ l) j (λ i. getD cs (reversed l i) 0) b
 
+-- X and Y of a coded column
+module _ (p w k l t : ℕ) (xs : List ℕ) (long : length xs ≡ 2 ^ l) where
+  pub coded-low : (i : ℕ) → i < 2 ^ l → getD (coded p w k l t xs) i 0 ≡ getD (transform p w k l xs) i 0
+  unfolding coded
+  coded-low = append-low (transform p w k l xs) (transform p w k l (turned p w k t xs)) (length-transform p w k l xs long)
+
+  pub coded-high : (i : ℕ) → getD (coded p w k l t xs) (2 ^ l + i) 0 ≡ getD (transform p w k l (turned p w k t xs)) i 0
+  unfolding coded
+  coded-high = append-high (transform p w k l xs) (transform p w k l (turned p w k t xs)) (length-transform p w k l xs long)
+
 module _ (p : ℕ) where
   pub mixed-low : (v : ℕ) (a b : List ℕ) (i : ℕ) → i < length a → getD (mixed p v a b) i 0 ≡ plus p (getD a i 0) (times p (power p v i) (getD b i 0))
   unfolding mixed sumAt
   mixed-low v a b i h = table-low (length a) (length a) (sumAt p v a b) (differenceAt p v a b) i h
 
-  pub mixed-high : (v : ℕ) (a b : List ℕ) (i : ℕ) → i < length a → getD (mixed p v a b) (length a + i) 0 ≡ minus p (getD a i 0) (times p (power p v i) (getD b i 0))
+  pub mixed-high : (v m : ℕ) (a b : List ℕ) (i : ℕ) → length a ≡ m → i < m → getD (mixed p v a b) (m + i) 0 ≡ minus p (getD a i 0) (times p (power p v i) (getD b i 0))
   unfolding mixed differenceAt
-  mixed-high v a b i h = table-high (length a) (length a) (sumAt p v a b) (differenceAt p v a b) i h
+  mixed-high v m a b i e h = ap (λ (n : ℕ). getD (mixed p v a b) (n + i) 0) (sym e) ∙ table-high (length a) (length a) (sumAt p v a b) (differenceAt p v a b) i (omega arith)
 
   pub unmixed-low : (v m : ℕ) (c : List ℕ) (i : ℕ) → i < m → getD (unmixed p v m c) i 0 ≡ plus p (getD c i 0) (getD c (m + i) 0)
   unfolding unmixed evenAt
@@ -123,22 +147,10 @@ module _ (p : ℕ) where
 
 -- words of the field
 module _ (p : ℕ) (h : 0 < p) where
-  pub plus-lt : (x y : ℕ) → plus p x y < p
-  unfolding plus
-  plus-lt x y = mod-lt (x + y) h
-
-  pub minus-lt : (x y : ℕ) → minus p x y < p
-  unfolding minus
-  minus-lt x y = mod-lt _ h
-
-  pub times-lt : (x y : ℕ) → times p x y < p
-  unfolding times
-  times-lt x y = mod-lt (x * y) h
-
   pub words-mixed : (v : ℕ) (a b : List ℕ) → Words p (mixed p v a b)
   unfolding mixed sumAt differenceAt
   words-mixed v a b =
-      words-append p h {a = table (length a) (sumAt p v a b)} (words-table p h (length a) (sumAt p v a b) (λ i _. plus-lt _ _)) (words-table p h (length a) (differenceAt p v a b) (λ i _. minus-lt _ _))
+      words-append p h {a = table (length a) (sumAt p v a b)} (words-table p h (length a) (sumAt p v a b) (λ i _. plus-lt p h _ _)) (words-table p h (length a) (differenceAt p v a b) (λ i _. minus-lt p h _ _))
 
   pub words-transform : (w k l : ℕ) {xs : List ℕ} → Words p xs → Words p (transform p w k l xs)
   unfolding transform
@@ -148,7 +160,7 @@ module _ (p : ℕ) (h : 0 < p) where
   pub words-unmixed : (v m : ℕ) (c : List ℕ) → Words p (unmixed p v m c)
   unfolding unmixed evenAt oddAt
   words-unmixed v m c =
-      words-append p h {a = table m (evenAt p m c)} (words-table p h m (evenAt p m c) (λ i _. plus-lt _ _)) (words-table p h m (oddAt p v m c) (λ i _. times-lt _ _))
+      words-append p h {a = table m (evenAt p m c)} (words-table p h m (evenAt p m c) (λ i _. plus-lt p h _ _)) (words-table p h m (oddAt p v m c) (λ i _. times-lt p h _ _))
 
   pub words-untransform : (w k l : ℕ) {c : List ℕ} → Words p c → Words p (untransform p w k l c)
   unfolding untransform
@@ -161,17 +173,31 @@ module _ (p : ℕ) (h : 0 < p) where
   pub words-scaled : (g : ℕ) (xs : List ℕ) → Words p (scaled p g xs)
   unfolding scaled
   words-scaled g [] = words-nil p h
-  words-scaled g (x ∷ xs) = words-cons p h (times-lt g x) (words-scaled g xs)
+  words-scaled g (x ∷ xs) = words-cons p h (times-lt p h g x) (words-scaled g xs)
 
   pub words-turned : (w k t : ℕ) (xs : List ℕ) → Words p (turned p w k t xs)
   unfolding turned
   words-turned w k t [] = words-nil p h
-  words-turned w k t (x ∷ xs) = words-cons p h (times-lt _ x) (words-turned w k (suc t) xs)
+  words-turned w k t (x ∷ xs) = words-cons p h (times-lt p h _ x) (words-turned w k (suc t) xs)
 
   pub words-coded : (w k l t : ℕ) {xs : List ℕ} → Words p xs → Words p (coded p w k l t xs)
   unfolding coded
   words-coded w k l t {xs} u = words-append p h {a = transform p w k l xs} (words-transform w k l u) (words-transform w k l (words-turned w k t xs))
 
-  pub words-bitReversed : (l : ℕ) {cs : List ℕ} → Words p cs → Words p (bitReversed l cs)
+  words-bitReversed : (l : ℕ) {cs : List ℕ} → Words p cs → Words p (bitReversed l cs)
   unfolding bitReversed
   words-bitReversed l u = words-table p h (2 ^ l) _ (λ i _. u .word _)
+
+-- columns of the field
+module _ (p : ℕ) (h : 0 < p) where
+  pub column-reversed : (l : ℕ) (cs : List ℕ) → Column p (2 ^ l) cs → Column p (2 ^ l) (bitReversed l cs)
+  column-reversed l cs C = record { long = length-bitReversed l cs; words = words-bitReversed p h l (C .words) }
+
+  pub column-turned : (w k t : ℕ) {n : ℕ} (xs : List ℕ) → length xs ≡ n → Column p n (turned p w k t xs)
+  column-turned w k t xs e = record { long = length-turned p w k t xs ∙ e; words = words-turned p h w k t xs }
+
+  pub column-scaled : (g : ℕ) {n : ℕ} (xs : List ℕ) → length xs ≡ n → Column p n (scaled p g xs)
+  column-scaled g xs e = record { long = length-scaled p g xs ∙ e; words = words-scaled p h g xs }
+
+  pub column-table : (n : ℕ) (f : ℕ → ℕ) → ((i : ℕ) → f i < p) → Column p n (table n f)
+  column-table n f b = record { long = length-table n f; words = words-table p h n f (λ i _. b i) }

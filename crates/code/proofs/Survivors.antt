@@ -1,11 +1,16 @@
--- The positions that survive: each is one of those asked for, unmarked, and they rise. Assumes nothing.
-use mathlib.Core.Path.{_≡_, refl}
+-- The positions that survive: each is one of those asked for, unmarked, and they rise; and how many survive and how many are erased. Assumes nothing.
+use mathlib.Core.Path.{_≡_, refl, ap}
+use mathlib.Core.Logic.{⊎-elim}
 use mathlib.Core.Bool.{Bool, true, false}
 use mathlib.Core.List.{List, _∷_}
-use Prim.Native.Nat.{ℕ, zero, suc, _+_, _≤_, _<_}
+use Prim.Native.Nat.{ℕ, zero, suc, _+_, _^_, _≤_, _<_}
+use native.Mathlib.Nat.{zero-add, add-zero}
 use native.Mathlib.Omega.{arith}
 use lib.ListN.{length, getD}
 use Rattle.code.specs.Decoding.{survivorsFrom}
+use Rattle.code.specs.Decoder.{erasedCount}
+use Rattle.code.specs.Promises.{Enough}
+use Rattle.code.proofs.Tests.{either}
 
 -- the positions of s are among the n from i on
 pub record Survivors (marks : List Bool) (i n : ℕ) (s : List ℕ) : Type 0 where
@@ -47,3 +52,48 @@ pub survivors-are : (ms : List Bool) (i n : ℕ) → Survivors ms i n (survivors
 unfolding survivorsFrom
 survivors-are ms i zero = record { low = λ k b. absurd (omega arith); high = λ k b. absurd (omega arith); kept = λ k b. absurd (omega arith); rising = λ j k a b. absurd (omega arith) }
 survivors-are ms i (suc n) = front ms i n (survivorsFrom ms (suc i) n) (survivors-are ms (suc i) n) (getD ms i false) refl
+
+-- how many of the positions below n are erased
+unfoldable pub erasedTo : List Bool → ℕ → ℕ
+erasedTo ms zero = 0
+erasedTo ms (suc n) = elim (getD ms n false) [ true ↦ suc (erasedTo ms n) | false ↦ erasedTo ms n ]
+
+module _ (ms : List Bool) where
+  pub erased-zero : erasedTo ms 0 ≡ 0
+  unfolding erasedTo
+  erased-zero = refl
+
+  pub erased-true : (n : ℕ) → getD ms n false ≡ true → erasedTo ms (suc n) ≡ suc (erasedTo ms n)
+  unfolding erasedTo
+  erased-true n e = rw (e, erasedTo)
+
+  pub erased-false : (n : ℕ) → getD ms n false ≡ false → erasedTo ms (suc n) ≡ erasedTo ms n
+  unfolding erasedTo
+  erased-false n e = rw (e, erasedTo)
+
+  survivors-true : (i n : ℕ) → getD ms i false ≡ true → length (survivorsFrom ms i (suc n)) ≡ length (survivorsFrom ms (suc i) n)
+  unfolding survivorsFrom
+  survivors-true i n e = rw (e, survivorsFrom)
+
+  survivors-false : (i n : ℕ) → getD ms i false ≡ false → length (survivorsFrom ms i (suc n)) ≡ suc (length (survivorsFrom ms (suc i) n))
+  unfolding survivorsFrom
+  survivors-false i n e = rw (e, survivorsFrom)
+
+  survivors-none : (i : ℕ) → length (survivorsFrom ms i 0) ≡ 0
+  unfolding survivorsFrom
+  survivors-none i = refl
+
+  -- of the n positions from i on, those that survive and those that are erased
+  counted : (i n : ℕ) → length (survivorsFrom ms i n) + erasedTo ms (i + n) ≡ n + erasedTo ms i
+  counted i zero = omega (arith, survivors-none i, ap (erasedTo ms) (add-zero i))
+  counted i (suc n) =
+      let r : erasedTo ms (i + suc n) ≡ erasedTo ms (suc i + n) = ap (erasedTo ms) {x = i + suc n} {y = suc i + n} (omega arith) in
+      let c = counted (suc i) n in
+      ⊎-elim (λ e. omega (arith, survivors-true i n e, erased-true i e)) (λ e. omega (arith, survivors-false i n e, erased-false i e)) (either (getD ms i false))
+
+  pub count : (l : ℕ) → erasedCount l ms ≡ erasedTo ms (2 ^ suc l)
+  count l = omega (arith, counted 0 (2 ^ suc l), erased-zero, ap (erasedTo ms) (zero-add (2 ^ suc l)))
+
+-- at least half of the positions survive where at most half are erased
+pub enough : (l : ℕ) (ms : List Bool) → erasedCount l ms + erasedCount l ms ≤ 2 ^ suc l → Enough l ms
+enough l ms b = omega arith

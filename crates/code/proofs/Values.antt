@@ -1,15 +1,11 @@
--- What coding gives: each word of X and of Y is the value of the column's polynomial at a point of its own, and the points are distinct. The
--- polynomial of a column xs of 2 ^ l words is bitReversed l xs. Assumes nothing.
-use mathlib.Core.Path.{_≡_, sym, ap, ap₂, _∙_, subst}
-use mathlib.Core.Logic.{_≢_}
-use mathlib.Core.List.{List, _++_}
+-- What coding gives: each word of X and of Y is the value of the column's polynomial at its position's point. The polynomial of a column xs of
+-- 2 ^ l words is bitReversed l xs. Assumes nothing.
+use mathlib.Core.Path.{_≡_, sym, ap, ap₂, _∙_}
+use mathlib.Core.List.{List}
 use Prim.Native.Nat.{ℕ, zero, suc, _+_, _*_, _-_, _/_, _%_, _^_, _≤_, _<_}
-use native.Mathlib.Nat.{pow-suc}
-use native.Mathlib.Decide.{decLt}
 use native.Mathlib.Omega.{arith}
-use lib.ListN.{length, getD, take, drop, List·getD-append}
-use lib.Seq.{getD-take, getD-drop, getD-append-add}
-use borrow.Author.Tests.{lt-ltb, le-ltb}
+use lib.ListN.{length, getD, take, drop}
+use lib.Seq.{getD-take, getD-drop}
 use Rattle.field.specs.Residue.{plus, minus, times}
 use Rattle.field.specs.Power.{power}
 use Rattle.field.specs.Polynomial.{horner}
@@ -17,40 +13,15 @@ use Rattle.field.specs.Field.{Root}
 use Rattle.field.specs.Words.{Words}
 use Rattle.field.proofs.Ring.{v, _⊕_, _⊖_, _⊗_, ring}
 use Rattle.field.proofs.Laws.{plus-zero, times-assoc}
-use Rattle.field.proofs.Powers.{power-zero, power-suc, power-add, power-mul, power-times}
-use Rattle.field.proofs.Unity.{root-half, root-distinct, root-down, two-div}
+use Rattle.field.proofs.Powers.{power-zero, power-suc, power-add, power-mul, power-double}
+use Rattle.field.proofs.Unity.{root-half, two-div}
 use Rattle.field.proofs.WordLists.{words-take, words-drop}
 use Rattle.code.specs.Transform.{mixed, transform, reversed, turned}
-use Rattle.code.specs.Stripe.{coded}
-use Rattle.code.specs.Decoding.{pointAt, bitReversed}
-use Rattle.code.specs.Promises.{ValuesX, ValuesY, PointsDistinct}
-use Rattle.code.proofs.Shapes.{take-half, drop-half, length-transform, length-turned, mixed-low, mixed-high, turned-at, words-turned}
+use Rattle.code.specs.Decoding.{bitReversed}
+use Rattle.code.specs.Promises.{ValuesX, ValuesY}
+use Rattle.code.proofs.Shapes.{take-half, drop-half, length-transform, length-turned, mixed-low, mixed-high, coded-low, coded-high, turned-at, words-turned}
+use Rattle.code.proofs.Points.{by-halves, level-root, level-square, point-low, point-high}
 use Rattle.code.proofs.BitReversal.{reversed-zero, reversed-low, reversed-high, reversed-from, value-zero, value-suc}
-
--- what holds at each position of the first half and of the second holds at each position
-pub by-halves : (l : ℕ) (P : ℕ → Type 0) → ((i : ℕ) → i < 2 ^ l → P i) → ((i : ℕ) → i < 2 ^ l → P (2 ^ l + i)) → (i : ℕ) → i < 2 ^ suc l → P i
-by-halves l P f g i b = go (decLt i (2 ^ l))
-  where
-    go : Dec (i < 2 ^ l) → P i
-    go (yes y) = f i y
-    go (no n) = subst P {x = 2 ^ l + (i - 2 ^ l)} {y = i} (omega arith) (g (i - 2 ^ l) (omega arith))
-
--- mixing of halves whose length is known by an equation: the second half
-pub mixed-second : (p u m : ℕ) (a b : List ℕ) (i : ℕ) → length a ≡ m → i < m
-    → getD (mixed p u a b) (m + i) 0 ≡ minus p (getD a i 0) (times p (power p u i) (getD b i 0))
-mixed-second p u m a b i e c = ap (λ (n : ℕ). getD (mixed p u a b) (n + i) 0) (sym e) ∙ mixed-high p u a b i (omega arith)
-
--- the root of each level, as the definitions write it: of order 2 * 2 ^ l, and the square of the next one
-module _ (p w k : ℕ) (R : Root p k w) where
-  pub level-root : (l : ℕ) → l ≤ k → Root p l (power p w (2 ^ k / 2 ^ l))
-  level-root l b = rw two-div (root-down p k w R l b)
-
-  pub level-square : (l : ℕ) → suc l ≤ k → power p (power p w (2 ^ k / 2 ^ suc l)) 2 ≡ power p w (2 ^ k / 2 ^ l)
-  level-square l b =
-      let h : 1 < p = omega (arith, R .odd) in
-      let e : l ≤ k = omega arith in
-      rw (two-div k (suc l), two-div k l)
-      (sym (power-mul p h w (2 ^ (k - suc l)) 2) ∙ ap (power p w) (sym (pow-suc 2 (k - suc l)) ∙ ap (λ (t : ℕ). 2 ^ t) {x = suc (k - suc l)} {y = k - l} (omega arith)))
 
 -- two halves that are values at the even powers of u, mixed under u, are values at the even powers of r, where r * r is u
 module _ (p l r u : ℕ) (R : Root p (suc l) r) (square : power p r 2 ≡ u) (xs a b : List ℕ) (long : length a ≡ 2 ^ l)
@@ -86,7 +57,7 @@ module _ (p l r u : ℕ) (R : Root p (suc l) r) (square : power p r 2 ≡ u) (xs
   mixed-high-value : (i : ℕ) → i < 2 ^ l → getD (mixed p u a b) (2 ^ l + i) 0 ≡ horner p (bitReversed (suc l) xs) (power p r (2 * (2 ^ l + i)))
   mixed-high-value i m =
       let y = v (power p u i) in
-      mixed-second p u (2 ^ l) a b i long m
+      mixed-high p u (2 ^ l) a b i long m
       ∙ ring p h (v (getD a i 0) ⊖ y ⊗ v (getD b i 0)) (v (getD a i 0) ⊕ (v 0 ⊖ y) ⊗ v (getD b i 0)) h h (omega arith)
       ∙ sym (halves-at i (minus p 0 (power p u i)) m (ring p h ((v 0 ⊖ y) ⊗ (v 0 ⊖ y)) (y ⊗ y) h h (omega arith) ∙ point-square i))
       ∙ ap (horner p (bitReversed (suc l) xs)) (sym (opposite i))
@@ -96,7 +67,7 @@ module _ (p l r u : ℕ) (R : Root p (suc l) r) (square : power p r 2 ≡ u) (xs
 
 -- the transform is the values at the even powers of the level's root
 module _ (p w k : ℕ) (R : Root p k w) where
-  pub transform-value : (l : ℕ) (xs : List ℕ) → l ≤ k → length xs ≡ 2 ^ l → Words p xs → (i : ℕ) → i < 2 ^ l
+  transform-value : (l : ℕ) (xs : List ℕ) → l ≤ k → length xs ≡ 2 ^ l → Words p xs → (i : ℕ) → i < 2 ^ l
       → getD (transform p w k l xs) i 0 ≡ horner p (bitReversed l xs) (power p (power p w (2 ^ k / 2 ^ l)) (2 * i))
   unfolding transform
   transform-value zero xs s e ws i m =
@@ -113,17 +84,14 @@ module _ (p w k : ℕ) (R : Root p k w) where
 
 module _ (p : ℕ) (big : 1 < p) where
   -- the factor of word j: that of the first word, times the power rev(j) of the level's root
-  pub turned-factor : (w k l t j : ℕ) → l ≤ k → t % 2 ^ l ≡ 0 → j < 2 ^ l
+  turned-factor : (w k l t j : ℕ) → l ≤ k → t % 2 ^ l ≡ 0 → j < 2 ^ l
       → power p w (reversed k (t + j)) ≡ times p (power p w (reversed k t)) (power p (power p w (2 ^ k / 2 ^ l)) (reversed l j))
   turned-factor w k l t j s a b =
       ap (power p w) (reversed-from k l t j s a b) ∙ power-add p big w (reversed k t) (2 ^ (k - l) * reversed l j)
       ∙ ap (times p (power p w (reversed k t))) (power-mul p big w (2 ^ (k - l)) (reversed l j) ∙ ap (λ (e : ℕ). power p (power p w e) (reversed l j)) (sym (two-div k l s)))
 
   -- word j times c * u ^ rev(j): the value is c times that at u * x
-  double : (u j : ℕ) → power p u (2 * j) ≡ power p (times p u u) j
-  double u j = ap (power p u) {x = 2 * j} {y = j + j} (omega arith) ∙ power-add p big u j j ∙ sym (power-times p big u u j)
-
-  pub turned-value : (l c u : ℕ) (xs ys : List ℕ) (x : ℕ) → ((j : ℕ) → j < 2 ^ l → getD ys j 0 ≡ times p (times p c (power p u (reversed l j))) (getD xs j 0))
+  turned-value : (l c u : ℕ) (xs ys : List ℕ) (x : ℕ) → ((j : ℕ) → j < 2 ^ l → getD ys j 0 ≡ times p (times p c (power p u (reversed l j))) (getD xs j 0))
       → horner p (bitReversed l ys) x ≡ times p c (horner p (bitReversed l xs) (times p u x))
   turned-value zero c u xs ys x e =
       let h : 0 < p = omega arith in
@@ -139,42 +107,18 @@ module _ (p : ℕ) (big : 1 < p) where
       value-suc p h l ys x
       ∙ ap₂ (λ (s t : ℕ). plus p s (times p x t))
       (turned-value l c (times p u u) (take (2 ^ l) xs) (take (2 ^ l) ys) (times p x x)
-      (λ j m. getD-take (2 ^ l) ys j 0 m ∙ e j (omega arith) ∙ ap₂ (λ (s t : ℕ). times p (times p c s) t) (ap (power p u) (reversed-low l j m) ∙ double u (reversed l j)) (sym (getD-take (2 ^ l) xs j 0 m)))
+      (λ j m. getD-take (2 ^ l) ys j 0 m ∙ e j (omega arith) ∙ ap₂ (λ (s t : ℕ). times p (times p c s) t) (ap (power p u) (reversed-low l j m) ∙ power-double p big u (reversed l j)) (sym (getD-take (2 ^ l) xs j 0 m)))
       ∙ ap (λ (t : ℕ). times p c (horner p (bitReversed l (take (2 ^ l) xs)) t)) q)
       (turned-value l (times p c u) (times p u u) (drop (2 ^ l) xs) (drop (2 ^ l) ys) (times p x x)
       (λ j m. getD-drop (2 ^ l) ys j 0 ∙ e (2 ^ l + j) (omega arith)
-      ∙ ap₂ (λ (s t : ℕ). times p s t) (ap (λ (i : ℕ). times p c (power p u i)) (reversed-high l j m) ∙ ap (times p c) (power-suc p big u (2 * reversed l j) ∙ ap (times p u) (double u (reversed l j))) ∙ sym (times-assoc p h c u (power p (times p u u) (reversed l j)))) (sym (getD-drop (2 ^ l) xs j 0)))
+      ∙ ap₂ (λ (s t : ℕ). times p s t) (ap (λ (i : ℕ). times p c (power p u i)) (reversed-high l j m) ∙ ap (times p c) (power-suc p big u (2 * reversed l j) ∙ ap (times p u) (power-double p big u (reversed l j))) ∙ sym (times-assoc p h c u (power p (times p u u) (reversed l j)))) (sym (getD-drop (2 ^ l) xs j 0)))
       ∙ ap (λ (t : ℕ). times p (times p c u) (horner p (bitReversed l (drop (2 ^ l) xs)) t)) q)
       ∙ ring p h (v c ⊗ v a ⊕ v x ⊗ (v c ⊗ v u ⊗ v b)) (v c ⊗ (v a ⊕ v u ⊗ v x ⊗ v b)) h h (omega arith)
       ∙ ap (times p c) (sym (value-suc p h l xs (times p u x)))
 
--- the points, as powers of the level's root
-pub point-low : (p w k l i : ℕ) → i < 2 ^ l → pointAt p w k l i ≡ power p (power p w (2 ^ k / 2 ^ l)) (2 * i)
-unfolding pointAt
-point-low p w k l i b = rw (lt-ltb i (2 ^ l) b, pointAt)
-
-pub point-high : (p w k l i : ℕ) → pointAt p w k l (2 ^ l + i) ≡ power p (power p w (2 ^ k / 2 ^ l)) (suc (2 * i))
-unfolding pointAt
-point-high p w k l i =
-    rw (le-ltb (2 ^ l + i) (2 ^ l) (omega arith), pointAt) (ap (power p (power p w (2 ^ k / 2 ^ l))) {x = 2 * (2 ^ l + i - 2 ^ l) + 1} {y = suc (2 * i)} (omega arith))
-
--- the words of X and of Y
-pub coded-low : (p w k l t : ℕ) (xs : List ℕ) (i : ℕ) → length xs ≡ 2 ^ l → i < 2 ^ l → getD (coded p w k l t xs) i 0 ≡ getD (transform p w k l xs) i 0
-unfolding coded
-coded-low p w k l t xs i e m =
-    List·getD-append (transform p w k l xs) (transform p w k l (turned p w k t xs)) 0 i (omega (arith, length-transform p w k l xs e))
-
-pub coded-high : (p w k l t : ℕ) (xs : List ℕ) (i : ℕ) → length xs ≡ 2 ^ l
-    → getD (coded p w k l t xs) (2 ^ l + i) 0 ≡ getD (transform p w k l (turned p w k t xs)) i 0
-unfolding coded
-coded-high p w k l t xs i e =
-    let a = transform p w k l xs in
-    let b = transform p w k l (turned p w k t xs) in
-    ap (λ (n : ℕ). getD (a ++ b) (n + i) 0) (sym (length-transform p w k l xs e)) ∙ getD-append-add a b i 0
-
 pub valuesX : ValuesX
 valuesX p w k l t xs i S C m =
-    coded-low p w k l t xs i (C .long) m ∙ transform-value p w k (S .root) l xs (S .within) (C .long) (C .words) i m
+    coded-low p w k l t xs (C .long) i m ∙ transform-value p w k (S .root) l xs (S .within) (C .long) (C .words) i m
     ∙ ap (horner p (bitReversed l xs)) (sym (point-low p w k l i m))
 
 pub valuesY : ValuesY
@@ -183,26 +127,7 @@ valuesY p w k l t xs i S C m =
     let ys = turned p w k t xs in
     let u = power p w (2 ^ k / 2 ^ l) in
     let f = power p w (reversed k t) in
-    coded-high p w k l t xs i (C .long)
+    coded-high p w k l t xs (C .long) i
     ∙ transform-value p w k (S .root) l ys (S .within) (length-turned p w k t xs ∙ C .long) (words-turned p (omega arith) w k t xs) i m
     ∙ turned-value p h l f u xs ys (power p u (2 * i)) (λ j b. turned-at p w k t xs j (omega (arith, C .long)) ∙ ap (λ (s : ℕ). times p s (getD xs j 0)) (turned-factor p h w k l t j (S .within) (S .aligned) b))
     ∙ ap (λ (s : ℕ). times p f (horner p (bitReversed l xs) s)) (sym (power-suc p h u (2 * i)) ∙ sym (point-high p w k l i))
-
-pub points-distinct : PointsDistinct
-points-distinct p w k l t i j S m n =
-    by-halves l (λ (a : ℕ). a < j → pointAt p w k l a ≢ pointAt p w k l j)
-    (λ a x. by-halves l (λ (b : ℕ). a < b → pointAt p w k l a ≢ pointAt p w k l b)
-    (λ b y c q. apart (2 * a) (2 * b) (omega arith) (omega arith) (omega arith) (sym (point-low p w k l a x) ∙ q ∙ point-low p w k l b y))
-    (λ b y c q. apart (2 * a) (suc (2 * b)) (omega arith) (omega arith) (omega arith) (sym (point-low p w k l a x) ∙ q ∙ point-high p w k l b)) j n)
-    (λ a x. by-halves l (λ (b : ℕ). 2 ^ l + a < b → pointAt p w k l (2 ^ l + a) ≢ pointAt p w k l b)
-    (λ b y c q. omega arith)
-    (λ b y c q. apart (suc (2 * a)) (suc (2 * b)) (omega arith) (omega arith) (omega arith) (sym (point-high p w k l a) ∙ q ∙ point-high p w k l b)) j n)
-    i (omega arith) m
-  where
-    -- two exponents below the root's order
-    apart : (a b : ℕ) → a ≢ b → a < 2 ^ suc l → b < 2 ^ suc l → power p (power p w (2 ^ k / 2 ^ l)) a ≢ power p (power p w (2 ^ k / 2 ^ l)) b
-    apart a b d f g q = order (decLt a b)
-      where
-        order : Dec (a < b) → ⊥
-        order (yes c) = root-distinct p l (power p w (2 ^ k / 2 ^ l)) (level-root p w k (S .root) l (S .within)) a b c g q
-        order (no c) = root-distinct p l (power p w (2 ^ k / 2 ^ l)) (level-root p w k (S .root) l (S .within)) b a (omega arith) f (sym q)

@@ -1,59 +1,70 @@
--- Worked examples P1 to P4 of document 01, for k = 2, by computing. Assumes nothing.
+-- Worked examples P1 to P4 of document 01, for k = 2, by computing, and the decoder's check and steps on them. Assumes nothing.
 use mathlib.Core.Path.{_≡_, refl}
 use mathlib.Core.Bool.{Bool, true, false}
-use mathlib.Core.List.{List, [], _∷_, _++_, map}
+use mathlib.Core.List.{List, [], _∷_}
 use Prim.Native.Nat.{ℕ}
-use lib.ListN.{length, getD, take, drop}
 use Rattle.field.specs.Residue.{plus, minus, times}
 use Rattle.field.specs.Power.{powerFrom, power, inverse}
 use Rattle.field.specs.Polynomial.{lift, slopes, interpolate}
 use Rattle.field.specs.Field.{fermat, rootOf}
 use Rattle.field.specs.Words.{table}
-use Rattle.code.specs.Transform.{sumAt, differenceAt, mixed, transform, evenAt, oddAt, unmixed, untransform, scaled, reversed, turned}
+use Rattle.code.specs.Transform.{sumAt, differenceAt, mixed, transform, evenAt, oddAt, unmixed, untransform, reversed, turned}
 use Rattle.code.specs.Stripe.{coded}
 use Rattle.code.specs.Decoding.{survivorsFrom, pointAt, valueAt, bitReversed, decodedColumn, agrees, consistentColumn}
 use Rattle.code.specs.Decoder.{weightTo, weighedAt, weighed, split, lowTo, halfOf, derivedAt, derived, evaluated, divisorAt, chosenAt, chosen, solvedColumn, isLowColumn}
 
-root : rootOf fermat 2 ≡ 4096
+abbrev w : ℕ
+w = rootOf fermat 2
+
+pub root : w ≡ 4096
 unfolding rootOf power powerFrom times
 root = refl
 
-pub p1 : coded 65537 (rootOf fermat 2) 2 1 0 (1 ∷ 2 ∷ []) ≡ 3 ∷ 65536 ∷ 65026 ∷ 513 ∷ []
+pub p1 : coded 65537 w 2 1 0 (1 ∷ 2 ∷ []) ≡ 3 ∷ 65536 ∷ 65026 ∷ 513 ∷ []
 unfolding rootOf power powerFrom plus minus times table sumAt differenceAt mixed transform reversed turned coded
 p1 = refl
 
-pub p2 : coded 65537 (rootOf fermat 2) 2 0 2 (3 ∷ []) ≡ 3 ∷ 12288 ∷ []
+pub p2 : coded 65537 w 2 0 2 (3 ∷ []) ≡ 3 ∷ 12288 ∷ []
 unfolding rootOf power powerFrom plus minus times table sumAt differenceAt mixed transform reversed turned coded
 p2 = refl
 
-pub p3 : coded 65537 (rootOf fermat 2) 2 2 0 (1 ∷ 2 ∷ 3 ∷ 4 ∷ []) ≡ 10 ∷ 255 ∷ 65533 ∷ 65280 ∷ 11841 ∷ 16945 ∷ 52674 ∷ 49618 ∷ []
+pub p3 : coded 65537 w 2 2 0 (1 ∷ 2 ∷ 3 ∷ 4 ∷ []) ≡ 10 ∷ 255 ∷ 65533 ∷ 65280 ∷ 11841 ∷ 16945 ∷ 52674 ∷ 49618 ∷ []
 unfolding rootOf power powerFrom plus minus times table sumAt differenceAt mixed transform reversed turned coded
 p3 = refl
 
-pub p4 : decodedColumn 65537 (rootOf fermat 2) 2 1 0 (true ∷ true ∷ false ∷ false ∷ []) (3 ∷ 65536 ∷ 65026 ∷ 513 ∷ []) ≡ 1 ∷ 2 ∷ []
+pub p4 : decodedColumn 65537 w 2 1 0 (true ∷ true ∷ false ∷ false ∷ []) (3 ∷ 65536 ∷ 65026 ∷ 513 ∷ []) ≡ 1 ∷ 2 ∷ []
 unfolding rootOf power powerFrom inverse plus minus times table reversed lift slopes interpolate survivorsFrom pointAt valueAt bitReversed decodedColumn
 p4 = refl
 
-c4 : consistentColumn 65537 (rootOf fermat 2) 2 1 0 (true ∷ false ∷ false ∷ false ∷ []) (3 ∷ 65536 ∷ 65026 ∷ 514 ∷ []) ≡ false
+-- P1 with its first position erased is consistent, and is not once the last word is another
+abbrev firstErased : List Bool
+firstErased = true ∷ false ∷ false ∷ false ∷ []
+
+pub p1-consistent : consistentColumn 65537 w 2 1 0 firstErased (0 ∷ 65536 ∷ 65026 ∷ 513 ∷ []) ≡ true
 unfolding rootOf power powerFrom inverse plus minus times table reversed lift slopes interpolate survivorsFrom pointAt valueAt bitReversed decodedColumn sumAt differenceAt mixed transform turned coded agrees consistentColumn
-c4 = refl
+p1-consistent = refl
 
-s4 : solvedColumn 65537 (rootOf fermat 2) 2 1 0 (true ∷ true ∷ false ∷ false ∷ []) (7 ∷ 8 ∷ 65026 ∷ 513 ∷ []) ≡ 1 ∷ 2 ∷ []
-unfolding rootOf power powerFrom inverse plus minus times table reversed survivorsFrom pointAt sumAt differenceAt mixed transform turned coded evenAt oddAt unmixed untransform weightTo weighedAt weighed split halfOf derivedAt derived evaluated divisorAt chosenAt chosen
-s4 = refl
+pub p1-inconsistent : consistentColumn 65537 w 2 1 0 firstErased (0 ∷ 65536 ∷ 65026 ∷ 514 ∷ []) ≡ false
+unfolding rootOf power powerFrom inverse plus minus times table reversed lift slopes interpolate survivorsFrom pointAt valueAt bitReversed decodedColumn sumAt differenceAt mixed transform turned coded agrees consistentColumn
+p1-inconsistent = refl
 
-s3 : solvedColumn 65537 (rootOf fermat 2) 2 2 0 (true ∷ false ∷ true ∷ false ∷ false ∷ true ∷ true ∷ false ∷ []) (10 ∷ 255 ∷ 65533 ∷ 65280 ∷ 11841 ∷ 16945 ∷ 52674 ∷ 49618 ∷ []) ≡ 1 ∷ 2 ∷ 3 ∷ 4 ∷ []
-unfolding rootOf power powerFrom inverse plus minus times table reversed survivorsFrom pointAt sumAt differenceAt mixed transform turned coded evenAt oddAt unmixed untransform weightTo weighedAt weighed split halfOf derivedAt derived evaluated divisorAt chosenAt chosen
-s3 = refl
+-- the decoder's check on P3 with three positions erased: it passes whatever stands there, and fails where a surviving word is another
+abbrev threeErased : List Bool
+threeErased = true ∷ false ∷ true ∷ false ∷ false ∷ true ∷ false ∷ false ∷ []
 
-l3 : isLowColumn 65537 (rootOf fermat 2) 2 2 0 (true ∷ false ∷ true ∷ false ∷ false ∷ true ∷ false ∷ false ∷ []) (11 ∷ 255 ∷ 65533 ∷ 65280 ∷ 11841 ∷ 16945 ∷ 52674 ∷ 49618 ∷ []) ≡ true
-unfolding rootOf power powerFrom inverse plus minus times table reversed survivorsFrom pointAt sumAt differenceAt mixed transform turned coded evenAt oddAt unmixed untransform weightTo weighedAt weighed split halfOf derivedAt derived evaluated divisorAt chosenAt chosen lowTo
-l3 = refl
+pub p3-passes : isLowColumn 65537 w 2 2 0 threeErased (0 ∷ 255 ∷ 0 ∷ 65280 ∷ 11841 ∷ 0 ∷ 52674 ∷ 49618 ∷ []) ≡ true
+unfolding rootOf power powerFrom inverse plus minus times table reversed survivorsFrom pointAt turned evenAt oddAt unmixed untransform weightTo weighedAt weighed split lowTo
+p3-passes = refl
 
-l4 : isLowColumn 65537 (rootOf fermat 2) 2 2 0 (true ∷ false ∷ true ∷ false ∷ false ∷ true ∷ false ∷ false ∷ []) (11 ∷ 255 ∷ 65533 ∷ 65280 ∷ 11841 ∷ 16945 ∷ 52673 ∷ 49618 ∷ []) ≡ false
-unfolding rootOf power powerFrom inverse plus minus times table reversed survivorsFrom pointAt sumAt differenceAt mixed transform turned coded evenAt oddAt unmixed untransform weightTo weighedAt weighed split halfOf derivedAt derived evaluated divisorAt chosenAt chosen lowTo
-l4 = refl
+pub p3-fails : isLowColumn 65537 w 2 2 0 threeErased (0 ∷ 255 ∷ 0 ∷ 65280 ∷ 11841 ∷ 0 ∷ 52673 ∷ 49618 ∷ []) ≡ false
+unfolding rootOf power powerFrom inverse plus minus times table reversed survivorsFrom pointAt turned evenAt oddAt unmixed untransform weightTo weighedAt weighed split lowTo
+p3-fails = refl
 
-s02 : solvedColumn 65537 (rootOf fermat 2) 2 0 2 (true ∷ false ∷ []) (0 ∷ 12288 ∷ []) ≡ 3 ∷ []
-unfolding rootOf power powerFrom inverse plus minus times table reversed survivorsFrom pointAt sumAt differenceAt mixed transform turned coded evenAt oddAt unmixed untransform weightTo weighedAt weighed split halfOf derivedAt derived evaluated divisorAt chosenAt chosen
-s02 = refl
+-- its steps on P3 with half of the positions erased, and on P2, a stripe of one block
+pub p3-solved : solvedColumn 65537 w 2 2 0 (true ∷ false ∷ true ∷ false ∷ false ∷ true ∷ true ∷ false ∷ []) (0 ∷ 255 ∷ 0 ∷ 65280 ∷ 11841 ∷ 0 ∷ 0 ∷ 49618 ∷ []) ≡ 1 ∷ 2 ∷ 3 ∷ 4 ∷ []
+unfolding rootOf power powerFrom inverse plus minus times table reversed survivorsFrom pointAt sumAt differenceAt mixed transform turned evenAt oddAt unmixed untransform weightTo weighedAt weighed split halfOf derivedAt derived evaluated divisorAt chosenAt chosen
+p3-solved = refl
+
+pub p2-solved : solvedColumn 65537 w 2 0 2 (true ∷ false ∷ []) (0 ∷ 12288 ∷ []) ≡ 3 ∷ []
+unfolding rootOf power powerFrom inverse plus minus times table reversed survivorsFrom pointAt turned transform untransform weightTo weighedAt weighed split halfOf derivedAt derived evaluated divisorAt chosenAt chosen
+p2-solved = refl

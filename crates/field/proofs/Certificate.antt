@@ -1,18 +1,16 @@
 -- Primality from a certificate: g ^ (p - 1) is 1, and g ^ r is not for a proper divisor r of p - 1. Then all powers of g differ, so that they are
 -- all residues but 0, and each has an inverse. Assumes nothing.
-use mathlib.Core.Path.{_≡_, refl, sym, ap, ap₂, _∙_, subst}
+use mathlib.Core.Path.{_≡_, sym, ap, _∙_}
 use mathlib.Core.Logic.{_≢_, _⊎_, inl, inr, ⊎-elim}
-use Prim.Native.Nat.{ℕ, zero, suc, _+_, _*_, _-_, _/_, _^_, _%_, _≤_, _<_}
-use native.Mathlib.Nat.{mod-add-div, mod-lt, eq-zero-or-pos, not-suc-le-zero, eq-or-lt-of-le, mod-eq-of-lt, add-sub-of-le, lt-of-mul-lt-mul-left, zero-mod, mul-comm}
-use native.Mathlib.Decide.{ℕ-discrete}
-use native.Mathlib.Omega.{arith, ne-cases}
-use Rattle.field.specs.Residue.{plus, minus, times}
-use Rattle.field.proofs.Congruence.{Cong, of-eq, rfl~, sym~, trans~, mod~, mulr~, mull~, mul~, times~}
-use Rattle.field.proofs.Ring.{v, _⊕_, _⊖_, _⊗_, ring}
+use Prim.Native.Nat.{ℕ, zero, suc, _*_, _-_, _/_, _%_, _≤_, _<_}
+use native.Mathlib.Nat.{mod-add-div, mod-lt, eq-zero-or-pos, not-suc-le-zero, mod-eq-of-lt, add-sub-of-le, lt-of-mul-lt-mul-left, zero-mod, mul-comm}
+use native.Mathlib.Omega.{arith}
+use Rattle.field.specs.Residue.{times}
+use Rattle.field.proofs.Congruence.{Cong, of-eq, sym~, trans~, mod~, mulr~, mull~}
 use Rattle.field.proofs.Laws.{times-assoc, times-comm, times-one, times-zero}
 use Rattle.field.specs.Power.{power, inverse}
 use Rattle.field.specs.Field.{Prime}
-use Rattle.field.proofs.Powers.{power-lt, power-suc, power-add, power-mul, power-of-one, times-lt}
+use Rattle.field.proofs.Powers.{power-lt, power-suc, power-add, power-mul, power-of-one}
 use Rattle.field.proofs.Pigeonhole.{onto}
 
 -- g has the order d: its power at d is 1, and at no proper divisor of d

@@ -8,4 +8,5 @@ pub mod Divisors
 pub mod Primes
 pub mod WordLists
 pub mod Polynomials
+pub mod PowersOfTwo
 pub mod Unity

@@ -2,7 +2,7 @@
 use mathlib.Core.Path.{_≡_, refl, sym, ap, ap₂, _∙_}
 use mathlib.Core.Logic.{_≢_, ⊎-elim}
 use mathlib.Core.List.{List, [], _∷_}
-use Prim.Native.Nat.{ℕ, zero, suc, _+_, _*_, _-_, _%_, _≤_, _<_}
+use Prim.Native.Nat.{ℕ, zero, suc, _<_}
 use native.Mathlib.Nat.{mod-lt, mod-eq-of-lt, suc-inj}
 use native.Mathlib.Omega.{arith}
 use lib.ListN.{length, getD}
@@ -13,7 +13,7 @@ use Rattle.field.specs.Field.{Prime}
 use Rattle.field.specs.Words.{Words}
 use Rattle.field.proofs.Congruence.{Cong, of-eq, trans~, eq~}
 use Rattle.field.proofs.Ring.{v, _⊕_, _⊖_, _⊗_, ring, ring~, lin}
-use Rattle.field.proofs.Powers.{times-lt}
+use Rattle.field.proofs.Laws.{minus-lt, times-lt}
 use Rattle.field.proofs.WordLists.{words-nil, words-cons, words-tail}
 
 -- the quotient of c ∷ cs by x - a, which does not depend on c
@@ -57,10 +57,6 @@ module _ (p : ℕ) (h : 0 < p) where
   unfolding horner plus
   horner-lt [] x = h
   horner-lt (c ∷ cs) x = mod-lt _ h
-
-  pub minus-lt : (x y : ℕ) → minus p x y < p
-  unfolding minus
-  minus-lt x y = mod-lt _ h
 
   pub minus-zero : (x y : ℕ) → x < p → y < p → minus p x y ≡ 0 → x ≡ y
   minus-zero x y a b e = lin p h (v x) (v y) (v 1) (v x ⊖ v y) (v 0) (of-eq p e) a b (omega arith)
@@ -177,7 +173,7 @@ slopes-words : (p x y : ℕ) → 1 < p → (xs ys : List ℕ) → Words p (slope
 unfolding slopes
 slopes-words p x y h [] ys = words-nil p (omega arith)
 slopes-words p x y h (x′ ∷ xs) [] = words-nil p (omega arith)
-slopes-words p x y h (x′ ∷ xs) (y′ ∷ ys) = words-cons p (omega arith) (times-lt p h _ _) (slopes-words p x y h xs ys)
+slopes-words p x y h (x′ ∷ xs) (y′ ∷ ys) = words-cons p (omega arith) (times-lt p (omega arith) _ _) (slopes-words p x y h xs ys)
 
 pub interpolate-length : (p : ℕ) (xs ys : List ℕ) → length xs ≡ length ys → length (interpolate p xs ys) ≡ length xs
 unfolding interpolate

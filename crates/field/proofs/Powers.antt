@@ -2,15 +2,15 @@
 use mathlib.Core.Path.{_≡_, refl, sym, ap, ap₂, _∙_}
 use mathlib.Core.Logic.{_≢_}
 use mathlib.Core.Bool.{Bool, true, false}
-use Prim.Native.Nat.{ℕ, zero, suc, _+_, _*_, _^_, _/_, _%_, _≤_, _<_}
-use native.Mathlib.Nat.{zero-add, suc-add, mul-suc, mul-zero, mod-lt, pow-succ'}
+use Prim.Native.Nat.{ℕ, zero, suc, _+_, _*_, _-_, _/_, _%_, _≤_, _<_}
+use native.Mathlib.Nat.{zero-add, suc-add, mul-suc, mul-zero}
 use native.Mathlib.Omega.{arith}
 use lib.Dec.{eqb}
 use borrow.Author.Tests.{eqb-true, eqb-false}
-use Rattle.field.specs.Residue.{plus, minus, times}
-use Rattle.field.specs.Power.{powerFrom, power}
+use Rattle.field.specs.Residue.{times}
+use Rattle.field.specs.Power.{powerFrom, power, inverse}
 use Rattle.field.proofs.Ring.{v, _⊗_, ring}
-use Rattle.field.proofs.Laws.{times-assoc, times-comm}
+use Rattle.field.proofs.Laws.{times-lt, times-assoc, times-comm}
 
 -- the repeated product
 product : ℕ → ℕ → ℕ → ℕ
@@ -18,14 +18,10 @@ product p x zero = 1
 product p x (suc n) = times p x (product p x n)
 
 module _ (p : ℕ) (h : 1 < p) where
-  pub times-lt : (x y : ℕ) → times p x y < p
-  unfolding times
-  times-lt x y = mod-lt (x * y) (omega arith)
-
   product-lt : (x n : ℕ) → product p x n < p
   unfolding product
   product-lt x zero = h
-  product-lt x (suc n) = times-lt x (product p x n)
+  product-lt x (suc n) = times-lt p (omega arith) x (product p x n)
 
   product-add : (x i j : ℕ) → product p x (i + j) ≡ times p (product p x i) (product p x j)
   unfolding product
@@ -86,6 +82,10 @@ module _ (p : ℕ) (h : 1 < p) where
   pub power-lt : (x n : ℕ) → power p x n < p
   power-lt x n = rw (power-is x n) (product-lt x n)
 
+  pub inverse-lt : (x : ℕ) → inverse p x < p
+  unfolding inverse
+  inverse-lt x = power-lt x (p - 2)
+
   pub power-one : (x : ℕ) → x < p → power p x 1 ≡ x
   power-one x b = power-suc x 0 ∙ ap (times p x) (power-zero x) ∙ ring p (omega arith) (v x ⊗ v 1) (v x) (omega arith) b (omega arith)
 
@@ -106,10 +106,13 @@ module _ (p : ℕ) (h : 1 < p) where
       ∙ ring p (omega arith) (v x ⊗ v y ⊗ (v (power p x n) ⊗ v (power p y n))) (v x ⊗ v (power p x n) ⊗ (v y ⊗ v (power p y n))) (omega arith) (omega arith) (omega arith)
       ∙ ap₂ (times p) (sym (power-suc x n)) (sym (power-suc y n))
 
-  pub power-even : (x e : ℕ) → e % 2 ≡ 0 → power p x e ≡ power p (times p x x) (e / 2)
+  pub power-double : (x n : ℕ) → power p x (2 * n) ≡ power p (times p x x) n
+  power-double x n = ap (power p x) {x = 2 * n} {y = n + n} (omega arith) ∙ power-add x n n ∙ sym (power-times x x n)
+
+  power-even : (x e : ℕ) → e % 2 ≡ 0 → power p x e ≡ power p (times p x x) (e / 2)
   power-even x e z = power-is x e ∙ product-even x e z ∙ sym (power-is (times p x x) (e / 2))
 
-  pub power-odd : (x e : ℕ) → e % 2 ≡ 1 → power p x e ≡ times p x (power p (times p x x) (e / 2))
+  power-odd : (x e : ℕ) → e % 2 ≡ 1 → power p x e ≡ times p x (power p (times p x x) (e / 2))
   power-odd x e z = power-is x e ∙ product-odd x e z ∙ ap (times p x) (sym (power-is (times p x x) (e / 2)))
 
   -- the loop of square and multiply keeps times r (power b e): where it starts, its turns, and where it ends

@@ -1,8 +1,8 @@
 -- 65537 is prime, and the roots of its vaults are roots of unity. Assumes nothing.
 use mathlib.Core.Path.{_≡_, refl, sym, ap, _∙_}
 use mathlib.Core.Logic.{_≢_, ⊎-elim}
-use Prim.Native.Nat.{ℕ, suc, _+_, _*_, _-_, _/_, _^_, _≤_, _<_}
-use native.Mathlib.Nat.{mul-div-cancel, pow-succ', mul-assoc}
+use Prim.Native.Nat.{ℕ, _+_, _*_, _-_, _/_, _^_, _≤_}
+use native.Mathlib.Nat.{mul-div-cancel}
 use native.Mathlib.Omega.{arith}
 use lib.Dec.{lit<}
 use lib.Pow.{pow-pos, pow-add}
@@ -43,3 +43,7 @@ fermat-root k l = record {
   small = power-lt 65537 (lit< tt) 3 (65536 / (2 * 2 ^ k));
   half = sym (power-mul 65537 (lit< tt) 3 (65536 / (2 * 2 ^ k)) (2 ^ k)) ∙ ap (power 65537 3) (exponent k l) ∙ half;
 }
+
+-- a number that is the vault's root
+pub is-root : {k w : ℕ} → k ≤ 15 → w ≡ rootOf fermat k → Root 65537 k w
+is-root {k} b e = rw e (fermat-root k b)

@@ -1,11 +1,11 @@
 -- Roots of unity: the powers of a root of order 2n, n = 2 ^ k, and the roots of lower order that it gives. Assumes nothing.
-use mathlib.Core.Path.{_≡_, refl, sym, ap, ap₂, _∙_}
+use mathlib.Core.Path.{_≡_, sym, ap, _∙_}
 use mathlib.Core.Logic.{_≢_, ⊎-elim}
-use Prim.Native.Nat.{ℕ, zero, suc, _+_, _*_, _-_, _/_, _%_, _^_, _≤_, _<_}
+use Prim.Native.Nat.{ℕ, suc, _+_, _*_, _-_, _/_, _%_, _^_, _≤_, _<_}
 use native.Mathlib.Nat.{pow-succ', mul-div-cancel, mod-eq-of-lt, zero-add}
 use native.Mathlib.Omega.{arith}
 use lib.Pow.{pow-pos, pow-add}
-use Rattle.field.specs.Residue.{plus, minus, times}
+use Rattle.field.specs.Residue.{minus, times}
 use Rattle.field.specs.Power.{power, inverse}
 use Rattle.field.specs.Field.{Prime, Root}
 use Rattle.field.proofs.Ring.{v, _⊖_, _⊗_, ring}

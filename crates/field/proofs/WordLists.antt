@@ -1,12 +1,9 @@
 -- Laws of `Words` and `table` of specs/Words, over any modulus p > 0. Assumes nothing.
 use mathlib.Core.Path.{_≡_, refl, sym, ap, _∙_, subst}
-use mathlib.Core.List.{List, [], _∷_, _++_}
-use mathlib.Core.Bool.{Bool, true, false, cond}
-use Prim.Native.Nat.{ℕ, zero, suc, _+_, _-_, _*_, _≤_, _<_}
+use mathlib.Core.List.{List, [], _∷_, _++_, map}
+use Prim.Native.Nat.{ℕ, zero, suc, _+_, _-_, _<_}
 use native.Mathlib.Decide.{decLt}
 use native.Mathlib.Omega.{arith}
-use lib.Dec.{T, ltb}
-use borrow.Author.Tests.{ltb-true}
 use lib.ListN.{length, getD, set, take, drop, replicate, length-append, List·getD-append}
 use lib.Seq.{getD-append-add, getD-drop, ext-getD}
 use Rattle.field.specs.Words.{Words, table}
@@ -72,25 +69,18 @@ module _ (p : ℕ) (h : 0 < p) where
   pub words-table : (n : ℕ) (f : ℕ → ℕ) → ((k : ℕ) → k < n → f k < p) → Words p (table n f)
   words-table n f b = record { word = word-table n f b }
 
-  -- a list that is written out is tested by computing
-  abbrev pub areWords : List ℕ → Bool
-  areWords [] = true
-  areWords (x ∷ l) = cond (ltb x p) (areWords l) false
-
-  word-step : (x : ℕ) (l : List ℕ) (b : Bool) → ltb x p ≡ b → T (cond b (areWords l) false) → (T (areWords l) → (k : ℕ) → getD l k 0 < p) → (k : ℕ) → getD (x ∷ l) k 0 < p
-  word-step x l true e t w zero = ltb-true x p e
-  word-step x l true e t w (suc k) = w t k
-  word-step x l false e t w k = absurd t
-
-  word-tested : (l : List ℕ) → T (areWords l) → (k : ℕ) → getD l k 0 < p
-  word-tested [] t k = h
-  word-tested (x ∷ l) t k = word-step x l (ltb x p) refl t (word-tested l) k
-
-  pub words-tested : (l : List ℕ) → T (areWords l) → Words p l
-  words-tested l t = record { word = word-tested l t }
+pub words-map : (p : ℕ) → 0 < p → (f : ℕ → ℕ) (s : List ℕ) → ((k : ℕ) → k < length s → f (getD s k 0) < p) → Words p (map f s)
+words-map p h f [] b = words-nil p h
+words-map p h f (x ∷ s) b = words-cons p h (b 0 (omega arith)) (words-map p h f s (λ k l. b (suc k) (omega arith)))
 
 pub words-tail : {p x : ℕ} {l : List ℕ} → Words p (x ∷ l) → Words p l
 words-tail w = record { word = λ k. w .word (suc k) }
+
+-- a function of each element
+pub getD-map : (f : ℕ → ℕ) (s : List ℕ) (k : ℕ) → k < length s → getD (map f s) k 0 ≡ f (getD s k 0)
+getD-map f [] k b = absurd (omega arith)
+getD-map f (x ∷ s) zero b = refl
+getD-map f (x ∷ s) (suc k) b = getD-map f s k (omega arith)
 
 -- a table's length and its elements
 pub length-table : (n : ℕ) (f : ℕ → ℕ) → length (table n f) ≡ n

@@ -1,27 +1,19 @@
--- Words of the buffer: what is read, the weights, the root. Assumes nothing.
+-- Words of the buffer: its lengths, what is read, the weights. Assumes nothing.
 use mathlib.Core.Path.{_≡_, ap, _∙_}
 use mathlib.Core.Bool.{Bool}
 use mathlib.Core.List.{List, _++_}
 use Prim.Native.Nat.{ℕ, suc, _+_, _*_, _^_, _≤_, _<_}
 use native.Mathlib.Nat.{pow-suc, mul-le-mul, le-of-lt}
-use native.Mathlib.Numerals.{add-one}
 use native.Mathlib.Omega.{arith}
 use lib.Dec.{lit<}
 use lib.ListN.{length, drop, length-append, take-append-drop}
 use lib.Pow.{pow-mono}
 use lib.Seq.{drop-at, drop-length}
-use Rattle.field.specs.Field.{Root, fermat, rootOf}
 use Rattle.field.specs.Words.{Words}
-use Rattle.field.proofs.Primes.{fermat-root}
 use Rattle.field.proofs.WordLists.{words-append, words-nil, length-table}
-use Rattle.code.specs.Decoder.{weightTo, weights, erasedCount}
-use Rattle.code.specs.Promises.{Enough}
+use Rattle.code.specs.Decoder.{weightTo, weights}
 use Rattle.code.proofs.WeightLaws.{words-weights}
 use Rattle.stripes.specs.Input.{Loaded}
-
--- the code's count of positions
-pub positions : (l : ℕ) {n : ℕ} → n ≡ 2 ^ (l + 1) → n ≡ 2 ^ suc l
-positions l e = e ∙ ap (λ (i : ℕ). 2 ^ i) (add-one l)
 
 -- lengths, where the code has 2 ^ l in a local
 module _ (l width : ℕ) {size : ℕ} (e : size ≡ 2 ^ l) where
@@ -38,14 +30,6 @@ module _ (l width : ℕ) {size : ℕ} (e : size ≡ 2 ^ l) where
   small-length b f =
       let s : size + size ≤ 65536 = omega (arith, pow-mono {i = l} {j = 15} b) in
       omega (arith, mul-le-mul {n₂ = 65536} {m₂ = 256} s (le-of-lt f))
-
--- at least half of the positions survive where at most half are erased
-pub enough : (l : ℕ) {n erased : ℕ} (ms : List Bool) → n ≡ 2 ^ (l + 1) → erased ≡ erasedCount l ms → erased + erased ≤ n → Enough l ms
-enough l ms e f b = omega (arith, positions l e, pow-suc 2 l)
-
--- a root that is the vault's
-pub is-root : {k w : ℕ} → k ≤ 15 → w ≡ rootOf fermat k → Root 65537 k w
-is-root {k} b e = rw e (fermat-root k b)
 
 -- what is read and what stays are words
 pub words-loaded : {count : ℕ} {before after : List ℕ} → Loaded count before after → Words 65537 (drop count before) → Words 65537 after

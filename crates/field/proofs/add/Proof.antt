@@ -1,3 +1,4 @@
+-- `field::add` meets its contract. Assumes nothing.
 use borrow.Author.Needs.{needs}
 use Rattle.field.specs.Residue.{plus}
 use Rattle.field.proofs.add.Statement.{statement}

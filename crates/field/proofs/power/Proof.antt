@@ -1,13 +1,14 @@
 -- `field::power` meets its contract. The invariant: the accumulator times the power that is left is the whole power. Assumes nothing.
 use mathlib.Core.Path.{_≡_, _∙_}
 use mathlib.Core.Logic.{⊎-elim}
-use Prim.Native.Nat.{ℕ, _<_}
+use Prim.Native.Nat.{_<_}
 use native.Mathlib.Omega.{arith}
 use borrow.Author.Needs.{needs}
 use lib.Dec.{lit<}
 use Rattle.field.specs.Residue.{times}
 use Rattle.field.specs.Power as Power
-use Rattle.field.proofs.Powers.{times-lt, loop-start, loop-odd, loop-even, loop-end}
+use Rattle.field.proofs.Laws.{times-lt}
+use Rattle.field.proofs.Powers.{loop-start, loop-odd, loop-even, loop-end}
 use Rattle.field.proofs.power.Statement.{statement}
 use Rattle.field.proofs.power.Tie as tie
 

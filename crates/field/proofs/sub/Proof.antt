@@ -1,3 +1,4 @@
+-- `field::sub` meets its contract. Assumes nothing.
 use borrow.Author.Needs.{needs}
 use Rattle.field.specs.Residue.{minus}
 use Rattle.field.proofs.sub.Statement.{statement}

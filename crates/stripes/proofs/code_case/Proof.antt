@@ -4,7 +4,8 @@ use native.Mathlib.Omega.{arith}
 use borrow.Author.Needs.{needs}
 use lib.Dec.{lit<}
 use Rattle.field.proofs.WordLists.{words-take}
-use Rattle.stripes.proofs.Buffers.{is-root, words-loaded-all}
+use Rattle.field.proofs.Primes.{is-root}
+use Rattle.stripes.proofs.Buffers.{words-loaded-all}
 use Rattle.stripes.proofs.code_case.Statement.{statement}
 use Rattle.stripes.proofs.code_case.Tie as tie
 

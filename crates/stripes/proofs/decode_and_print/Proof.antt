@@ -1,7 +1,8 @@
 -- `stripes::decode_and_print` is safe and ends: it decodes only where its count of erased positions shows that half survive. Assumes nothing.
 use native.Mathlib.Omega.{arith}
 use borrow.Author.Needs.{needs}
-use Rattle.stripes.proofs.Buffers.{positions, enough}
+use Rattle.code.proofs.Shapes.{positions}
+use Rattle.code.proofs.Survivors.{enough}
 use Rattle.stripes.proofs.decode_and_print.Statement.{statement}
 use Rattle.stripes.proofs.decode_and_print.Tie as tie
 
@@ -29,8 +30,7 @@ returns c = search needs
 decode-requires : tie.Need-decode-requires
 decode-requires c κs =
     let s = c .before .before .before .before .before .before in
-    let half =
-    enough (s .args .level) (s .args .marks .now) (c .before .before .before .two-to .ensures) (c .before .before .count-erased .ensures) (omega arith) in
+    let half = enough (s .args .level) (s .args .marks .now) (omega (arith, positions (s .args .level) (c .before .before .before .two-to .ensures), c .before .before .count-erased .ensures)) in
     let pre = s .pre in
     (pre .0, (pre .1 .0, (pre .1 .1 .0, ((pre .1 .1 .1 .0, half), pre .1 .1 .1 .1))))
 

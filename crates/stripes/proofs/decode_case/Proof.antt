@@ -8,7 +8,9 @@ use borrow.Author.Needs.{needs}
 use lib.ListN.{length, take, drop}
 use Rattle.field.specs.Words.{table}
 use Rattle.code.specs.Decoding.{pointAt}
-use Rattle.stripes.proofs.Buffers.{positions, is-root, loaded}
+use Rattle.field.proofs.Primes.{is-root}
+use Rattle.code.proofs.Shapes.{positions}
+use Rattle.stripes.proofs.Buffers.{loaded}
 use Rattle.stripes.proofs.decode_case.Statement.{statement}
 use Rattle.stripes.proofs.decode_case.Tie as tie
 

@@ -1,15 +1,13 @@
 -- `code::decoding::choose` meets its contract. The invariant: the first i rows are written. Assumes nothing.
 use mathlib.Core.Path.{_≡_, sym, ap, _∙_}
 use mathlib.Core.Bool.{Bool, true, false}
-use mathlib.Core.List.{List, _++_}
+use mathlib.Core.List.{List}
 use mathlib.Core.Logic.{⊎-elim}
 use Prim.Native.Nat.{ℕ, suc, _+_, _*_, _-_, _/_, _^_, _≤_, _<_}
-use native.Mathlib.Nat.{zero-mul, zero-add}
 use native.Mathlib.Omega.{arith}
-use borrow.Author.Tests.{lt-ltb}
 use lib.Arith.{digits-div}
 use lib.Dec.{lit<}
-use lib.ListN.{length, getD, take, drop}
+use lib.ListN.{length, getD, drop}
 use lib.Pow.{pow-mono}
 use lib.Seq.{getD-drop}
 use Rattle.field.specs.Residue.{times}
@@ -17,41 +15,25 @@ use Rattle.field.specs.Power.{power, inverse}
 use Rattle.field.specs.Words.{Words}
 use Rattle.field.proofs.Unity.{two-div}
 use Rattle.field.proofs.Powers.{power-lt}
-use Rattle.code.specs.Rows.{lifted}
 use Rattle.code.specs.Decoding.{pointAt}
-use Rattle.code.specs.Decoder.{divisorAt, chosen}
+use Rattle.code.specs.Decoder.{divisorAt}
 use Rattle.code.specs.RowTrace.{stored, scaledWord}
-use Rattle.code.proofs.Shapes.{times-lt}
-use Rattle.code.proofs.DecoderShapes.{inverse-lt}
-use Rattle.code.proofs.Crossing.{row-in}
-use Rattle.code.proofs.RowLaws.{Storing, storing-start, storing-rest}
-use Rattle.code.proofs.DecodeTraces.{storing-words, storing-row, two-halves, row-next}
+use Rattle.field.proofs.Laws.{times-lt}
+use Rattle.field.proofs.Powers.{inverse-lt}
+use Rattle.code.proofs.Lifting.{two-halves}
+use Rattle.code.proofs.RowLaws.{StoringRows, storing-rows-start, storing-rows-room, storing-rows-rest, storing-rows-words, storing-rows-turn, storing-rows-done}
+use Rattle.code.proofs.Points.{point-low}
 use Rattle.code.proofs.DecodeSteps.{chooseWord, choose-rows}
 use Rattle.code.proofs.decoding.choose.Statement.{statement}
 use Rattle.code.proofs.decoding.choose.Tie as tie
 
 record Inv (part₀ : List ℕ) (marks : List Bool) (level k width root rows square u : ℕ) (part : List ℕ) (at i : ℕ) : Type 0 where
-  turns : i ≤ rows
   rows-is : rows ≡ 2 ^ level
   long : length part₀ ≡ rows * width + rows * width + (rows + rows)
   square-is : square ≡ times 65537 (2 ^ level) (2 ^ level)
   u-is : u ≡ power 65537 root (2 ^ k / 2 ^ level)
-  at-is : at ≡ i * width
   words₀ : Words 65537 part₀
-  storing : Storing 0 (chooseWord 65537 root k level width marks part₀) (rows * width) part₀ part (i * width)
-
-start : (part : List ℕ) (marks : List Bool) (level k width root rows square u e : ℕ) → level ≤ k → rows ≡ 2 ^ level → length part ≡ 2 ^ suc level * width + 2 ^ suc level
-    → square ≡ times 65537 rows rows → e ≡ 2 ^ (k - level) → u ≡ power 65537 root e → Words 65537 part → Inv part marks level k width root rows square u part 0 0
-start part marks level k width root rows square u e le er l es ee eu w = record {
-  turns = omega arith;
-  rows-is = er;
-  long = l ∙ rw er (omega (arith, two-halves level width));
-  square-is = es ∙ rw er;
-  u-is = eu ∙ ap (power 65537 root) (ee ∙ sym (two-div k level le));
-  at-is = sym (zero-mul width);
-  words₀ = w;
-  storing = rw (zero-mul width) (storing-start 0 (chooseWord 65537 root k level width marks part) (rows * width) part);
-}
+  storing : StoringRows 0 (chooseWord 65537 root k level width marks part₀) rows width part₀ part at i
 
 -- what the marks choose: the word to divide by, and the row to take
 record Picked (part₀ : List ℕ) (marks : List Bool) (level k width root rows square : ℕ) (part : List ℕ) (at i d from : ℕ) : Type 0 where
@@ -64,36 +46,33 @@ record Picked (part₀ : List ℕ) (marks : List Bool) (level k width root rows 
 
 module _ {part₀ : List ℕ} {marks : List Bool} {level k width root rows square u : ℕ} {part : List ℕ} {at i : ℕ} (h : Inv part₀ marks level k width root rows square u part at i) (l : i < rows) where
   room : at + width ≤ rows * width
-  room = omega (arith, row-in width l)
+  room = omega (arith, storing-rows-room (h .storing) l)
 
   words : Words 65537 part
   unfolding chooseWord
-  words = storing-words (h .storing) (lit< tt) (h .words₀) (λ q. times-lt 65537 (lit< tt) _ _)
+  words = storing-rows-words (h .storing) (lit< tt) (h .words₀) (λ q. times-lt 65537 (lit< tt) _ _)
 
   -- the position's weight
   weight : getD part (rows * width + rows * width + i) 0 ≡ getD (drop (2 ^ suc level * width) part₀) i 0
   weight =
-      storing-rest (h .storing) (rows * width + rows * width + i) (omega (arith, room, h .at-is))
-      ∙ sym (getD-drop (2 ^ suc level * width) part₀ i 0 ∙ rw (two-halves, h .rows-is))
-
-  point : pointAt 65537 root k level i ≡ power 65537 u (2 * i)
-  unfolding pointAt
-  point = rw (lt-ltb i (2 ^ level) (rw (← h .rows-is) l), pointAt) (ap (λ (v : ℕ). power 65537 v (2 * i)) (sym (h .u-is)))
+      storing-rows-rest (h .storing) (rows * width + rows * width + i) (omega (arith, room)) ∙ sym (getD-drop (2 ^ suc level * width) part₀ i 0 ∙ rw (two-halves, h .rows-is))
 
   -- a word of the row at `at`, or at the same place of the second half
-  word : (b c : ℕ) → at + c ≤ b → getD part b 0 ≡ getD part₀ b 0
-  word b c le = storing-rest (h .storing) b (omega (arith, h .at-is))
+  word : (a b : ℕ) → at ≤ a → a ≡ b → getD part a 0 ≡ getD part₀ b 0
+  word a b le e = storing-rows-rest (h .storing) a le ∙ ap (λ (q : ℕ). getD part₀ q 0) e
 
   erased : {e d from : ℕ} → getD marks i false ≡ true → e ≡ power 65537 u (2 * i) → d ≡ times 65537 e (getD part (rows * width + rows * width + i) 0) → from ≡ rows * width + at
       → Picked part₀ marks level k width root rows square part at i d from
   unfolding divisorAt
-  erased {e} {from} m ee ed ef = record {
-    small = rw ed (times-lt 65537 (lit< tt) e (getD part (rows * width + rows * width + i) 0));
-    low = omega arith;
-    within = omega (arith, room);
-    divisor = rw (m, h .square-is, ed, weight, ee, point);
-    read = λ c t. rw m (word (from + c) c (omega arith) ∙ ap (λ (q : ℕ). getD part₀ q 0) {x = from + c} {y = 2 ^ level * width + (i * width + c)} (omega (arith, h .at-is, ap (λ (n : ℕ). n * width) (h .rows-is))));
-  }
+  erased {e} {from} m ee ed ef =
+      let point : pointAt 65537 root k level i ≡ power 65537 u (2 * i) = point-low 65537 root k level i (rw (← h .rows-is) l) ∙ ap (λ (v : ℕ). power 65537 v (2 * i)) (sym (h .u-is)) in
+      record {
+        small = rw ed (times-lt 65537 (lit< tt) e (getD part (rows * width + rows * width + i) 0));
+        low = omega arith;
+        within = omega (arith, room);
+        divisor = rw (m, h .square-is, ed, weight, ee, point);
+        read = λ c t. rw m (word (from + c) (2 ^ level * width + (i * width + c)) (omega arith) (omega (arith, h .storing .at-is, ap (λ (n : ℕ). n * width) (h .rows-is))));
+      }
 
   survives : {d from : ℕ} → getD marks i false ≡ false → d ≡ getD part (rows * width + rows * width + i) 0 → from ≡ at → Picked part₀ marks level k width root rows square part at i d from
   unfolding divisorAt
@@ -102,33 +81,21 @@ module _ {part₀ : List ℕ} {marks : List Bool} {level k width root rows squar
     low = omega arith;
     within = omega (arith, room);
     divisor = rw (m, h .square-is, ed, weight);
-    read = λ c t. rw m (word (from + c) c (omega arith) ∙ ap (λ (q : ℕ). getD part₀ q 0) {x = from + c} {y = i * width + c} (omega (arith, h .at-is)));
+    read = λ c t. rw m (word (from + c) (i * width + c) (omega arith) (omega (arith, h .storing .at-is)));
   }
 
-  module _ {d from g : ℕ} (p : Picked part₀ marks level k width root rows square part at i d from) (eg : g ≡ inverse 65537 (times 65537 square d)) where
-    -- a word of the row that is written
-    stored-word : (c : ℕ) → c < width → scaledWord 65537 from g part c ≡ chooseWord 65537 root k level width marks part₀ (i * width + c)
-    unfolding scaledWord chooseWord
-    stored-word c t = rw (digits-div i t, eg, p .divisor) (ap (times 65537 (inverse 65537 (divisorAt 65537 root k level marks (drop (2 ^ suc level * width) part₀) i))) (p .read c t))
-
-    turn : {part′ : List ℕ} → part′ ≡ stored at (scaledWord 65537 from g part) width part → Inv part₀ marks level k width root rows square u part′ (at + width) (i + 1)
-    unfolding scaledWord
-    turn e = record {
-      turns = omega arith;
-      rows-is = h .rows-is;
-      long = h .long;
-      square-is = h .square-is;
-      u-is = h .u-is;
-      at-is = omega (arith, row-next i width);
-      words₀ = h .words₀;
-      storing = rw row-next (storing-row (h .storing) width _ (row-in width l) (h .at-is ∙ sym (zero-add (i * width))) e stored-word);
-    }
-
-done : {part₀ : List ℕ} {marks : List Bool} {level k width root rows square u : ℕ} {part : List ℕ} {at i : ℕ} → Inv part₀ marks level k width root rows square u part at i → rows ≤ i
-    → part ≡ lifted width (2 ^ suc level) (2 ^ level) (chosen 65537 root k level marks (drop (2 ^ suc level * width) part₀)) (take (2 ^ suc level * width) part₀) ++ drop (2 ^ level * width) part₀
-done {part₀} {marks} {level} {k} {width} {root} {rows} {i} h l =
-    let e : i ≡ 2 ^ level = omega (arith, h .rows-is) in
-    h .storing .now ∙ rw e (choose-rows 65537 root k level width marks part₀ (omega (arith, h .long, two-halves level width, ap (λ (n : ℕ). n * width) (h .rows-is))))
+  turn : {d from g : ℕ} {part′ : List ℕ} → Picked part₀ marks level k width root rows square part at i d from → g ≡ inverse 65537 (times 65537 square d)
+      → part′ ≡ stored at (scaledWord 65537 from g part) width part → Inv part₀ marks level k width root rows square u part′ (at + width) (i + 1)
+  unfolding scaledWord chooseWord
+  turn p eg e = record {
+    rows-is = h .rows-is;
+    long = h .long;
+    square-is = h .square-is;
+    u-is = h .u-is;
+    words₀ = h .words₀;
+    storing = storing-rows-turn (h .storing) _ l e
+        (λ c t. rw (digits-div i t, eg, p .divisor) (ap (times 65537 (inverse 65537 (divisorAt 65537 root k level marks (drop (2 ^ suc level * width) part₀) i))) (p .read c t)));
+  }
 
 abbrev Inv-loop : tie.InvT-loop
 Inv-loop part₀ marks level k width root rows half base square u at₀ i₀ part at i = Inv part₀ marks level k width root rows square u part at i
@@ -140,15 +107,16 @@ abbrev μ-loop : tie.MeasureT-loop
 small : (c : tie.After-two-to Inv-loop μ-loop) → c .two-to .result ≤ 32768
 small c = omega (arith, c .two-to .ensures, pow-mono {i = c .before .before .before .args .level} {j = 15} (omega arith))
 
-long : (c : tie.After-two-to Inv-loop μ-loop) → length (c .before .before .before .args .part .now)
-    ≡ c .two-to .result * c .before .before .before .args .width + c .two-to .result * c .before .before .before .args .width + (c .two-to .result + c .two-to .result)
+long : (c : tie.After-two-to Inv-loop μ-loop) → let n = c .two-to .result in
+    let a = c .before .before .before .args in length (a .part .now) ≡ n * a .width + n * a .width + (n + n)
 long c =
     let a = c .before .before .before .args in
     c .before .before .before .pre .1 .1 .0 ∙ rw (c .two-to .ensures) (omega (arith, two-halves (a .level) (a .width)))
 
-picked : (c : tie.Joined1 Inv-loop μ-loop)
-    → Picked (c .before .before .before .before .before .before .before .before .before .before .before .args .part .now) (c .before .before .before .before .before .before .before .before .before .before .before .args .marks .now) (c .before .before .before .before .before .before .before .before .before .before .before .args .level) (c .before .before .before .before .before .before .before .before .before .before .before .args .k) (c .before .before .before .before .before .before .before .before .before .before .before .args .width) (c .before .before .before .before .before .before .before .before .before .before .before .args .root)
-    (c .before .before .before .before .before .before .before .before .two-to .result) (c .before .before .before .before .before .before .before .mul .result) (c .before .before .before .before .loop .part) (c .before .before .before .before .loop .at) (c .before .before .before .before .loop .i) (c .if1 .d) (c .if1 .from)
+picked : (c : tie.Joined1 Inv-loop μ-loop) → let loop = c .before .before .before .before in
+    let mul = loop .before .before .before in
+    let a = mul .before .before .before .before .args in
+    Picked (a .part .now) (a .marks .now) (a .level) (a .k) (a .width) (a .root) (mul .before .two-to .result) (mul .mul .result) (loop .loop .part) (loop .loop .at) (loop .loop .i) (c .if1 .d) (c .if1 .from)
 picked c =
     let at = c .before .before .before in
     let h = at .before .loop .inv in
@@ -187,10 +155,17 @@ power-requires c κs = omega arith
 
 loop-holds : tie.Need-loop-holds Inv-loop μ-loop
 loop-holds c =
-    let s = c .before .before .before .before .before .before in
+    let two = c .before .before .before in
+    let s = two .before .before .before in
     let a = s .args in
-    start (a .part .now) (a .marks .now) (a .level) (a .k) (a .width) (a .root) (c .before .before .before .two-to .result) (c .before .before .mul .result) (c .power .result)
-    (c .before .two-to2 .result) (s .pre .0 .0) (c .before .before .before .two-to .ensures) (s .pre .1 .1 .0) (c .before .before .mul .ensures) (c .before .two-to2 .ensures) (c .power .ensures) (s .pre .1 .1 .1 .1)
+    record {
+      rows-is = two .two-to .ensures;
+      long = long two;
+      square-is = c .before .before .mul .ensures ∙ rw (two .two-to .ensures);
+      u-is = c .power .ensures ∙ ap (power 65537 (a .root)) (c .before .two-to2 .ensures ∙ sym (two-div (a .k) (a .level) (s .pre .0 .0)));
+      words₀ = s .pre .1 .1 .1 .1;
+      storing = storing-rows-start 0 (chooseWord 65537 (a .root) (a .k) (a .level) (a .width) (a .marks .now) (a .part .now)) (two .two-to .result) (a .width) (a .part .now);
+    }
 
 add-x : tie.Need-add-x Inv-loop μ-loop
 add-x c = omega (arith, c .before .loop .inv .long)
@@ -260,7 +235,12 @@ same-length : tie.Need-same-length Inv-loop μ-loop
 same-length c = c .before .loop .inv .storing .same
 
 returns : tie.Need-returns Inv-loop μ-loop
-returns c = done (c .before .loop .inv) (c .loop-test .left)
+returns c =
+    let h = c .before .loop .inv in
+    let s = c .before .before .before .before .before .before .before .before in
+    let a = s .args in
+    storing-rows-done (h .storing) (c .loop-test .left)
+    ∙ rw (h .rows-is) (choose-rows 65537 (a .root) (a .k) (a .level) (a .width) (a .marks .now) (a .part .now) (omega (arith, s .pre .1 .1 .0)))
 
 pub choose-spec : {M : Type 1} → statement M
 choose-spec =

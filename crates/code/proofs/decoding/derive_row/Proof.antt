@@ -7,7 +7,7 @@ use lib.Dec.{lit<}
 use lib.ListN.{getD, set}
 use Rattle.field.specs.Residue.{minus, times}
 use Rattle.code.specs.DecodeTrace.{deriveAt}
-use Rattle.code.proofs.Shapes.{times-lt}
+use Rattle.field.proofs.Laws.{times-lt}
 use Rattle.code.proofs.RowLaws.{Storing, storing-start, storing-turn, storing-done, storing-front, storing-rest}
 use Rattle.code.proofs.decoding.derive_row.Statement.{statement}
 use Rattle.code.proofs.decoding.derive_row.Tie as tie

@@ -11,9 +11,8 @@ use Rattle.code.specs.Rows.{lifted}
 use Rattle.code.specs.Transform.{transform}
 use Rattle.code.specs.Decoder.{evaluated}
 use Rattle.code.proofs.Shapes.{length-transform}
-use Rattle.code.proofs.Lifting.{length-lifted}
-use Rattle.code.proofs.RowLaws.{Parts, length-parts, lent-rest, put-front, put-rest}
-use Rattle.code.proofs.DecodeTraces.{cut, two-halves}
+use Rattle.code.proofs.Lifting.{length-lifted, two-halves}
+use Rattle.code.proofs.RowLaws.{Parts, length-parts, lent-rest, put-front, put-rest, cut}
 use Rattle.code.proofs.DecodeSteps.{lifted-halves}
 use Rattle.code.proofs.decoding.evaluate.Statement.{statement}
 use Rattle.code.proofs.decoding.evaluate.Tie as tie

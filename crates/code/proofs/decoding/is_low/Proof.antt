@@ -12,9 +12,9 @@ use lib.ListN.{length}
 use lib.Pow.{pow-mono}
 use Rattle.code.specs.Transform.{reversed}
 use Rattle.code.specs.DecodeTrace.{allTo, sameAt, lowRowAt, lowRows}
+use Rattle.code.proofs.Lifting.{two-halves, row-next, row-in}
 use Rattle.code.proofs.Shapes.{reversed-lt}
-use Rattle.code.proofs.Crossing.{row-in}
-use Rattle.code.proofs.DecodeTraces.{two-halves, row-next, allTo-false}
+use Rattle.code.proofs.Tests.{allTo-false}
 use Rattle.code.proofs.decoding.is_low.Statement.{statement}
 use Rattle.code.proofs.decoding.is_low.Tie as tie
 

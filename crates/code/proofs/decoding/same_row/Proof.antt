@@ -8,7 +8,7 @@ use native.Mathlib.Omega.{arith}
 use borrow.Author.Tests.{eq-eqb, ne-eqb}
 use lib.ListN.{getD}
 use Rattle.code.specs.DecodeTrace.{allTo, sameAt}
-use Rattle.code.proofs.DecodeTraces.{allTo-false}
+use Rattle.code.proofs.Tests.{allTo-false}
 use Rattle.code.proofs.decoding.same_row.Statement.{statement}
 use Rattle.code.proofs.decoding.same_row.Tie as tie
 

@@ -12,9 +12,8 @@ use Rattle.code.specs.Rows.{lifted}
 use Rattle.code.specs.Transform.{untransform, turned}
 use Rattle.code.specs.Decoder as Decoder
 use Rattle.code.proofs.Shapes.{length-untransform, words-untransform}
-use Rattle.code.proofs.Lifting.{length-lifted, words-lifted, lifted-then, words-column}
-use Rattle.code.proofs.RowLaws.{Parts, length-parts, lent-rest, put-front, put-rest}
-use Rattle.code.proofs.DecodeTraces.{cut, two-halves}
+use Rattle.code.proofs.Lifting.{length-lifted, words-lifted, lifted-then, words-column, two-halves}
+use Rattle.code.proofs.RowLaws.{Parts, length-parts, lent-rest, put-front, put-rest, cut}
 use Rattle.code.proofs.DecodeSteps.{lifted-halves}
 use Rattle.code.proofs.decoding.split.Statement.{statement}
 use Rattle.code.proofs.decoding.split.Tie as tie

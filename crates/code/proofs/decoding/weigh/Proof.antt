@@ -1,110 +1,60 @@
 -- `code::decoding::weigh` meets its contract. The invariant: the first i rows are weighed. Assumes nothing.
-use mathlib.Core.Path.{_≡_, refl, sym, ap, _∙_}
+use mathlib.Core.Path.{_≡_, refl, sym, _∙_}
 use mathlib.Core.Bool.{Bool, true, false}
-use mathlib.Core.List.{List, _++_}
+use mathlib.Core.List.{List}
 use mathlib.Core.Logic.{⊎-elim}
 use Prim.Native.Nat.{ℕ, suc, _+_, _*_, _-_, _^_, _≤_, _<_}
-use native.Mathlib.Nat.{zero-mul, zero-add}
-use native.Mathlib.Numerals.{add-one}
 use native.Mathlib.Omega.{arith}
 use borrow.Author.Tests.{not-true, not-false}
 use lib.Dec.{lit<}
-use lib.ListN.{length, getD, take, drop}
+use lib.ListN.{length, getD, drop}
 use lib.Seq.{getD-drop}
-use Rattle.field.specs.Words.{Words}
 use Rattle.field.proofs.WordLists.{words-drop}
-use Rattle.code.specs.Rows.{lifted}
-use Rattle.code.specs.Decoder.{weighed}
-use Rattle.code.specs.RowTrace.{scaleRow}
-use Rattle.code.proofs.Crossing.{row-in}
-use Rattle.code.proofs.RowLaws.{scaleRows, length-scaleRows, words-scaleRows, scaleRows-none, scaleRows-more, scaleRows-after}
-use Rattle.code.proofs.DecodeTraces.{row-next}
+use Rattle.code.proofs.Shapes.{positions}
+use Rattle.code.proofs.RowLaws.{StoringRows, storing-rows-start, storing-rows-room, storing-rows-rest, storing-rows-done, scaledRowsWord, scaling-words, scaling-turn}
 use Rattle.code.proofs.DecodeSteps.{weightOr, weightOr-lt, weigh-rows}
 use Rattle.code.proofs.decoding.weigh.Statement.{statement}
 use Rattle.code.proofs.decoding.weigh.Tie as tie
 
-record Inv (part₀ : List ℕ) (marks : List Bool) (level width rows : ℕ) (part : List ℕ) (at i : ℕ) : Type 0 where
-  turns : i ≤ rows
-  rows-is : rows ≡ 2 ^ suc level
-  long : length part₀ ≡ rows * width + rows
-  words₀ : Words 65537 part₀
-  at-is : at ≡ i * width
-  now : part ≡ scaleRows 65537 width 0 (weightOr marks (drop (rows * width) part₀)) i part₀
-
-start : (part : List ℕ) (marks : List Bool) (level width rows : ℕ) → rows ≡ 2 ^ suc level → length part ≡ 2 ^ suc level * width + 2 ^ suc level → Words 65537 part
-    → Inv part marks level width rows part 0 0
-start part marks level width rows e l w = record {
-  turns = omega arith;
-  rows-is = e;
-  long = l ∙ rw e refl;
-  words₀ = w;
-  at-is = sym (zero-mul width);
-  now = sym (scaleRows-none 65537 width 0 (weightOr marks (drop (rows * width) part)) part);
-}
-
-module _ {part₀ : List ℕ} {marks : List Bool} {level width rows : ℕ} {part : List ℕ} {at i : ℕ} (h : Inv part₀ marks level width rows part at i) where
-  same : length part ≡ length part₀
-  same = ap length (h .now) ∙ length-scaleRows 65537 width 0 (weightOr marks (drop (rows * width) part₀)) i part₀
-
-  words : Words 65537 part
-  words = rw (h .now) (words-scaleRows 65537 width 0 (weightOr marks (drop (rows * width) part₀)) (lit< tt) i (h .words₀))
-
-  room : i < rows → at + width ≤ rows * width
-  room l = omega (arith, row-in width l)
-
-  -- the position's weight
-  weight : i < rows → getD part (rows * width + i) 0 ≡ getD (drop (rows * width) part₀) i 0
-  weight l =
-      ap (λ (r : List ℕ). getD r (rows * width + i) 0) (h .now)
-      ∙ scaleRows-after 65537 width 0 (weightOr marks (drop (rows * width) part₀)) i part₀ (rows * width + i) (omega (arith, room l)) ∙ sym (getD-drop (rows * width) part₀ i 0)
-
-  erased : {g : ℕ} → getD marks i false ≡ true → g ≡ 0 → g ≡ weightOr marks (drop (rows * width) part₀) i
-  unfolding weightOr
-  erased m e = e ∙ rw (m, weightOr)
-
-  survives : {g : ℕ} → i < rows → getD marks i false ≡ false → g ≡ getD part (rows * width + i) 0 → g ≡ weightOr marks (drop (rows * width) part₀) i
-  unfolding weightOr
-  survives l m e = e ∙ weight l ∙ rw (m, weightOr)
-
-  small : {g : ℕ} → g ≡ weightOr marks (drop (rows * width) part₀) i → g < 65537
-  small e = rw e (weightOr-lt 65537 (lit< tt) marks (words-drop 65537 (lit< tt) (rows * width) (h .words₀)) i)
-
-  turn : {g : ℕ} {part′ : List ℕ} → i < rows → g ≡ weightOr marks (drop (rows * width) part₀) i → part′ ≡ scaleRow 65537 width at g part
-      → Inv part₀ marks level width rows part′ (at + width) (i + 1)
-  turn l eg e = record {
-    turns = omega arith;
-    rows-is = h .rows-is;
-    long = h .long;
-    words₀ = h .words₀;
-    at-is = omega (arith, row-next i width);
-    now = e ∙ rw (add-one, h .at-is, eg, h .now, ← zero-add (i * width)) (scaleRows-more 65537 width 0 (weightOr marks (drop (rows * width) part₀)) i part₀);
-  }
-
-  done : rows ≤ i → part ≡ lifted width (2 ^ suc level) (2 ^ suc level) (weighed 65537 level marks (drop (2 ^ suc level * width) part₀)) (take (2 ^ suc level * width) part₀) ++ drop (2 ^ suc level * width) part₀
-  done l =
-      let e : i ≡ 2 ^ suc level = omega (arith, h .rows-is) in
-      h .now ∙ rw (e, h .rows-is) (weigh-rows 65537 (lit< tt) level width marks part₀ (omega (arith, h .long, ap (λ (n : ℕ). n * width) (h .rows-is))))
+-- the factors of the rows: the weights behind them
+abbrev factors : (marks : List Bool) → (rows width : ℕ) → (part : List ℕ) → ℕ → ℕ
+factors marks rows width part i = weightOr marks (drop (rows * width) part) i
 
 abbrev Inv-loop : tie.InvT-loop
-Inv-loop part₀ marks level width rows base at₀ i₀ part at i = Inv part₀ marks level width rows part at i
+Inv-loop part₀ marks level width rows base at₀ i₀ part at i = StoringRows 0 (scaledRowsWord 65537 width (factors marks rows width part₀) part₀) rows width part₀ part at i
 
 abbrev μ-loop : tie.MeasureT-loop
 μ-loop part₀ marks level width rows base at₀ i₀ part at i = rows - i
 
+-- the factor that is read
+module _ (marks : List Bool) {rows width : ℕ} {part₀ part : List ℕ} {at i g : ℕ} (h : StoringRows 0 (scaledRowsWord 65537 width (factors marks rows width part₀) part₀) rows width part₀ part at i) where
+  erased : getD marks i false ≡ true → g ≡ 0 → g ≡ factors marks rows width part₀ i
+  unfolding weightOr
+  erased m e = e ∙ rw (m, weightOr)
+
+  survives : i < rows → getD marks i false ≡ false → g ≡ getD part (rows * width + i) 0 → g ≡ factors marks rows width part₀ i
+  unfolding weightOr
+  survives l m e =
+      e ∙ storing-rows-rest h (rows * width + i) (omega (arith, storing-rows-room h l)) ∙ sym (getD-drop (rows * width) part₀ i 0) ∙ rw (m, weightOr)
+
 -- the count of rows, and the length
 sized : (c : tie.After-two-to Inv-loop μ-loop) → c .two-to .result ≡ 2 ^ suc (c .before .before .before .args .level)
-sized c = c .two-to .ensures ∙ ap (λ (n : ℕ). 2 ^ n) (add-one (c .before .before .before .args .level))
+sized c = positions (c .before .before .before .args .level) (c .two-to .ensures)
 
 long : (c : tie.After-two-to Inv-loop μ-loop) → length (c .before .before .before .args .part .now) ≡ c .two-to .result * c .before .before .before .args .width + c .two-to .result
 long c = c .before .before .before .pre .1 .1 .0 ∙ rw (sized c) refl
 
--- the row's factor
-factor : (c : tie.Joined1 Inv-loop μ-loop)
-    → c .if1 .g ≡ weightOr (c .before .before .before .before .before .before .before .args .marks .now) (drop (c .before .before .before .before .two-to .result * c .before .before .before .before .before .before .before .args .width) (c .before .before .before .before .before .before .before .args .part .now)) (c .before .before .before .loop .i)
+room : (c : tie.In-loop Inv-loop μ-loop) → let two = c .before .before in
+    c .before .loop .at + two .before .before .before .args .width + two .two-to .result ≤ length (c .before .loop .part)
+room c = omega (arith, storing-rows-room (c .before .loop .inv) (c .loop-test .taken), c .before .loop .inv .same, long (c .before .before))
+
+factor : (c : tie.Joined1 Inv-loop μ-loop) → let two = c .before .before .before .before in
+    let a = two .before .before .before .args in c .if1 .g ≡ factors (a .marks .now) (two .two-to .result) (a .width) (a .part .now) (c .before .before .before .loop .i)
 factor c =
     let at = c .before .before in
     let h = at .before .loop .inv in
-    ⊎-elim (λ w. survives h (at .loop-test .taken) (not-true _ (w .0 .taken)) (w .2)) (λ w. erased h (not-false _ (w .0 .left)) (w .1)) (c .if1 .came)
+    let ms = at .before .before .before .before .before .args .marks .now in
+    ⊎-elim (λ w. survives ms h (at .loop-test .taken) (not-true _ (w .0 .taken)) (w .2)) (λ w. erased ms h (not-false _ (w .0 .left)) (w .1)) (c .if1 .came)
 
 add-two-to : tie.Need-add-two-to Inv-loop μ-loop
 add-two-to c = omega arith
@@ -116,33 +66,31 @@ mul-base : tie.Need-mul-base Inv-loop μ-loop
 mul-base c = omega (arith, long c)
 
 loop-holds : tie.Need-loop-holds Inv-loop μ-loop
-loop-holds c =
-    let s = c .before .before .before in
-    start (s .args .part .now) (s .args .marks .now) (s .args .level) (s .args .width) (c .two-to .result) (sized c) (s .pre .1 .1 .0) (s .pre .1 .1 .1)
+loop-holds c = storing-rows-start _ _ _ _ _
 
 add-x : tie.Need-add-x Inv-loop μ-loop
-add-x c = omega (arith, c .before .loop .inv .long)
+add-x c = omega (arith, long (c .before .before))
 
 shared-slice-read-if1 : tie.Need-shared-slice-read-if1 Inv-loop μ-loop
-shared-slice-read-if1 c = omega (arith, c .before .before .loop .inv .rows-is)
+shared-slice-read-if1 c = omega (arith, sized (c .before .before .before))
 
 mul-g : tie.Need-mul-g Inv-loop μ-loop
-mul-g c = omega (arith, c .before .before .before .loop .inv .long)
+mul-g c = omega (arith, long (c .before .before .before .before))
 
 slice-read-g : tie.Need-slice-read-g Inv-loop μ-loop
-slice-read-g c = let h = c .before .before .before .before .loop .inv in omega (arith, h .long, same h)
+slice-read-g c = omega (arith, long (c .before .before .before .before .before), c .before .before .before .before .loop .inv .same)
 
 scale-row-requires : tie.Need-scale-row-requires Inv-loop μ-loop
 scale-row-requires c κs =
     let at = c .before .before .before in
-    let h = at .before .loop .inv in
-    (omega (arith, room h (at .loop-test .taken), h .long, same h), (small h (factor (c .before)), words h))
+    let two = at .before .before in
+    let s = two .before .before .before in
+    let n = two .two-to .result * s .args .width in
+    let w = s .pre .1 .1 .1 in
+    (omega (arith, room at), (rw (factor (c .before)) (weightOr-lt 65537 (lit< tt) (s .args .marks .now) (words-drop 65537 (lit< tt) n w) (at .before .loop .i)), scaling-words 65537 (s .args .width) _ (at .before .loop .inv) (lit< tt) w))
 
 add-at : tie.Need-add-at Inv-loop μ-loop
-add-at c =
-    let at = c .before .before .before .before .before .before in
-    let h = at .before .loop .inv in
-    omega (arith, room h (at .loop-test .taken), h .long)
+add-at c = omega (arith, room (c .before .before .before .before .before .before))
 
 add-i : tie.Need-add-i Inv-loop μ-loop
 add-i c = omega arith
@@ -155,13 +103,17 @@ loop-again c =
     let row = c .before .before in
     let join = row .before .before in
     let at = join .before .before in
-    turn (at .before .loop .inv) (at .loop-test .taken) (factor join) (row .scale-row .ensures)
+    scaling-turn 65537 (at .before .before .before .before .before .args .width) _ (at .before .loop .inv) (at .loop-test .taken) (factor join) (row .scale-row .ensures)
 
 same-length : tie.Need-same-length Inv-loop μ-loop
-same-length c = same (c .before .loop .inv)
+same-length c = c .before .loop .inv .same
 
 returns : tie.Need-returns Inv-loop μ-loop
-returns c = done (c .before .loop .inv) (c .loop-test .left)
+returns c =
+    let two = c .before .before in
+    let a = two .before .before .before .args in
+    storing-rows-done (c .before .loop .inv) (c .loop-test .left)
+    ∙ rw (sized two) (weigh-rows 65537 (lit< tt) (a .level) (a .width) (a .marks .now) (a .part .now) (omega (arith, two .before .before .before .pre .1 .1 .0)))
 
 pub weigh-spec : {M : Type 1} → statement M
 weigh-spec =

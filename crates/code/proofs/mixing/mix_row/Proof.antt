@@ -5,7 +5,7 @@ use native.Mathlib.Omega.{arith}
 use lib.ListN.{getD, length-set}
 use Rattle.field.specs.Residue.{plus, minus}
 use Rattle.code.specs.MixTrace.{mixing}
-use Rattle.code.proofs.Shapes.{times-lt}
+use Rattle.field.proofs.Laws.{times-lt}
 use Rattle.code.proofs.Crossing.{RowLoop, row-start, row-turn, row-end, mixing-stores}
 use Rattle.code.proofs.mixing.mix_row.Statement.{statement}
 use Rattle.code.proofs.mixing.mix_row.Tie as tie

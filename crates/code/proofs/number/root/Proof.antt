@@ -1,13 +1,13 @@
 -- `code::number::root` meets its contract. Assumes nothing.
-use mathlib.Core.Path.{_≡_, refl, sym, ap, _∙_}
-use Prim.Native.Nat.{ℕ, _+_, _*_, _-_, _/_, _^_, _≤_, _<_}
+use mathlib.Core.Path.{sym, ap, _∙_}
+use Prim.Native.Nat.{ℕ, _/_, _^_}
 use native.Mathlib.Nat.{mul-div-mul-left, div-le-self}
 use native.Mathlib.Omega.{arith}
 use borrow.Author.Needs.{needs}
 use lib.Dec.{lit<}
 use lib.Pow.{pow-pos}
 use Rattle.field.specs.Power.{power}
-use Rattle.field.specs.Field.{fermat, rootOf}
+use Rattle.field.specs.Field.{rootOf}
 use Rattle.code.proofs.number.root.Statement.{statement}
 use Rattle.code.proofs.number.root.Tie as tie
 

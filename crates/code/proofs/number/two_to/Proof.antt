@@ -1,7 +1,7 @@
 -- `code::number::two_to` meets its contract. The invariant: after i turns r is 2 ^ i. Assumes nothing.
 use mathlib.Core.Path.{_≡_, refl, ap, _∙_}
-use Prim.Native.Nat.{ℕ, _+_, _*_, _-_, _^_, _≤_, _<_}
-use native.Mathlib.Nat.{pow-suc, pow-zero}
+use Prim.Native.Nat.{ℕ, _*_, _-_, _^_, _≤_}
+use native.Mathlib.Nat.{pow-suc}
 use native.Mathlib.Numerals.{add-one}
 use native.Mathlib.Omega.{arith}
 use lib.Pow.{pow-mono}

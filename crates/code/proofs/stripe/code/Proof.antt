@@ -1,7 +1,7 @@
 -- `code::stripe::code` meets its contract: the blocks are copied, each half is mixed in its place, the second turned before. Assumes nothing.
 use mathlib.Core.Path.{_≡_, sym, ap, ap₂, _∙_}
 use mathlib.Core.List.{List, _++_}
-use Prim.Native.Nat.{ℕ, suc, _+_, _*_, _-_, _^_, _<_}
+use Prim.Native.Nat.{ℕ, suc, _+_, _*_, _-_, _^_}
 use native.Mathlib.Omega.{arith}
 use borrow.Author.Needs.{needs}
 use borrow.Rule.Slice.PartMut.{putMid}
@@ -12,8 +12,8 @@ use Rattle.code.specs.Rows.{lifted}
 use Rattle.code.specs.Transform.{transform, turned}
 use Rattle.code.specs.Stripe.{coded, codedRows}
 use Rattle.code.proofs.Shapes.{length-transform, length-turned, words-turned}
-use Rattle.code.proofs.Lifting.{length-lifted, words-lifted, lifted-then}
-use Rattle.code.proofs.RowLaws.{Parts, length-parts, lent-front, lent-rest, put-front, put-rest, lifted-both}
+use Rattle.code.proofs.Lifting.{length-lifted, words-lifted, lifted-then, lifted-both}
+use Rattle.code.proofs.RowLaws.{Parts, length-parts, lent-front, lent-rest, put-front, put-rest}
 use Rattle.code.proofs.stripe.code.Statement.{statement}
 use Rattle.code.proofs.stripe.code.Tie as tie
 

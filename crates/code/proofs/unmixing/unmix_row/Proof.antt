@@ -5,7 +5,7 @@ use native.Mathlib.Omega.{arith}
 use lib.ListN.{length-set}
 use Rattle.field.specs.Residue.{times}
 use Rattle.code.specs.MixTrace.{unmixing}
-use Rattle.code.proofs.Shapes.{minus-lt}
+use Rattle.field.proofs.Laws.{minus-lt}
 use Rattle.code.proofs.Crossing.{RowLoop, row-start, row-turn, row-end, unmixing-stores}
 use Rattle.code.proofs.unmixing.unmix_row.Statement.{statement}
 use Rattle.code.proofs.unmixing.unmix_row.Tie as tie

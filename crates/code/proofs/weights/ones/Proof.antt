@@ -1,7 +1,7 @@
 -- `code::weights::ones` meets its contract. The invariant: the first i words from `base` on are 1. Assumes nothing.
 use mathlib.Core.Path.{refl, sym, ap, _∙_}
 use mathlib.Core.List.{List, _++_}
-use Prim.Native.Nat.{ℕ, _+_, _-_}
+use Prim.Native.Nat.{ℕ, _-_}
 use native.Mathlib.Omega.{arith}
 use lib.ListN.{take}
 use Rattle.code.proofs.RowLaws.{Storing, storing-start, storing-turn, storing-done, stored-last, replicate-table}

@@ -11,11 +11,12 @@ use lib.ListN.{length, set, drop, length-set}
 use Rattle.field.specs.Residue.{times}
 use Rattle.field.specs.Power.{power}
 use Rattle.field.specs.Words.{table}
-use Rattle.field.proofs.Powers.{power-lt, power-zero, power-suc, times-lt}
+use Rattle.field.proofs.Laws.{times-lt}
+use Rattle.field.proofs.Powers.{power-lt, power-zero, power-suc}
 use Rattle.field.proofs.Unity.{two-div}
 use Rattle.code.specs.Decoding.{pointAt}
 use Rattle.code.specs.RowTrace.{stored}
-use Rattle.code.proofs.WeightLaws.{point-low, point-high}
+use Rattle.code.proofs.Points.{point-low-square, point-high-square}
 use Rattle.code.proofs.RowLaws.{set-stored, stored-more, stored-is}
 use Rattle.code.proofs.weights.points.Statement.{statement}
 use Rattle.code.proofs.weights.points.Tie as tie
@@ -133,8 +134,8 @@ unfolding stored
 next {part₀} {level} {k} {root} {half} {u} {v} {part} {x} {i} {y} {x′} h b ey ex =
     let i-lt : i < 2 ^ level = omega (arith, h .half-is) in
     let eu : power 65537 root (2 ^ k / 2 ^ level) ≡ u = sym (h .u-is) in
-    let ex′ : x ≡ pointAt 65537 root k level i = h .x-is ∙ sym (rw (eu, ← h .v-is) at (point-low 65537 (lit< tt) root k level i i-lt)) in
-    let ey′ : y ≡ pointAt 65537 root k level (half + i) = ey ∙ ap (times 65537 u) (h .x-is) ∙ sym (rw (eu, ← h .v-is, ← h .half-is) at (point-high 65537 (lit< tt) root k level i)) in
+    let ex′ : x ≡ pointAt 65537 root k level i = h .x-is ∙ sym (rw (eu, ← h .v-is) at (point-low-square 65537 root k level (lit< tt) i i-lt)) in
+    let ey′ : y ≡ pointAt 65537 root k level (half + i) = ey ∙ ap (times 65537 u) (h .x-is) ∙ sym (rw (eu, ← h .v-is, ← h .half-is) at (point-high-square 65537 root k level (lit< tt) i)) in
     record {
       turns = omega arith;
       half-is = h .half-is;

@@ -11,7 +11,7 @@ use lib.Seq.{getD-take, getD-drop, getD-set-same, getD-set-other}
 use Rattle.field.specs.Residue.{minus, times}
 use Rattle.field.specs.Words.{Words, table}
 use Rattle.code.specs.RowTrace.{stored, weighedBy}
-use Rattle.code.proofs.Shapes.{minus-lt}
+use Rattle.field.proofs.Laws.{minus-lt}
 use Rattle.code.proofs.RowLaws.{length-stored, stored-at, stored-before, stored-after, is-stored, no-rest, weighedBy-own, weighedBy-other, Storing, storing-start, storing-turn, storing-done, storing-rest, storing-front}
 use Rattle.code.proofs.weights.weigh_by.Statement.{statement}
 use Rattle.code.proofs.weights.weigh_by.Tie as tie

@@ -1,6 +1,6 @@
 -- `code::weights::weights` meets its contract. The invariant: the last words are the weights over the erased positions below j. Assumes nothing.
 use mathlib.Core.Path.{_≡_, refl, sym, ap, ap₂, _∙_}
-use mathlib.Core.Bool.{Bool, true, false, _&&_, not}
+use mathlib.Core.Bool.{Bool, true, false}
 use mathlib.Core.List.{List, _++_}
 use mathlib.Core.Logic.{⊎-elim}
 use Prim.Native.Nat.{ℕ, suc, _+_, _-_, _^_, _≤_, _<_}
@@ -16,7 +16,9 @@ use Rattle.code.specs.Decoding.{pointAt}
 use Rattle.code.specs.Decoder.{weightTo}
 use Rattle.code.specs.RowTrace.{weighedBy}
 use Rattle.code.proofs.RowLaws.{replicate-table, weighedBy-own, weighedBy-other}
-use Rattle.code.proofs.WeightLaws.{weight-same, weight-more, words-points, words-weights}
+use Rattle.code.proofs.Shapes.{positions}
+use Rattle.code.proofs.Points.{words-points}
+use Rattle.code.proofs.WeightLaws.{weight-survivor, weight-own, weight-other, words-weights}
 use Rattle.code.proofs.weights.weights.Statement.{statement}
 use Rattle.code.proofs.weights.weights.Tie as tie
 
@@ -98,14 +100,11 @@ module _ {front : List ℕ} {marks : List Bool} {level k root count base : ℕ} 
   multiplied : getD marks j false ≡ true → (i : ℕ) → i < count → weighedBy 65537 base j part i ≡ weightTo 65537 root k level marks i (suc j)
   multiplied m i t = by (eqb j i) refl
     where
-      test : (x : Bool) → eqb j i ≡ x → getD marks j false && not (eqb j i) ≡ not x
-      test x e = rw (m, e)
-
       by : (x : Bool) → eqb j i ≡ x → weighedBy 65537 base j part i ≡ weightTo 65537 root k level marks i (suc j)
-      by true e = weighedBy-own 65537 base j part i e ∙ weight-is i t ∙ sym (weight-same 65537 (lit< tt) root k level marks i j (test true e))
+      by true e = weighedBy-own 65537 base j part i e ∙ weight-is i t ∙ sym (weight-own 65537 root k level marks i j e)
       by false e =
           weighedBy-other 65537 base j part i e ∙ ap₂ (times 65537) (weight-is i t) (ap₂ (minus 65537) (point-is i t) (point-is j b))
-          ∙ sym (weight-more 65537 (lit< tt) root k level marks i j (test false e))
+          ∙ sym (weight-other 65537 root k level marks i j m e)
 
   keeps : (l : List ℕ) → l ≡ front ++ weightsTo root k level marks count (suc j) → Inv front marks level k root count base l (j + 1)
   keeps l e = record {
@@ -125,13 +124,13 @@ module _ {front : List ℕ} {marks : List Bool} {level k root count base : ℕ} 
   not-erased : {l : List ℕ} → getD marks j false ≡ false → l ≡ part → Inv front marks level k root count base l (j + 1)
   not-erased {l} m e =
       keeps l
-      (e ∙ h .now ∙ ap (λ (r : List ℕ). front ++ r) (same-table count W (λ i. weightTo 65537 root k level marks i (suc j)) (λ i t. sym (weight-same 65537 (lit< tt) root k level marks i j (rw m)))))
+      (e ∙ h .now ∙ ap (λ (r : List ℕ). front ++ r) (same-table count W (λ i. weightTo 65537 root k level marks i (suc j)) (λ i t. sym (weight-survivor 65537 root k level marks i j m))))
 
   -- the points and the weights are words
   points-words : Words 65537 (take count part)
   points-words =
       let e : take count part ≡ table count P = ap (take count) (h .now) ∙ take-append-le count front (table count W) (omega (arith, h .long, h .low)) ∙ h .starts in
-      rw e (words-points 65537 (lit< tt) root k level count)
+      rw e (words-points 65537 root k level (lit< tt) count)
 
   weights-words : Words 65537 (drop base part)
   weights-words =
@@ -140,7 +139,7 @@ module _ {front : List ℕ} {marks : List Bool} {level k root count base : ℕ} 
 
 -- the number of positions, twice of which lie within the part
 count-is : (c : tie.After-two-to Inv-loop μ-loop) → c .two-to .result ≡ 2 ^ suc (c .before .before .before .args .level)
-count-is c = c .two-to .ensures ∙ ap (λ (n : ℕ). 2 ^ n) (add-one _)
+count-is c = positions (c .before .before .before .args .level) (c .two-to .ensures)
 
 room : (c : tie.After-two-to Inv-loop μ-loop) → c .two-to .result + c .two-to .result ≤ length (c .before .before .before .args .part .now)
 room c = omega (arith, count-is c, c .before .before .before .pre .1 .1 .0)
