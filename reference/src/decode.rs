@@ -1,25 +1,7 @@
 //! Decoding of a stripe from its surviving positions: elimination over the first half of them, then a comparison with all.
 use crate::field::{inverse, mul, sub, P};
+use crate::refusal::Refusal;
 use crate::stripe::{code, code_column, rows};
-
-/// Why a stripe has no blocks.
-#[derive(Clone, Copy, Debug, PartialEq)]
-pub enum Fault {
-    TooFew,
-    OutOfField,
-    Inconsistent,
-}
-
-impl Fault {
-    /// The number of document 01's table.
-    pub fn number(self) -> u32 {
-        match self {
-            Fault::TooFew => 7,
-            Fault::OutOfField => 8,
-            Fault::Inconsistent => 9,
-        }
-    }
-}
 
 /// The blocks that code to the words of all positions that are not marked erased. `stripe` has 2^(level+1) rows of `width` words.
 pub fn decode(
@@ -28,15 +10,15 @@ pub fn decode(
     width: usize,
     erased: &[bool],
     stripe: &[u64],
-) -> Result<Vec<u64>, Fault> {
+) -> Result<Vec<u64>, Refusal> {
     let size = erased.len() / 2;
     let survivors: Vec<usize> = (0..2 * size).filter(|&i| !erased[i]).collect();
     if survivors.len() < size {
-        return Err(Fault::TooFew);
+        return Err(Refusal::TooFew);
     }
     let row = |i: usize| &stripe[i * width..(i + 1) * width];
     if survivors.iter().any(|&i| row(i).iter().any(|&x| x >= P)) {
-        return Err(Fault::OutOfField);
+        return Err(Refusal::OutOfField);
     }
     // Position i of a column is the sum over j of word j times coefficient i of the unit column j, coded.
     let units: Vec<Vec<u64>> = (0..size)
@@ -52,7 +34,7 @@ pub fn decode(
         .iter()
         .any(|&i| coded[i * width..(i + 1) * width] != *row(i))
     {
-        return Err(Fault::Inconsistent);
+        return Err(Refusal::Inconsistent);
     }
     Ok(blocks)
 }
@@ -76,9 +58,9 @@ fn solve(size: usize, mut system: Vec<Vec<u64>>) -> Vec<u64> {
         let (before, rest) = system.split_at_mut(j);
         let (own, after) = rest.split_first_mut().expect("row j");
         for other in before.iter_mut().chain(after) {
-            let factor = other[j];
+            let factor = sub(0, other[j]);
             for (x, &y) in other[j..].iter_mut().zip(&own[j..]) {
-                *x = sub(*x, mul(factor, y));
+                *x = (*x + factor * y) % P;
             }
         }
     }
@@ -95,29 +77,20 @@ mod tests {
     use crate::random::Random;
 
     #[test]
-    fn p4() {
-        let erased = [true, true, false, false];
-        assert_eq!(
-            decode(2, 0, 1, &erased, &[0, 0, 65026, 513]),
-            Ok(vec![1, 2])
-        );
-    }
-
-    #[test]
     fn too_few_out_of_field_inconsistent() {
         let none = [false; 2];
         assert_eq!(
             decode(2, 2, 1, &[true, true], &[3, 12288]),
-            Err(Fault::TooFew)
+            Err(Refusal::TooFew)
         );
         assert_eq!(
             decode(2, 2, 1, &none, &[65537, 12288]),
-            Err(Fault::OutOfField)
+            Err(Refusal::OutOfField)
         );
-        // P10: one column fits, the other does not.
+        // One column fits, the other does not.
         assert_eq!(
             decode(2, 2, 2, &none, &[2, 3, 8192, 12289]),
-            Err(Fault::Inconsistent)
+            Err(Refusal::Inconsistent)
         );
         assert_eq!(decode(2, 2, 2, &none, &[2, 3, 8192, 12288]), Ok(vec![2, 3]));
     }

@@ -1,7 +1,19 @@
 //! A second implementation of the record vault, written from document 01 alone: simple and slow. It makes the test cases that the
 //! proved programs are held to.
+pub mod cases;
 pub mod decode;
+pub mod erasures;
 pub mod field;
+pub mod header;
+pub mod image;
+pub mod listing;
+pub mod machine;
+pub mod opening;
 pub mod random;
+pub mod reading;
+pub mod recovery;
+pub mod refusal;
+pub mod script;
 pub mod stripe;
 pub mod stripe_cases;
+pub mod writing;

@@ -66,24 +66,6 @@ mod tests {
     use super::*;
 
     #[test]
-    fn p1() {
-        assert_eq!(code_column(2, 0, &[1, 2]), [3, 65536, 65026, 513]);
-    }
-
-    #[test]
-    fn p2() {
-        assert_eq!(code_column(2, 2, &[3]), [3, 12288]);
-    }
-
-    #[test]
-    fn p3() {
-        assert_eq!(
-            code_column(2, 0, &[1, 2, 3, 4]),
-            [10, 255, 65533, 65280, 11841, 16945, 52674, 49618]
-        );
-    }
-
-    #[test]
     fn columns_are_coded_alone() {
         // The levels of document 01's listing: record numbers 0, 1 and 2 written with 1, 2 and 3.
         assert_eq!(code(2, 2, 2, &[2, 3]), [2, 3, 8192, 12288]);

@@ -6,9 +6,10 @@
 //!
 //! Output: a line for each case. Coding: the stripe's words. Decoding: 0, 7 or 9 of document 01's table, and after 0 and 9 what is left in the
 //! stripe's place: the blocks and then zeros, or only zeros.
-use crate::decode::{decode, Fault};
+use crate::decode::decode;
 use crate::field::P;
 use crate::random::Random;
+use crate::refusal::Refusal;
 use crate::stripe::code;
 
 /// The shape of a stripe.
@@ -64,8 +65,8 @@ impl Case {
         let (number, mut left) =
             match decode(shape.k, shape.first, shape.width, erased, &self.words) {
                 Ok(blocks) => (0, blocks),
-                Err(Fault::TooFew) => return vec![7],
-                Err(fault) => (u64::from(fault.number()), Vec::new()),
+                Err(Refusal::TooFew) => return vec![7],
+                Err(fault) => (fault as u64, Vec::new()),
             };
         left.resize(self.words.len(), 0);
         left.insert(0, number);
@@ -276,40 +277,14 @@ fn cases() -> Vec<Case> {
     cases
 }
 
-/// What the program reads.
-pub fn input() -> Vec<u8> {
+/// What the program reads, and what it has to print.
+pub fn stripe_cases() -> (Vec<u8>, String) {
     let cases = cases();
-    let mut bytes = (cases.len() as u16).to_le_bytes().to_vec();
-    bytes.extend(cases.iter().flat_map(Case::input));
-    bytes
-}
-
-/// What it has to print.
-pub fn output() -> String {
+    let mut input = (cases.len() as u16).to_le_bytes().to_vec();
+    input.extend(cases.iter().flat_map(Case::input));
     let line = |case: &Case| {
-        case.output()
-            .iter()
-            .map(u64::to_string)
-            .collect::<Vec<_>>()
-            .join(" ")
-            + "\n"
+        let words: Vec<String> = case.output().iter().map(u64::to_string).collect();
+        words.join(" ") + "\n"
     };
-    cases().iter().map(line).collect()
-}
-
-#[cfg(test)]
-mod tests {
-    use std::fs;
-
-    const STRIPES: &str = concat!(env!("CARGO_MANIFEST_DIR"), "/../crates/stripes/");
-
-    #[test]
-    fn stored_input() {
-        assert!(fs::read(format!("{STRIPES}stdin")).unwrap() == super::input());
-    }
-
-    #[test]
-    fn stored_output() {
-        assert!(fs::read_to_string(format!("{STRIPES}stdout")).unwrap() == super::output());
-    }
+    (input, cases.iter().map(line).collect())
 }

@@ -4,14 +4,14 @@ ghost use Prim.Native.Nat.{_≤_, _<_};
 ghost use lib.ListN.{length};
 ghost use Rattle.stripes.specs.Input.{Loaded};
 
-pub fn byte() -> u8 {
+pub(crate) fn byte() -> u8 {
     let mut bytes = [0u8; 1];
     io::read_full(0, &mut bytes);
     bytes[0]
 }
 
 // A number of two bytes, low byte first.
-pub fn pair() -> u32
+pub(crate) fn pair() -> u32
     ensures { λ r. ⌜ r < 65536 ⌝ }
 {
     let low = byte() as u32;
@@ -30,7 +30,7 @@ fn word() -> u32
 }
 
 // Reads the first `count` words of the part.
-pub fn words(part: &mut [u32], count: usize)
+pub(crate) fn words(part: &mut [u32], count: usize)
     requires { ⌜ count ≤ length (now part) ⌝ }
     ensures { λ _. ⌜ Loaded count (now (part .entry)) (now (part .exit)) ⌝ }
 {
@@ -40,7 +40,7 @@ pub fn words(part: &mut [u32], count: usize)
 }
 
 // Reads the first `count` marks, a byte each.
-pub fn marks(marks: &mut [bool], count: usize)
+pub(crate) fn marks(marks: &mut [bool], count: usize)
     requires { ⌜ count ≤ length (now marks) ⌝ }
     ensures { λ _. ⌜ length (now (marks .exit)) ≡ length (now (marks .entry)) ⌝ }
 {

@@ -3,7 +3,7 @@ ghost use Prim.Native.Nat.{_≤_};
 ghost use lib.ListN.{length};
 
 // A number and the byte after it.
-pub fn number(n: u32, end: u8) {
+pub(crate) fn number(n: u32, end: u8) {
     let mut digits = [0u8; 20];
     let count = io::decimal(n as u64, &mut digits);
     io::write_all(1, &digits[..count]);
@@ -12,7 +12,7 @@ pub fn number(n: u32, end: u8) {
 }
 
 // The first `count` words of the part, on one line.
-pub fn words(part: &[u32], count: usize)
+pub(crate) fn words(part: &[u32], count: usize)
     requires { ⌜ count ≤ length (now part) ⌝ }
 {
     for i in 0..count {

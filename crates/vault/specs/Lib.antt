@@ -14,3 +14,4 @@ pub mod Worked
 pub mod WriteTrace
 pub mod MarkTrace
 pub mod LoadTrace
+pub mod StripeTrace

@@ -1,9 +1,12 @@
 // The press record vault: the calls of document 01, each proved for every input.
-pub mod erasures;
+mod columns;
+mod erasures;
 pub mod images;
 pub mod opening;
 pub mod reading;
-pub mod tests;
+pub mod recovering;
+pub mod stripes;
+mod tests;
 pub mod writing;
 
 // The header (document 01: plate).

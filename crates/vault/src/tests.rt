@@ -6,7 +6,7 @@ ghost use Rattle.vault.specs.Header.{headerFits};
 ghost use Rattle.vault.specs.Records.{areData};
 
 // Test 1: whether the header's numbers are in their ranges.
-pub fn header_fits(h: Header) -> bool
+pub(crate) fn header_fits(h: Header) -> bool
     ensures { λ r. ⌜ r ≡ headerFits h ⌝ }
 {
     let k = h.k;
@@ -28,7 +28,7 @@ pub fn header_fits(h: Header) -> bool
 }
 
 // Test 5: whether all words are data words.
-pub fn all_data(words: &[u32]) -> bool
+pub(crate) fn all_data(words: &[u32]) -> bool
     ensures { λ r. ⌜ r ≡ areData (now (words .entry)) ⌝ }
 {
     let mut i = 0;
@@ -42,7 +42,7 @@ pub fn all_data(words: &[u32]) -> bool
 }
 
 // Zeros.
-pub fn clear(part: &mut [u32])
+pub(crate) fn clear(part: &mut [u32])
     ensures { λ _. ⌜ now (part .exit) ≡ replicate (length (now (part .entry))) 0 ⌝ }
 {
     let mut i = 0;

@@ -1,11 +1,10 @@
-//! `stripe_cases stdin` writes what the program `stripes` reads, `stripe_cases stdout` what it has to print.
-use reference::stripe_cases::{input, output};
-use std::io::{self, Write};
+//! `stripe_cases FOLDER` writes into a folder what the program `stripes` reads, `stdin`, and what it has to print, `stdout`.
+use reference::stripe_cases::stripe_cases;
+use std::{env, fs, io, path::Path};
 
 fn main() -> io::Result<()> {
-    match std::env::args().nth(1).as_deref() {
-        Some("stdin") => io::stdout().write_all(&input()),
-        Some("stdout") => io::stdout().write_all(output().as_bytes()),
-        _ => Err(io::Error::other("usage: stripe_cases stdin|stdout")),
-    }
+    let folder = env::args_os().nth(1).expect("a folder");
+    let (input, printed) = stripe_cases();
+    fs::write(Path::new(&folder).join("stdin"), input)?;
+    fs::write(Path::new(&folder).join("stdout"), printed)
 }

@@ -1,0 +1,59 @@
+-- The last words of the scratch lent: the words of a range of columns, and behind them the weights, which stay. Assumes nothing.
+use mathlib.Core.Path.{_≡_, refl, sym, ap, _∙_}
+use mathlib.Core.List.{List, _++_, append-nil}
+use Prim.Native.Nat.{ℕ, suc, _+_, _*_, _-_, _^_, _≤_}
+use native.Mathlib.Omega.{arith}
+use borrow.Rule.Slice.PartMut.{putMid}
+use lib.ListN.{length, take, drop, length-append, length-drop, drop-of-length-le}
+use lib.Seq.{take-all, drop-drop, drop-at, length-take-le}
+
+-- how many words that is, of 2 ^ suc l rows
+pub span : (l cols w r : ℕ) → w ≡ cols → r ≡ 2 ^ l → 2 * r * (w + 1) ≡ 2 ^ suc l * cols + 2 ^ suc l
+span l cols w r a e = let d : 2 ^ suc l ≡ 2 * 2 ^ l = omega arith in rw (a, e, d) (omega arith)
+
+-- the last words of l, from `start` on: `cols` words for each of so many rows, and one more for each
+pub record Tail (l : List ℕ) (size start cols rows : ℕ) : Type 0 where
+  pub long : length l ≡ size
+  pub begins : start + (rows * cols + rows) ≡ size
+
+module _ {l : List ℕ} {size start cols rows : ℕ} (T : Tail l size start cols rows) where
+  pub tail-is : take (length l - start) (drop start l) ≡ drop start l
+  tail-is = take-all (length l - start) (drop start l) (omega (arith, length-drop start l))
+
+  pub tail-long : length (take (length l - start) (drop start l)) ≡ rows * cols + rows
+  tail-long = ap length tail-is ∙ length-drop start l ∙ omega (arith, T .long, T .begins)
+
+  pub tail-weights : drop (rows * cols) (take (length l - start) (drop start l)) ≡ drop (size - rows) l
+  tail-weights = ap (drop (rows * cols)) tail-is ∙ drop-drop (rows * cols) start l ∙ ap (λ (n : ℕ). drop n l) {x = start + rows * cols} {y = size - rows} (omega (arith, T .begins))
+
+  module _ (x : List ℕ) where
+    -- the list once the words come back as x
+    pub put-is : putMid start (length l - start) l x ≡ take start l ++ x
+    put-is = ap (λ (r : List ℕ). take start l ++ (x ++ r)) (drop-of-length-le (drop start l) {i = length l - start} (omega (arith, length-drop start l))) ∙ ap (λ (r : List ℕ). take start l ++ r) (append-nil x)
+
+    front-long : length (take start l) ≡ start
+    front-long = length-take-le start l (omega (arith, T .long, T .begins))
+
+    pub put-tail : drop start (putMid start (length l - start) l x) ≡ x
+    put-tail = ap (drop start) put-is ∙ drop-at (take start l) x start front-long
+
+    pub put-weights : drop (rows * cols) x ≡ drop (rows * cols) (take (length l - start) (drop start l)) → drop (size - rows) (putMid start (length l - start) l x) ≡ drop (size - rows) l
+    put-weights e =
+        ap (λ (n : ℕ). drop n (putMid start (length l - start) l x)) {x = size - rows} {y = start + rows * cols} (omega (arith, T .begins))
+        ∙ sym (drop-drop (rows * cols) start (putMid start (length l - start) l x)) ∙ ap (drop (rows * cols)) put-tail ∙ e ∙ tail-weights
+
+    -- the same words lent again
+    pub lent-again : length x ≡ length (take (length l - start) (drop start l)) → let l′ = putMid start (length l - start) l x in take (length l′ - start) (drop start l′) ≡ x
+    lent-again e =
+        let l′ = putMid start (length l - start) l x in
+        let n : length l′ ≡ start + length x = ap length put-is ∙ length-append (take start l) x ∙ ap (λ (m : ℕ). m + length x) front-long in
+        ap (take (length l′ - start)) put-tail ∙ take-all (length l′ - start) x (omega (arith, n))
+
+-- weights that are stored in the second half of the words lent, behind as many points
+pub stored-weights : {l : List ℕ} {size start rows : ℕ} → Tail l size start 1 rows → (x ps mid ws : List ℕ) → length ps ≡ rows
+    → x ≡ ps ++ take (length (take (length l - start) (drop start l)) - (rows + rows)) mid ++ ws → drop (size - rows) (putMid start (length l - start) l x) ≡ ws
+stored-weights {l} {size} {start} {rows} T x ps mid ws e q =
+    let z : length (take (length l - start) (drop start l)) - (rows + rows) ≡ 0 = omega (arith, tail-long T) in
+    let f : length (ps ++ take 0 mid) ≡ rows = length-append ps (take 0 mid) ∙ omega (arith, e) in
+    ap (λ (n : ℕ). drop n (putMid start (length l - start) l x)) {x = size - rows} {y = start + rows} (omega (arith, T .begins))
+    ∙ sym (drop-drop rows start (putMid start (length l - start) l x)) ∙ ap (drop rows) (put-tail T x ∙ rw z at q) ∙ drop-at (ps ++ take 0 mid) ws rows f
