@@ -1,30 +1,30 @@
 -- Blocks that are records, and blocks laid over raw records. Of the full stripe these are the blocks' data, since each number is its place. Assumes
 -- nothing.
-use mathlib.Core.Path.{_≡_, refl, sym, ap, ap₂, _∙_}
+use mathlib.Core.Path.{_≡_, refl, sym, ap, _∙_}
 use mathlib.Core.Bool.{Bool, true, false, _&&_, and-assoc, and-true, and-false}
 use mathlib.Core.List.{List, [], _∷_, _++_, append-assoc}
-use Prim.Native.Nat.{ℕ, zero, suc, _+_, _*_, _-_, _/_, _%_, _≤_, _<_}
+use Prim.Native.Nat.{ℕ, zero, suc, _+_, _*_, _-_, _≤_, _<_}
 use native.Mathlib.Nat.{zero-mul, mul-le-mul-right}
 use native.Mathlib.Numerals.{add-one}
 use native.Mathlib.Decide.{decLt}
 use native.Mathlib.Omega.{arith}
 use borrow.Author.Tests.{eqb-true, ltb-true, eq-eqb, ne-eqb}
 use lib.Dec.{eqb, ltb}
-use lib.ListN.{length, getD, take, drop, length-append, length-drop}
+use lib.ListN.{length, getD, take, drop, length-drop}
 use lib.Seq.{getD-take, getD-drop, length-take-le, take-at, drop-drop, drop-append-add}
 use lib.Arith.{digits-div, digits-mod}
 use Rattle.field.specs.Words.{table}
-use Rattle.field.proofs.WordLists.{length-table, getD-table, is-table, two-tables, same-table}
+use Rattle.field.proofs.WordLists.{length-table, getD-table, is-table, two-tables}
 use Rattle.vault.specs.declared.Header.{Header}
-use Rattle.vault.specs.Header.{count, width, isFull}
-use Rattle.vault.specs.Records.{areData, isData, replaced}
+use Rattle.vault.specs.Header.{count, width}
+use Rattle.vault.specs.Records.{areData}
 use Rattle.vault.specs.Decoding.{numberFits, blockNumber, blockData, isRecord, areRecords}
 use Rattle.vault.specs.Recovery.{laid}
 use Rattle.vault.specs.StripeTrace.{columnsWord, columnsOf, placesTo}
 use Rattle.vault.proofs.Bounds.{first, second, both, not-first, not-second}
 use Rattle.vault.proofs.Ranges.{length-columns}
 
-pub columns-none : (width from cols : ℕ) (r : List ℕ) → columnsOf width from cols 0 r ≡ []
+columns-none : (width from cols : ℕ) (r : List ℕ) → columnsOf width from cols 0 r ≡ []
 unfolding columnsOf table
 columns-none width from cols r = rw zero-mul
 
@@ -36,7 +36,7 @@ module _ (width from cols n : ℕ) (r : List ℕ) (h : n * width + (from + cols)
       getD-take cols (drop (n * width + from) r) j 0 b ∙ getD-drop (n * width + from) r j 0
       ∙ ap (λ (x : ℕ). getD r x 0) {x = n * width + from + j} {y = n * width + (from + j)} (omega arith) ∙ sym (rw (digits-div n b, digits-mod n b))
 
-  pub columns-row : columnsOf width from cols (suc n) r ≡ columnsOf width from cols n r ++ take cols (drop (n * width + from) r)
+  columns-row : columnsOf width from cols (suc n) r ≡ columnsOf width from cols n r ++ take cols (drop (n * width + from) r)
   unfolding columnsOf
   columns-row =
       let f = columnsWord width from cols r in
@@ -50,7 +50,7 @@ data-none : areData [] ≡ true
 unfolding areData
 data-none = refl
 
-pub data-append : (a b : List ℕ) → areData (a ++ b) ≡ (areData a && areData b)
+data-append : (a b : List ℕ) → areData (a ++ b) ≡ (areData a && areData b)
 unfolding areData
 data-append [] b = refl
 data-append (x ∷ a) b = rw (data-append a b, and-assoc)
@@ -66,7 +66,7 @@ module _ (h : Header) (l : ℕ) (bs : List ℕ) where
       at (yes y) last rest = rest y
       at (no y) last rest = let s : j ≡ n = omega arith in rw s last
 
-  pub no-record : (n j : ℕ) → j < n → isRecord h l bs j ≡ false → areRecords h l bs n ≡ false
+  no-record : (n j : ℕ) → j < n → isRecord h l bs j ≡ false → areRecords h l bs n ≡ false
   unfolding areRecords
   no-record zero j b e = absurd (omega arith)
   no-record (suc n) j b e = at (decLt j n) (no-record n j)
@@ -121,7 +121,7 @@ module _ (h : Header) (bs : List ℕ) where
 
 -- NUMBERS THAT ARE THEIR PLACES
 module _ (w : ℕ) (r : List ℕ) where
-  pub not-places : (n j : ℕ) → j < n → (getD r (j * w) 0 ≡ j → ⊥) → placesTo w r n ≡ false
+  not-places : (n j : ℕ) → j < n → (getD r (j * w) 0 ≡ j → ⊥) → placesTo w r n ≡ false
   unfolding placesTo
   not-places zero j b d = absurd (omega arith)
   not-places (suc n) j b d = at (decLt j n) (not-places n j)

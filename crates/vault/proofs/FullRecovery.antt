@@ -2,7 +2,7 @@
 use mathlib.Core.Path.{_≡_, refl, sym, ap, ap₂, _∙_}
 use mathlib.Core.Bool.{Bool, true, false, _&&_}
 use mathlib.Core.List.{List, _++_, append-nil}
-use Prim.Native.Nat.{ℕ, suc, _+_, _*_, _-_, _^_, _≤_, _<_}
+use Prim.Native.Nat.{ℕ, _*_, _-_, _≤_}
 use native.Mathlib.Omega.{arith}
 use lib.ListN.{length, drop, replicate, length-replicate, drop-of-length-le}
 use Rattle.vault.specs.declared.Header.{Header}
@@ -12,7 +12,6 @@ use Rattle.vault.specs.Decoding.{areRecords, decodeMarked}
 use Rattle.vault.specs.Calls.{decodedNumber}
 use Rattle.vault.specs.Recovery.{laid}
 use Rattle.vault.specs.StripeTrace.{columnsOf, placesTo, readyNumber, isConsistent, blocksIn, placesNumber, columnsNumber}
-use Rattle.vault.proofs.Bounds.{both, not-first, not-second}
 use Rattle.vault.proofs.BlockRecords.{records-full, laid-full}
 use Rattle.vault.proofs.RangeLoop.{columns-fail, columns-agree}
 use Rattle.vault.proofs.StripeCalls.{length-blocks, answers-nine, answers-ten}

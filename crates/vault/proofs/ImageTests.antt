@@ -1,8 +1,8 @@
 -- Tests 1, 2 and 3 of a call that is lent an image: its number by each, whatever tests follow, and what holds if none applies. Assumes nothing.
-use mathlib.Core.Path.{_≡_, refl, sym, ap, _∙_}
+use mathlib.Core.Path.{_≡_, refl, _∙_}
 use mathlib.Core.Bool.{Bool, true, false, _&&_}
 use mathlib.Core.List.{List}
-use Prim.Native.Nat.{ℕ, _*_, _≤_}
+use Prim.Native.Nat.{ℕ, _*_}
 use native.Mathlib.Omega.{arith}
 use lib.Dec.{eqb}
 use lib.ListN.{length}
@@ -10,7 +10,7 @@ use Rattle.vault.specs.declared.Header.{Header}
 use Rattle.vault.specs.Header.{headerFits, count, imageSize, scratchSize}
 use Rattle.vault.specs.Erasures.{erasuresFit}
 use Rattle.vault.specs.Calls.{Tests, done, test, refusal}
-use Rattle.vault.proofs.Bounds.{is-false, equal-three, three-equal, test-holds, test-fails, none-fails, passes}
+use Rattle.vault.proofs.Bounds.{is-false, equal-three, three-equal, test-holds, test-fails, passes}
 
 module _ (h : Header) (m e : List ℕ) (row out scratch : ℕ) where
   abbrev sizesFit : Bool

@@ -1,10 +1,9 @@
 -- A level's blocks: all of its columns in one range, and the numbers that they give. Assumes nothing.
-use mathlib.Core.Path.{_≡_, refl, sym, ap, _∙_}
+use mathlib.Core.Path.{_≡_, sym, ap, _∙_}
 use mathlib.Core.Bool.{Bool, true, false}
 use mathlib.Core.List.{List}
-use Prim.Native.Nat.{ℕ, suc, _+_, _*_, _^_, _≤_, _<_}
-use native.Mathlib.Omega.{arith}
-use lib.ListN.{length, take}
+use Prim.Native.Nat.{ℕ, suc, _*_, _^_, _<_}
+use lib.ListN.{take}
 use Rattle.field.proofs.WordLists.{length-table}
 use Rattle.code.specs.Decoding.{consistent}
 use Rattle.vault.specs.declared.Header.{Header}

@@ -2,7 +2,7 @@
 use mathlib.Core.Path.{_≡_, refl, sym, ap, _∙_}
 use mathlib.Core.Bool.{Bool, true, false}
 use mathlib.Core.List.{List}
-use Prim.Native.Nat.{ℕ, zero, suc, _-_, _^_, _≤_, _<_}
+use Prim.Native.Nat.{ℕ, suc, _-_, _^_, _≤_, _<_}
 use native.Mathlib.Omega.{arith}
 use lib.Dec.{ltb}
 use lib.ListN.{length}
@@ -11,8 +11,8 @@ use Rattle.vault.specs.declared.Header.{Header}
 use Rattle.vault.specs.Header.{modulusOf, isFilled}
 use Rattle.vault.specs.Erasures.{Erasure, marksOf}
 use Rattle.vault.specs.Decoding.{Decoded, failed, decoded, loaded, areBelow, areRecords, decodeMarked, decodeStripe}
-use Rattle.vault.specs.Recovery.{Recovered, stopped, recovered, laid, thenLay, levelsOver}
-use Rattle.vault.specs.Calls.{decodedNumber, answerOf, wordsOf}
+use Rattle.vault.specs.Recovery.{stopped, recovered, laid, thenLay, levelsOver}
+use Rattle.vault.specs.Calls.{decodedNumber}
 use Rattle.vault.specs.StripeTrace.{isConsistent, blocksIn}
 
 -- WHAT A STRIPE DECODED TO, by its number
@@ -40,7 +40,7 @@ decoded-is h m ms l q z =
 
 -- ONE LEVEL MORE
 module _ (h : Header) (m : List ℕ) (gs : List Erasure) (l : ℕ) (o : List ℕ) where
-  pub level-empty : isFilled h l ≡ false → levelsOver (suc l) h m gs o ≡ levelsOver l h m gs o
+  level-empty : isFilled h l ≡ false → levelsOver (suc l) h m gs o ≡ levelsOver l h m gs o
   unfolding levelsOver
   level-empty e = rw (e, levelsOver)
 
@@ -48,11 +48,11 @@ module _ (h : Header) (m : List ℕ) (gs : List Erasure) (l : ℕ) (o : List ℕ
   unfolding levelsOver
   filled-level e = rw (e, levelsOver)
 
-  pub level-fails : {r : ℕ} → isFilled h l ≡ true → r ≡ decodedNumber (decodeStripe h m gs l) → (r ≡ 0 → ⊥) → levelsOver (suc l) h m gs o ≡ stopped r l
+  level-fails : {r : ℕ} → isFilled h l ≡ true → r ≡ decodedNumber (decodeStripe h m gs l) → (r ≡ 0 → ⊥) → levelsOver (suc l) h m gs o ≡ stopped r l
   level-fails e q d =
       filled-level e ∙ ap (λ (x : Decoded). thenLay l x (λ (bs : List ℕ). levelsOver l h m gs (laid h bs (2 ^ l) o))) (failed-is (decodeStripe h m gs l) q d)
 
-  pub level-laid : {r : ℕ} → isFilled h l ≡ true → r ≡ decodedNumber (decodeStripe h m gs l) → r ≡ 0
+  level-laid : {r : ℕ} → isFilled h l ≡ true → r ≡ decodedNumber (decodeStripe h m gs l) → r ≡ 0
       → levelsOver (suc l) h m gs o ≡ levelsOver l h m gs (laid h (blocksIn h m (marksOf h gs l) l) (2 ^ l) o)
   level-laid e q z =
       filled-level e ∙ ap (λ (x : Decoded). thenLay l x (λ (bs : List ℕ). levelsOver l h m gs (laid h bs (2 ^ l) o))) (decoded-is h m (marksOf h gs l) l q z)

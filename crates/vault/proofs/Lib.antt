@@ -1,5 +1,6 @@
 pub mod BlockLaying
 pub mod BlockRecords
+pub mod Boundary
 pub mod Bounds
 pub mod Bytes
 pub mod Calls

@@ -1,18 +1,17 @@
 -- Ranges of columns copied to rows that lack the first `skip` columns, and the numbers that they give. Assumes nothing.
 use mathlib.Core.Path.{_≡_, refl, sym, ap, _∙_}
-use mathlib.Core.Bool.{Bool, true, false, _&&_}
-use mathlib.Core.List.{List, _++_}
+use mathlib.Core.Bool.{Bool, true, false}
+use mathlib.Core.List.{List}
 use Prim.Native.Nat.{ℕ, zero, suc, _+_, _*_, _-_, _^_, _≤_, _<_, max}
 use native.Mathlib.Decide.{decLt}
 use native.Mathlib.Omega.{arith}
 use borrow.Author.Tests.{eq-eqb, ne-eqb}
-use lib.Dec.{eqb}
-use lib.ListN.{length, getD, take}
+use lib.ListN.{getD, take}
 use lib.Seq.{getD-take}
 use lib.Arith.{digits-lt}
 use Rattle.vault.specs.declared.Header.{Header}
 use Rattle.vault.specs.Header.{width}
-use Rattle.vault.specs.StripeTrace.{columnsOf, copiedRows, placesTo, RangeFits, blocksIn, isConsistentRange, placesNumber, rangeNumber, columnsNumber}
+use Rattle.vault.specs.StripeTrace.{columnsOf, copiedRows, placesTo, RangeFits, blocksIn, isConsistentRange, placesNumber, rangeNumber}
 use Rattle.vault.proofs.Ranges.{columns-at}
 use Rattle.vault.proofs.CopiedRows.{copied-same}
 use Rattle.vault.proofs.BlockRecords.{places-same}
@@ -65,14 +64,14 @@ module _ (w from cols n : ℕ) (x bs : List ℕ) (e : take (n * cols) x ≡ colu
   range-word : (i j : ℕ) → i < n → j < cols → getD x (i * cols + j) 0 ≡ getD bs (i * w + (from + j)) 0
   range-word i j a b = sym (getD-take (n * cols) x (i * cols + j) 0 (digits-lt a b)) ∙ ap (λ (l : List ℕ). getD l (i * cols + j) 0) e ∙ columns-at w from cols n bs i j a b
 
-  pub copied-range : (to cw g count : ℕ) (o : List ℕ) → from ≤ g → g + count ≤ from + cols
+  copied-range : (to cw g count : ℕ) (o : List ℕ) → from ≤ g → g + count ≤ from + cols
       → copiedRows to cw (g - from) cols count x n o ≡ copiedRows to cw g w count bs n o
   copied-range to cw g count o b t =
       copied-same to cw (g - from) cols g w count x bs n o
       (λ i j a c. ap (λ (q : ℕ). getD x q 0) {x = g - from + i * cols + j} {y = i * cols + (g - from + j)} (omega arith) ∙ range-word i (g - from + j) a (omega arith)
       ∙ ap (λ (q : ℕ). getD bs q 0) {x = i * w + (from + (g - from + j))} {y = g + i * w + j} (omega arith))
 
-  pub range-places : (skip : ℕ) → 0 < cols → rangeNumber from skip true (placesTo cols x n) ≡ rangeNumber from skip true (placesTo w bs n)
+  range-places : (skip : ℕ) → 0 < cols → rangeNumber from skip true (placesTo cols x n) ≡ rangeNumber from skip true (placesTo w bs n)
   range-places skip z = by (decLt 0 from)
     where
       by : Dec (0 < from) → rangeNumber from skip true (placesTo cols x n) ≡ rangeNumber from skip true (placesTo w bs n)

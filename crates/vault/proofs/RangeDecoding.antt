@@ -1,16 +1,14 @@
 -- A range of columns decoded: what is loaded, and what decoding leaves, in terms of the whole stripe. Assumes nothing.
-use mathlib.Core.Path.{_≡_, refl, sym, ap, ap₂, _∙_}
+use mathlib.Core.Path.{_≡_, refl, ap, ap₂, _∙_}
 use mathlib.Core.Bool.{Bool, true, false}
 use mathlib.Core.List.{List, _++_, append-assoc}
-use Prim.Native.Nat.{ℕ, suc, _+_, _*_, _^_, _≤_, _<_}
+use Prim.Native.Nat.{ℕ, suc, _+_, _*_, _^_, _≤_}
 use native.Mathlib.Omega.{arith}
 use lib.Dec.{lit<}
 use lib.ListN.{length, take, drop, replicate, length-append, length-replicate}
 use lib.Seq.{take-at, drop-at}
 use Rattle.field.specs.Words.{Words, table}
-use Rattle.field.specs.Field.{Root}
 use Rattle.field.proofs.WordLists.{length-table, words-append}
-use Rattle.field.proofs.Primes.{fermat-root}
 use Rattle.code.specs.Decoding.{consistent, decodedRows, decodeLeaves}
 use Rattle.code.specs.Decoder.{weights, weightAt}
 use Rattle.code.proofs.DecodeRows.{leaves-blocks, leaves-zeros}
@@ -21,7 +19,7 @@ use Rattle.vault.specs.Decoding.{loaded}
 use Rattle.vault.specs.LoadTrace.{loadedWord}
 use Rattle.vault.specs.StripeTrace.{columnsOf, Ready, blocksIn, isConsistentRange, weightsIn}
 use Rattle.vault.proofs.StripeLoads.{range, range-at, range-words}
-use Rattle.vault.proofs.Ranges.{length-columns, is-columns, consistent-range, decoded-range, length-decoded}
+use Rattle.vault.proofs.Ranges.{length-columns, is-columns, decoded-range, length-decoded}
 
 -- what decoding leaves is as long as the rows
 length-leaves : (p w k l t cols : ℕ) (ms : List Bool) (r : List ℕ) → length (decodeLeaves p w k l t cols ms r) ≡ 2 ^ suc l * cols

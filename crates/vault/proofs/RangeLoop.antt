@@ -1,12 +1,10 @@
 -- All columns of a stripe decoded range by range: what holds before each range, and what a range that is taken makes of it. Assumes nothing.
 use mathlib.Core.Path.{_≡_, refl, sym, ap, ap₂, _∙_}
-use mathlib.Core.Bool.{Bool, true, false, _&&_}
+use mathlib.Core.Bool.{Bool, true, false}
 use mathlib.Core.List.{List, _++_}
 use Prim.Native.Nat.{ℕ, zero, suc, _+_, _*_, _-_, _%_, _^_, _≤_, _<_, max}
-use native.Mathlib.Nat.{mul-le-mul-right}
 use native.Mathlib.Decide.{decLt}
 use native.Mathlib.Omega.{arith}
-use borrow.Author.Tests.{eqb-true}
 use lib.Arith.{digits-lt, digits-mod}
 use lib.ListN.{length, getD, take, drop, length-drop, take-append-drop}
 use lib.Seq.{length-take-le, getD-take, getD-drop, ext-getD}
@@ -27,7 +25,7 @@ pub record Filled (w skip from n : ℕ) (bs o₀ o : List ℕ) : Type 0 where
   pub filled : (i j : ℕ) → i < n → j < w - skip → skip + j < from → getD o (i * (w - skip) + j) 0 ≡ getD bs (i * w + (skip + j)) 0
   pub rest : (q : ℕ) → n * (w - skip) ≤ q → getD o q 0 ≡ getD o₀ q 0
 
-pub filled-none : (w skip n : ℕ) (bs o : List ℕ) → Filled w skip 0 n bs o o
+filled-none : (w skip n : ℕ) (bs o : List ℕ) → Filled w skip 0 n bs o o
 filled-none w skip n bs o = record { same = refl; filled = λ i j a b c. absurd (omega arith); rest = λ q b. refl }
 
 -- words of different columns stand apart
@@ -55,14 +53,14 @@ module _ {w skip from n : ℕ} {bs o₀ o : List ℕ} (F : Filled w skip from n 
       ∙ copied-at (g - skip) (w - skip) g w (from + cols - g) bs inside n o (omega (arith, F .same)) i d a (omega arith)
       ∙ ap (λ (q : ℕ). getD bs q 0) {x = g + i * w + d} {y = i * w + (skip + j)} (omega arith)
 
-  pub filled-more : {o′ : List ℕ} → o′ ≡ next → Filled w skip (from + cols) n bs o₀ o′
+  filled-more : {o′ : List ℕ} → o′ ≡ next → Filled w skip (from + cols) n bs o₀ o′
   filled-more {o′} e = rw e (record {
     same = length-copied (g - skip) (w - skip) g w (from + cols - g) bs n o ∙ F .same;
     filled = λ i j a b c. at i j a b c (decLt (skip + j) from);
     rest = λ q b. copied-off (g - skip) (w - skip) g w (from + cols - g) bs inside n o q (λ i j a c t. let u : i * (w - skip) + (g - skip + j) < n * (w - skip) = digits-lt a (omega (arith, inside)) in omega arith) ∙ F .rest q b;
   })
 
-pub filled-all : {w skip n : ℕ} {bs o₀ o : List ℕ} → Filled w skip w n bs o₀ o → skip < w → n * (w - skip) ≤ length o₀ → o ≡ columnsOf w skip (w - skip) n bs ++ drop (n * (w - skip)) o₀
+filled-all : {w skip n : ℕ} {bs o₀ o : List ℕ} → Filled w skip w n bs o₀ o → skip < w → n * (w - skip) ≤ length o₀ → o ≡ columnsOf w skip (w - skip) n bs ++ drop (n * (w - skip)) o₀
 filled-all {w} {skip} {n} {bs} {o₀} {o} F z room =
     let m = n * (w - skip) in
     sym (take-append-drop m o)

@@ -1,18 +1,17 @@
 -- Ranges of columns: a stripe is consistent if each range of its columns is, and the blocks of a range are those columns of the blocks. Assumes nothing.
-use mathlib.Core.Path.{_≡_, refl, sym, ap, ap₂, _∙_}
-use mathlib.Core.Bool.{Bool, true, false, _&&_, and-assoc}
-use mathlib.Core.List.{List, _++_}
-use Prim.Native.Nat.{ℕ, zero, suc, _+_, _*_, _/_, _%_, _^_, _≤_, _<_}
-use native.Mathlib.Nat.{add-zero, add-suc, zero-add}
+use mathlib.Core.Path.{_≡_, sym, ap, _∙_}
+use mathlib.Core.Bool.{Bool, _&&_, and-assoc}
+use mathlib.Core.List.{List}
+use Prim.Native.Nat.{ℕ, zero, suc, _+_, _*_, _^_, _≤_, _<_}
+use native.Mathlib.Nat.{add-zero, add-suc}
 use native.Mathlib.Omega.{arith}
 use lib.ListN.{length, getD}
 use lib.Seq.{ext-getD}
 use lib.Arith.{digits-lt, digits-div, digits-mod}
-use Rattle.field.specs.Words.{Words, table}
-use Rattle.field.proofs.WordLists.{length-table, getD-table, words-table}
+use Rattle.field.proofs.WordLists.{length-table, getD-table}
 use Rattle.code.specs.Rows.{column, lifted}
-use Rattle.code.specs.Decoding.{consistentColumn, consistentTo, consistent, decodedColumn, decodedRows}
-use Rattle.code.proofs.Lifting.{length-column, column-at, length-lifted, lifted-at, is-lifted, rows-ext}
+use Rattle.code.specs.Decoding.{consistentTo, consistent, decodedColumn, decodedRows}
+use Rattle.code.proofs.Lifting.{length-column, column-at, length-lifted, lifted-at, rows-ext}
 use Rattle.vault.specs.StripeTrace.{columnsWord, columnsOf}
 
 module _ (width from cols n : ℕ) (r : List ℕ) where
@@ -29,12 +28,8 @@ module _ (width from cols n : ℕ) (r : List ℕ) where
       → l ≡ columnsOf width from cols n r
   is-columns l e f = rows-ext cols n l (columnsOf width from cols n r) e length-columns (λ i j h b. f i j h b ∙ sym (columns-at i j h b))
 
-  pub words-columns : (p : ℕ) → 0 < p → Words p r → Words p (columnsOf width from cols n r)
-  unfolding columnsOf columnsWord
-  words-columns p h w = words-table p h (n * cols) (columnsWord width from cols r) (λ q b. w .word _)
-
   -- one column of the range
-  pub column-of : (j : ℕ) → j < cols → column cols n j (columnsOf width from cols n r) ≡ column width n (from + j) r
+  column-of : (j : ℕ) → j < cols → column cols n j (columnsOf width from cols n r) ≡ column width n (from + j) r
   column-of j b =
       ext-getD 0 (column cols n j (columnsOf width from cols n r)) (column width n (from + j) r) (length-column cols n j (columnsOf width from cols n r) ∙ sym (length-column width n (from + j) r))
       (λ i h. let h′ : i < n = rw length-column at h in column-at cols n j (columnsOf width from cols n r) i h′ ∙ columns-at i j h′ b ∙ sym (column-at width n (from + j) r i h′))

@@ -2,7 +2,7 @@
 use mathlib.Core.Path.{_≡_, refl, sym, ap, _∙_}
 use mathlib.Core.List.{List}
 use Prim.Native.Nat.{ℕ}
-use lib.ListN.{length, replicate}
+use lib.ListN.{replicate}
 use Rattle.vault.specs.declared.Header.{Header}
 use Rattle.vault.specs.declared.Recovery.{Recovery}
 use Rattle.vault.specs.Header.{count, rawSize, scratchSize}

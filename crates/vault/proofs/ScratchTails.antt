@@ -1,5 +1,5 @@
 -- The last words of the scratch lent: the words of a range of columns, and behind them the weights, which stay. Assumes nothing.
-use mathlib.Core.Path.{_≡_, refl, sym, ap, _∙_}
+use mathlib.Core.Path.{_≡_, sym, ap, _∙_}
 use mathlib.Core.List.{List, _++_, append-nil}
 use Prim.Native.Nat.{ℕ, suc, _+_, _*_, _-_, _^_, _≤_}
 use native.Mathlib.Omega.{arith}
@@ -11,13 +11,17 @@ use lib.Seq.{take-all, drop-drop, drop-at, length-take-le}
 pub span : (l cols w r : ℕ) → w ≡ cols → r ≡ 2 ^ l → 2 * r * (w + 1) ≡ 2 ^ suc l * cols + 2 ^ suc l
 span l cols w r a e = let d : 2 ^ suc l ≡ 2 * 2 ^ l = omega arith in rw (a, e, d) (omega arith)
 
+-- half of the rows is less
+pub half-span : (l cols : ℕ) → 2 ^ l * cols ≤ 2 ^ suc l * cols + 2 ^ suc l
+half-span l cols = let d : 2 ^ suc l ≡ 2 ^ l + 2 ^ l = omega arith in rw d (omega arith)
+
 -- the last words of l, from `start` on: `cols` words for each of so many rows, and one more for each
 pub record Tail (l : List ℕ) (size start cols rows : ℕ) : Type 0 where
   pub long : length l ≡ size
   pub begins : start + (rows * cols + rows) ≡ size
 
 module _ {l : List ℕ} {size start cols rows : ℕ} (T : Tail l size start cols rows) where
-  pub tail-is : take (length l - start) (drop start l) ≡ drop start l
+  tail-is : take (length l - start) (drop start l) ≡ drop start l
   tail-is = take-all (length l - start) (drop start l) (omega (arith, length-drop start l))
 
   pub tail-long : length (take (length l - start) (drop start l)) ≡ rows * cols + rows
@@ -28,13 +32,13 @@ module _ {l : List ℕ} {size start cols rows : ℕ} (T : Tail l size start cols
 
   module _ (x : List ℕ) where
     -- the list once the words come back as x
-    pub put-is : putMid start (length l - start) l x ≡ take start l ++ x
+    put-is : putMid start (length l - start) l x ≡ take start l ++ x
     put-is = ap (λ (r : List ℕ). take start l ++ (x ++ r)) (drop-of-length-le (drop start l) {i = length l - start} (omega (arith, length-drop start l))) ∙ ap (λ (r : List ℕ). take start l ++ r) (append-nil x)
 
     front-long : length (take start l) ≡ start
     front-long = length-take-le start l (omega (arith, T .long, T .begins))
 
-    pub put-tail : drop start (putMid start (length l - start) l x) ≡ x
+    put-tail : drop start (putMid start (length l - start) l x) ≡ x
     put-tail = ap (drop start) put-is ∙ drop-at (take start l) x start front-long
 
     pub put-weights : drop (rows * cols) x ≡ drop (rows * cols) (take (length l - start) (drop start l)) → drop (size - rows) (putMid start (length l - start) l x) ≡ drop (size - rows) l

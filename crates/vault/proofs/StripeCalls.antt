@@ -2,26 +2,28 @@
 use mathlib.Core.Path.{_≡_, refl, sym, ap, ap₂, _∙_}
 use mathlib.Core.Bool.{Bool, true, false}
 use mathlib.Core.List.{List, _++_}
-use Prim.Native.Nat.{ℕ, zero, suc, _+_, _*_, _-_, _^_, _≤_, _<_}
+use Prim.Native.Nat.{ℕ, _+_, _*_, _-_, _^_, _≤_}
 use native.Mathlib.Nat.{mul-le-mul-right}
 use native.Mathlib.Omega.{arith}
 use lib.Pow.{pow-mono}
-use lib.ListN.{length, take, drop, replicate, length-append, length-replicate, replicate-append-replicate}
+use lib.ListN.{length, take, drop, replicate, length-replicate, replicate-append-replicate}
 use lib.Seq.{take-at, drop-at}
 use Rattle.vault.specs.declared.Header.{Header}
-use Rattle.vault.specs.Header.{vaultRoot, width, count, outSize, firstOf}
+use Rattle.vault.specs.Header.{headerFits, imageSize, vaultRoot, width, outSize, firstOf}
 use Rattle.vault.specs.Erasures.{Erasure, markAt, marksOf}
-use Rattle.vault.specs.Decoding.{Decoded, failed, decoded, loaded, areRecords, decodeMarked}
+use Rattle.vault.specs.Decoding.{Decoded, decoded, loaded, areRecords, decodeMarked}
 use Rattle.vault.specs.Calls.{decodedNumber, decodedWords}
-use Rattle.vault.specs.StripeTrace.{columnsOf, Ready, readyNumber, isConsistent, blocksIn, placesNumber, columnsNumber}
+use Rattle.vault.specs.StripeTrace.{columnsOf, Ready, readyNumber, isConsistent, blocksIn, columnsNumber}
 use Rattle.vault.proofs.Marking.{length-flags}
 use Rattle.vault.proofs.Ranges.{columns-all, length-decoded}
 use Rattle.vault.proofs.RangeCopies.{places-kept}
 use Rattle.vault.proofs.RangeLoop.{columns-fail, columns-agree}
-use Rattle.vault.proofs.StripeTests.{decoded-unready, decoded-nine, decoded-ten, decoded-blocks}
+use Rattle.vault.proofs.StripeTests.{ready, decoded-unready, decoded-nine, decoded-ten, decoded-blocks}
 
-pub length-marks : (h : Header) (gs : List Erasure) (l : ℕ) → length (marksOf h gs l) ≡ 2048
-length-marks h gs l = length-flags 0 2048 (markAt h gs l)
+-- a stripe that is prepared. x are the marks that it was prepared with, and n its number
+pub prepared : (h : Header) (m : List ℕ) (gs : List Erasure) (l : ℕ) {x : List Bool} {n : ℕ} → headerFits h ≡ true → l ≤ h .k → length m ≡ imageSize h → x ≡ marksOf h gs l
+    → n ≡ readyNumber h m (marksOf h gs l) l → n ≡ 0 → Ready h m x l
+prepared h m gs l f w s e q z = rw e (ready h m (marksOf h gs l) l f w s (length-flags 0 2048 (markAt h gs l)) (sym q ∙ z))
 
 pub length-blocks : (h : Header) (m : List ℕ) (ms : List Bool) (l : ℕ) → length (blocksIn h m ms l) ≡ 2 ^ l * width h
 length-blocks h m ms l = length-decoded 65537 (vaultRoot h) (h .k) l (firstOf h l) ms (width h) (loaded h m ms l)

@@ -1,13 +1,13 @@
 -- Where a stripe stands in the image, and the write number of its first block. Assumes nothing.
-use mathlib.Core.Path.{_≡_, refl, sym, ap, _∙_}
+use mathlib.Core.Path.{_≡_, ap, _∙_}
 use mathlib.Core.Logic.{⊎-elim}
-use Prim.Native.Nat.{ℕ, zero, suc, _+_, _*_, _-_, _/_, _%_, _^_, _≤_, _<_}
+use Prim.Native.Nat.{ℕ, suc, _+_, _*_, _-_, _/_, _%_, _^_, _≤_, _<_}
 use native.Mathlib.Nat.{div-mul-le-self, eq-or-lt-of-le, mul-mod-left, mul-le-mul, mul-le-mul-right, zero-mod}
 use native.Mathlib.Omega.{arith}
 use borrow.Author.Tests.{eq-eqb, ne-eqb}
 use lib.Pow.{pow-pos, pow-mono}
 use Rattle.vault.specs.declared.Header.{Header}
-use Rattle.vault.specs.Header.{count, width, fullSize, logSize, scratchSize, imageSize, levelAt, firstOf, stripeAt}
+use Rattle.vault.specs.Header.{count, width, fullSize, scratchSize, imageSize, levelAt, firstOf, stripeAt}
 use Rattle.vault.proofs.Bounds.{Fits}
 
 level-size : (m s : ℕ) → 2 ≤ m → (m - 2) * suc s + 2 * suc s ≡ m * suc s

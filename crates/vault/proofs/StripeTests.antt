@@ -2,13 +2,13 @@
 use mathlib.Core.Path.{_≡_, refl, sym, ap, _∙_}
 use mathlib.Core.Bool.{Bool, true, false}
 use mathlib.Core.List.{List}
-use Prim.Native.Nat.{ℕ, suc, _+_, _*_, _-_, _^_, _≤_, _<_}
+use Prim.Native.Nat.{ℕ, suc, _*_, _^_, _≤_, _<_}
 use native.Mathlib.Omega.{arith}
 use borrow.Author.Tests.{lt-ltb, le-ltb, ltb-false}
 use lib.Dec.{ltb}
 use lib.ListN.{length}
 use Rattle.field.specs.Words.{table}
-use Rattle.code.specs.Decoding.{survivors, consistent}
+use Rattle.code.specs.Decoding.{survivors}
 use Rattle.code.specs.Decoder.{erasedCount}
 use Rattle.vault.specs.declared.Header.{Header}
 use Rattle.vault.specs.Header.{modulusOf, headerFits, imageSize, width, stripeAt}
@@ -40,7 +40,7 @@ module _ (h : Header) (m : List ℕ) (ms : List Bool) (l : ℕ) where
   pub too-few : 2 ^ l < erasedCount l ms → readyNumber h m ms l ≡ 7
   too-few b = rw (lt-ltb (length (survivors l ms)) (2 ^ l) (omega arith), readyNumber)
 
-  pub not-few : erasedCount l ms ≤ 2 ^ l → ltb (length (survivors l ms)) (2 ^ l) ≡ false
+  not-few : erasedCount l ms ≤ 2 ^ l → ltb (length (survivors l ms)) (2 ^ l) ≡ false
   not-few b = le-ltb (length (survivors l ms)) (2 ^ l) (omega arith)
 
   -- 8: a surviving word is not of the field

@@ -15,3 +15,4 @@ pub mod WriteTrace
 pub mod MarkTrace
 pub mod LoadTrace
 pub mod StripeTrace
+pub mod Boundary

@@ -3,7 +3,7 @@
 use mathlib.Core.Path.{_≡_}
 use mathlib.Core.Bool.{Bool, true, false, _&&_}
 use mathlib.Core.List.{List}
-use Prim.Native.Nat.{ℕ, zero, suc, _+_, _*_, _/_, _%_, _^_, _≤_, _<_}
+use Prim.Native.Nat.{ℕ, zero, suc, _+_, _*_, _/_, _%_, _-_, _^_, _≤_, _<_, max}
 use lib.Dec.{ltb, eqb}
 use lib.ListN.{length, getD}
 use Rattle.field.specs.Words.{table}
@@ -13,8 +13,7 @@ use Rattle.code.specs.Decoder.{weights}
 use Rattle.code.specs.Promises.{Enough}
 use Rattle.vault.specs.declared.Header.{Header}
 use Rattle.vault.specs.Header.{headerFits, imageSize, scratchSize, modulusOf, vaultRoot, width, firstOf}
-use Rattle.vault.specs.Decoding.{Decoded, failed, decoded, loaded, areBelow}
-use Rattle.vault.specs.Recovery.{laid}
+use Rattle.vault.specs.Decoding.{loaded, areBelow}
 
 -- THE COLUMNS `from` up to `from + cols` of n rows of `width` words
 unfoldable pub columnsWord : (width from cols : ℕ) → (rows : List ℕ) → (q : ℕ) → ℕ
@@ -83,3 +82,12 @@ rangeNumber from skip c b = elim c [ true ↦ elim (eqb from 0) [ true ↦ place
 
 unfoldable pub columnsNumber : (skip : ℕ) → (isConsistent places : Bool) → ℕ
 columnsNumber skip c b = elim c [ true ↦ placesNumber skip b | false ↦ 9 ]
+
+-- whether the number of each block is its place
+abbrev pub arePlaces : Header → (image : List ℕ) → (marks : List Bool) → (stripe : ℕ) → Bool
+arePlaces h m ms l = placesTo (width h) (blocksIn h m ms l) (2 ^ l)
+
+-- the blocks' words of a range of columns in their columns of rows that lack the first `skip`
+abbrev pub rangeTaken : Header → (image : List ℕ) → (marks : List Bool) → (stripe from cols skip : ℕ) → (out : List ℕ) → List ℕ
+rangeTaken h m ms l from cols skip o =
+    copiedRows (max from skip - skip) (width h - skip) (max from skip) (width h) (from + cols - max from skip) (blocksIn h m ms l) (2 ^ l) o

@@ -7,7 +7,7 @@ ghost use Prim.Native.Nat.{_+_, _*_, _-_, _^_, _≤_, _<_, suc, max};
 ghost use lib.ListN.{length, take, drop};
 ghost use Rattle.code.specs.RowTrace.{stored};
 ghost use Rattle.vault.specs.Header.{headerFits, scratchSize, width, firstOf, stripeAt};
-ghost use Rattle.vault.specs.StripeTrace.{columnsOf, placesTo, wordFrom, copiedRows, Ready, RangeFits, isConsistent, blocksIn, isConsistentRange, weightsIn, rangeNumber, columnsNumber};
+ghost use Rattle.vault.specs.StripeTrace.{columnsOf, placesTo, wordFrom, copiedRows, Ready, RangeFits, isConsistent, blocksIn, isConsistentRange, arePlaces, rangeTaken, weightsIn, rangeNumber, columnsNumber};
 
 // The write number of a stripe's first block.
 fn first_of(header: Header, level: usize) -> usize
@@ -182,25 +182,16 @@ fn decode_range(
     requires { ⌜ drop (scratchSize header - 2 ^ suc level) (now scratch) ≡ weightsIn header (now marks) level ⌝ }
     ensures { λ r. ⌜ r ≡
         rangeNumber from skip (isConsistentRange header (now (image .entry)) (now (marks .entry)) level from cols)
-        (placesTo (width header) (blocksIn header (now (image .entry)) (now (marks .entry)) level) (2 ^ level)) ⌝ }
+        (arePlaces header (now (image .entry)) (now (marks .entry)) level) ⌝ }
     ensures { λ _. ⌜ (isConsistentRange header (now (image .entry)) (now (marks .entry)) level from cols ≡ true →
-        now (out .exit) ≡
-        copiedRows (max from skip - skip) (width header - skip) (max from skip) (width header) (from + cols - max from skip)
-        (blocksIn header (now (image .entry)) (now (marks .entry)) level) (2 ^ level) (now (out .entry))) ⌝ }
+        now (out .exit) ≡ rangeTaken header (now (image .entry)) (now (marks .entry)) level from cols skip (now (out .entry))) ⌝ }
     ensures { λ _. ⌜ drop (scratchSize header - 2 ^ suc level) (now (scratch .exit)) ≡ drop (scratchSize header - 2 ^ suc level) (now (scratch .entry)) ⌝ }
 {
     let rows = code::number::two_to(level);
     let width = header.s as usize + 1;
     let start = scratch.len() - 2 * rows * (cols + 1);
-    if !decode_columns(
-        header,
-        image,
-        marks,
-        level,
-        from,
-        cols,
-        &mut scratch[start..],
-    ) {
+    let part = &mut scratch[start..];
+    if !decode_columns(header, image, marks, level, from, cols, part) {
         return 9;
     }
     take_range(&scratch[start..], rows, from, cols, skip, width, out)
@@ -223,7 +214,7 @@ pub(crate) fn decode_all(
     requires { ⌜ drop (scratchSize header - 2 ^ suc level) (now scratch) ≡ weightsIn header (now marks) level ⌝ }
     ensures { λ r. ⌜ r ≡
         columnsNumber skip (isConsistent header (now (image .entry)) (now (marks .entry)) level)
-        (placesTo (width header) (blocksIn header (now (image .entry)) (now (marks .entry)) level) (2 ^ level)) ⌝ }
+        (arePlaces header (now (image .entry)) (now (marks .entry)) level) ⌝ }
     ensures { λ _. ⌜ (isConsistent header (now (image .entry)) (now (marks .entry)) level ≡ true →
         now (out .exit) ≡
         columnsOf (width header) skip (width header - skip) (2 ^ level) (blocksIn header (now (image .entry)) (now (marks .entry)) level) ++

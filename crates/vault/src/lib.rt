@@ -1,4 +1,5 @@
 // The press record vault: the calls of document 01, each proved for every input.
+pub mod capi;
 mod columns;
 mod erasures;
 pub mod images;

@@ -1,7 +1,7 @@
 -- `vault::columns::decode_range` meets its contract. Assumes nothing.
-use mathlib.Core.Path.{_≡_, refl, sym, ap, _∙_}
+use mathlib.Core.Path.{_≡_, refl, sym, _∙_}
 use mathlib.Core.Bool.{false≢true}
-use Prim.Native.Nat.{ℕ, suc, _+_, _*_, _-_, _^_, _≤_, max}
+use Prim.Native.Nat.{suc, _+_, _*_, _-_, _^_, max}
 use native.Mathlib.Numerals.{add-one}
 use native.Mathlib.Omega.{arith}
 use borrow.Author.Needs.{needs}
@@ -11,7 +11,7 @@ use lib.ListN.{length, take, drop}
 use Rattle.vault.specs.Header.{scratchSize, width}
 use Rattle.vault.specs.StripeTrace.{placesTo, copiedRows, isConsistentRange, blocksIn, rangeNumber}
 use Rattle.vault.proofs.Bounds.{fits}
-use Rattle.vault.proofs.ScratchTails.{Tail, span, tail-is, tail-long, tail-weights, put-weights, lent-again}
+use Rattle.vault.proofs.ScratchTails.{Tail, span, half-span, tail-long, tail-weights, put-weights, lent-again}
 use Rattle.vault.proofs.RangeCopies.{range-fails, range-taken}
 use Rattle.vault.proofs.columns.decode_range.Statement.{statement}
 use Rattle.vault.proofs.columns.decode_range.Tie as tie
@@ -45,17 +45,17 @@ mul-start-2 c = omega (arith, span-is c, c .before .before .before .before .befo
 sub-start : tie.Need-sub-start
 sub-start c = omega (arith, span-is c, c .before .before .before .before .before .before .pre .1 .0 .0 .room, c .before .before .before .before .before .before .pre .1 .1 .1 .0)
 
-mul-decode-columns : tie.Need-mul-decode-columns
-mul-decode-columns c = search needs
+mul-part : tie.Need-mul-part
+mul-part c = search needs
 
-sub-decode-columns : tie.Need-sub-decode-columns
-sub-decode-columns c = search needs
+sub-part : tie.Need-sub-part
+sub-part c = search needs
 
-part-decode-columns-start : tie.Need-part-decode-columns-start
-part-decode-columns-start c = search needs
+part-part-start : tie.Need-part-part-start
+part-part-start c = search needs
 
-part-decode-columns-end : tie.Need-part-decode-columns-end
-part-decode-columns-end c = search needs
+part-part-end : tie.Need-part-part-end
+part-part-end c = search needs
 
 decode-columns-requires : tie.Need-decode-columns-requires
 decode-columns-requires c κs =
@@ -91,16 +91,13 @@ words-are : (c : tie.After-decode-columns) → let l = c .before .before .before
     let l′ = putMid start (length l - start) l x in take (length l′ - start) (drop start l′) ≡ x
 words-are c = lent-again (tail (c .before .before)) _ (c .decode-columns .kept .1 .1 .1 .1 .1 .1 .0)
 
-halves : (l cols : ℕ) → 2 ^ l * cols ≤ 2 ^ suc l * cols + 2 ^ suc l
-halves l cols = let d : 2 ^ suc l ≡ 2 ^ l + 2 ^ l = omega arith in rw d (omega arith)
-
 take-range-requires : tie.Need-take-range-requires
 take-range-requires c κs =
     let s = c .before .before .before .before .before .before .before .before .before .before .before .before .before .before in
     let f = s .pre .1 .0 .0 in (
       (f .some, rw (add-one (s .args .header .s)) (f .within), s .pre .1 .0 .1),
       (
-        rw (words-are (c .before .before .before .before .before .before), c .before .before .before .before .before .before .before .before .before .two-to .ensures, c .before .before .before .before .before .before .decode-columns .kept .1 .1 .1 .1 .1 .1 .0, tail-long (tail (c .before .before .before .before .before .before .before .before))) (halves (s .args .level) (s .args .cols)),
+        rw (words-are (c .before .before .before .before .before .before), c .before .before .before .before .before .before .before .before .before .two-to .ensures, c .before .before .before .before .before .before .decode-columns .kept .1 .1 .1 .1 .1 .1 .0, tail-long (tail (c .before .before .before .before .before .before .before .before))) (half-span (s .args .level) (s .args .cols)),
         rw (c .before .before .before .before .before .before .before .before .before .two-to .ensures, add-one (s .args .header .s)) (s .pre .1 .1 .0),
       ),
     )
@@ -141,10 +138,10 @@ decode-range-spec =
     add-start
     mul-start-2
     sub-start
-    mul-decode-columns
-    sub-decode-columns
-    part-decode-columns-start
-    part-decode-columns-end
+    mul-part
+    sub-part
+    part-part-start
+    part-part-end
     decode-columns-requires
     same-length
     returns

@@ -11,9 +11,7 @@ use Rattle.vault.proofs.StripePlaces.{first-full, first-level}
 use borrow.Author.Needs.{needs}
 -- `vault::columns::first_of` meets its contract. Assumes nothing.
 use native.Mathlib.Omega.{arith}
-use borrow.Author.Tests.{eq-eqb, ne-eqb}
 use lib.Pow.{pow-pos}
-use Rattle.vault.specs.Header.{firstOf}
 use Rattle.vault.proofs.Bounds.{fits}
 use borrow.Author.Needs.{needs}
 use Rattle.vault.proofs.columns.first_of.Statement.{statement}

@@ -1,7 +1,7 @@
 -- `vault::columns::take_range` meets its contract. Assumes nothing.
-use mathlib.Core.Path.{_≡_, sym, ap, _∙_}
+use mathlib.Core.Path.{_≡_, sym, _∙_}
 use mathlib.Core.Bool.{Bool, true, false}
-use Prim.Native.Nat.{ℕ, _+_, _-_, max}
+use Prim.Native.Nat.{_+_, _-_, max}
 use Rattle.vault.specs.StripeTrace.{copiedRows, placesTo, rangeNumber}
 use Rattle.vault.proofs.RangeCopies.{range-first, range-later, places-kept, places-skipped, copied-first, copied-later}
 use borrow.Author.Needs.{needs}

@@ -1,6 +1,6 @@
 -- `vault::recovering::lay` meets its contract. The invariant: the first j blocks are laid. Assumes nothing.
-use mathlib.Core.Path.{_≡_, refl, ap, _∙_}
-use Prim.Native.Nat.{ℕ, suc, _+_, _*_, _-_, _≤_, _<_}
+use mathlib.Core.Path.{refl}
+use Prim.Native.Nat.{_+_, _*_, _-_, _≤_, _<_}
 use native.Mathlib.Nat.{mul-le-mul-right}
 use native.Mathlib.Omega.{arith}
 use borrow.Author.Needs.{needs}

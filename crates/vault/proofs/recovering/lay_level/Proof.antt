@@ -1,8 +1,8 @@
 -- `vault::recovering::lay_level` meets its contract. Assumes nothing.
-use mathlib.Core.Path.{_≡_, refl, sym, ap, _∙_}
+use mathlib.Core.Path.{_≡_, sym, ap, _∙_}
 use mathlib.Core.Bool.{Bool, true, false, not}
 use mathlib.Core.List.{List}
-use Prim.Native.Nat.{ℕ, suc, _+_, _*_, _^_, _≤_}
+use Prim.Native.Nat.{ℕ, _+_, _*_, _^_, _≤_}
 use native.Mathlib.Numerals.{add-one}
 use native.Mathlib.Omega.{arith}
 use borrow.Author.Needs.{needs}
@@ -12,6 +12,7 @@ use Rattle.vault.specs.Header.{width}
 use Rattle.vault.specs.Decoding.{areRecords}
 use Rattle.vault.specs.StripeTrace.{blocksIn, isConsistent}
 use Rattle.vault.proofs.Bounds.{fits}
+use Rattle.vault.proofs.ScratchTails.{half-span}
 use Rattle.vault.proofs.StripeCalls.{length-blocks, blocks-low}
 use Rattle.vault.proofs.LevelRecovery.{range-all, blocks-first, solved-nine, solved-by, numbers-low}
 use Rattle.vault.proofs.recovering.lay_level.Statement.{statement}
@@ -62,11 +63,8 @@ size-same : (c : tie.After-decode-columns) → not (c .decode-columns .result) �
     n ≡ length (take n (c .decode-columns .last .1 .1 .1 .1 .1 .1 .0))
 size-same c e = size-is (c .before .before) ∙ sym (front-long c e)
 
-halves : (l w : ℕ) → 2 ^ l * w ≤ 2 ^ suc l * w + 2 ^ suc l
-halves l w = let d : 2 ^ suc l ≡ 2 ^ l + 2 ^ l = omega arith in rw d (omega arith)
-
 room : (c : tie.After-decode-columns) → c .before .before .before .two-to .result * (c .before .before .before .before .before .before .before .before .args .header .s + 1) ≤ length (c .decode-columns .last .1 .1 .1 .1 .1 .1 .0)
-room c = let s = c .before .before .before .before .before .before .before .before in rw (size-is (c .before .before), c .decode-columns .kept .1 .1 .1 .1 .1 .1 .0, s .pre .1 .1 .0) (halves (s .args .level) (width (s .args .header)))
+room c = let s = c .before .before .before .before .before .before .before .before in rw (size-is (c .before .before), c .decode-columns .kept .1 .1 .1 .1 .1 .1 .0, s .pre .1 .1 .0) (half-span (s .args .level) (width (s .args .header)))
 
 returns : tie.Need-returns
 returns c =

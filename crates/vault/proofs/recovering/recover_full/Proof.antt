@@ -1,18 +1,18 @@
 -- `vault::recovering::recover_full` meets its contract. Assumes nothing.
-use mathlib.Core.Path.{_≡_, refl, sym, ap, _∙_}
-use mathlib.Core.Bool.{Bool, true, false, _&&_}
+use mathlib.Core.Path.{_≡_, sym, ap, _∙_}
+use mathlib.Core.Bool.{Bool, true, false}
 use mathlib.Core.List.{List}
-use Prim.Native.Nat.{ℕ, suc, _-_, _^_, _≤_}
+use Prim.Native.Nat.{ℕ, _-_, _^_}
 use native.Mathlib.Omega.{arith}
 use borrow.Author.Needs.{needs}
-use lib.ListN.{length, replicate}
+use lib.ListN.{replicate}
 use Rattle.vault.specs.Header.{count, width, rawSize}
 use Rattle.vault.specs.Records.{areData}
 use Rattle.vault.specs.Decoding.{areRecords}
 use Rattle.vault.specs.Recovery.{laid}
-use Rattle.vault.specs.StripeTrace.{columnsOf, placesTo, Ready, readyNumber, blocksIn, isConsistent, weightsIn}
-use Rattle.vault.proofs.StripeTests.{ready}
-use Rattle.vault.proofs.StripeCalls.{length-marks, answers-unready, answers-ten, answers-blocks}
+use Rattle.vault.specs.Erasures.{erasuresIn}
+use Rattle.vault.specs.StripeTrace.{columnsOf, placesTo, Ready, blocksIn, isConsistent, weightsIn}
+use Rattle.vault.proofs.StripeCalls.{prepared, answers-unready, answers-ten, answers-blocks}
 use Rattle.vault.proofs.FullRecovery.{data-out, full-records, full-laid, full-fails, full-fine}
 use Rattle.vault.proofs.recovering.recover_full.Statement.{statement}
 use Rattle.vault.proofs.recovering.recover_full.Tie as tie
@@ -43,9 +43,8 @@ can-decode : (c : tie.Else1) → let a = c .before .before .before .before .befo
 can-decode c =
     let s = c .before .before .before .before .before .before .before .before .before .before .before .before in
     let a = s .args in
-    let e = c .before .before .before .before .prepare .ensures .0 in
-    ready (a .header) (a .image .now) _ (a .header .k) (s .pre .0) (omega arith) (s .pre .1 .0) (ap length e ∙ length-marks (a .header) _ (a .header .k))
-    (ap (λ (ms : List Bool). readyNumber (a .header) (a .image .now) ms (a .header .k)) e ∙ sym (c .before .before .before .before .prepare .ensures .1 .0) ∙ c .if1 .left)
+    let p = c .before .before .before .before .prepare .ensures in
+    prepared (a .header) (a .image .now) (erasuresIn (a .erasures .now)) (a .header .k) (s .pre .0) (omega arith) (s .pre .1 .0) (p .0) (p .1 .0) (c .if1 .left)
 
 decode-all-requires : tie.Need-decode-all-requires
 decode-all-requires c κs =

@@ -2,19 +2,19 @@
 use mathlib.Core.Path.{_≡_, sym, ap, _∙_}
 use mathlib.Core.Bool.{Bool}
 use mathlib.Core.List.{List}
-use Prim.Native.Nat.{ℕ, suc, _+_, _*_, _-_, _^_, _≤_}
+use Prim.Native.Nat.{suc, _+_, _*_, _-_, _^_, _≤_}
 use native.Mathlib.Numerals.{add-one}
 use native.Mathlib.Omega.{arith}
 use borrow.Author.Needs.{needs}
 use lib.Pow.{pow-mono}
 use lib.ListN.{length}
 use Rattle.vault.specs.Header.{width, scratchSize}
-use Rattle.vault.specs.StripeTrace.{Ready, readyNumber, weightsIn}
+use Rattle.vault.specs.Erasures.{erasuresIn}
+use Rattle.vault.specs.StripeTrace.{Ready, weightsIn}
 use Rattle.vault.proofs.Bounds.{fits}
 use Rattle.vault.proofs.ScratchTails.{Tail, tail-long, tail-weights, span}
 use Rattle.vault.proofs.StripePlaces.{room-level}
-use Rattle.vault.proofs.StripeTests.{ready}
-use Rattle.vault.proofs.StripeCalls.{length-marks, answers-unready}
+use Rattle.vault.proofs.StripeCalls.{prepared, answers-unready}
 use Rattle.vault.proofs.LevelRecovery.{level-answers}
 use Rattle.vault.proofs.recovering.recover_level.Statement.{statement}
 use Rattle.vault.proofs.recovering.recover_level.Tie as tie
@@ -91,9 +91,8 @@ can-decode : (c : tie.Else1) → let a = c .before .before .before .before .befo
 can-decode c =
     let s = c .before .before .before .before .before .before .before .before .before .before .before in
     let a = s .args in
-    let e = c .before .before .before .before .prepare .ensures .0 in
-    ready (a .header) (a .image .now) _ (a .level) (s .pre .0 .0) (omega (arith, s .pre .0 .1)) (s .pre .1 .0) (ap length e ∙ length-marks (a .header) _ (a .level))
-    (ap (λ (ms : List Bool). readyNumber (a .header) (a .image .now) ms (a .level)) e ∙ sym (c .before .before .before .before .prepare .ensures .1 .0) ∙ c .if1 .left)
+    let p = c .before .before .before .before .prepare .ensures in
+    prepared (a .header) (a .image .now) (erasuresIn (a .erasures .now)) (a .level) (s .pre .0 .0) (omega (arith, s .pre .0 .1)) (s .pre .1 .0) (p .0) (p .1 .0) (c .if1 .left)
 
 lay-level-requires : tie.Need-lay-level-requires
 lay-level-requires c κs =

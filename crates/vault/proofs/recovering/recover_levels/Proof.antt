@@ -1,6 +1,5 @@
 -- `vault::recovering::recover_levels` meets its contract. The invariant: what is left to lay comes to all there was to lay. Assumes nothing.
 use mathlib.Core.Path.{_≡_, refl, sym, ap, _∙_}
-use Prim.Native.Nat.{_-_, _≤_, _<_}
 use native.Mathlib.Omega.{arith}
 use borrow.Author.Needs.{needs}
 use lib.ListN.{length}

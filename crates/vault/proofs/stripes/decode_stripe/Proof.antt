@@ -2,17 +2,17 @@
 use mathlib.Core.Path.{_≡_, sym, ap, _∙_}
 use mathlib.Core.Bool.{Bool, true, false}
 use mathlib.Core.List.{List, _++_}
-use Prim.Native.Nat.{ℕ, _+_, _*_, _-_, _^_, _≤_}
+use Prim.Native.Nat.{ℕ, _+_, _*_, _-_, _^_}
 use native.Mathlib.Numerals.{add-one}
 use native.Mathlib.Omega.{arith}
 use borrow.Author.Needs.{needs}
 use lib.ListN.{length, take, drop, replicate}
 use Rattle.vault.specs.Header.{width, outSize}
 use Rattle.vault.specs.Decoding.{areRecords}
-use Rattle.vault.specs.StripeTrace.{Ready, readyNumber, blocksIn, isConsistent, weightsIn}
+use Rattle.vault.specs.Erasures.{erasuresIn}
+use Rattle.vault.specs.StripeTrace.{Ready, blocksIn, isConsistent, weightsIn}
 use Rattle.vault.proofs.Bounds.{fits}
-use Rattle.vault.proofs.StripeTests.{ready}
-use Rattle.vault.proofs.StripeCalls.{length-marks, length-blocks, blocks-low, all-agree, some-differ, rows-kept, rows-front, answers-unready, answers-nine, answers-ten, answers-blocks, decoded-words}
+use Rattle.vault.proofs.StripeCalls.{prepared, length-blocks, blocks-low, all-agree, some-differ, rows-kept, rows-front, answers-unready, answers-nine, answers-ten, answers-blocks, decoded-words}
 use Rattle.vault.proofs.stripes.decode_stripe.Statement.{statement}
 use Rattle.vault.proofs.stripes.decode_stripe.Tie as tie
 
@@ -42,9 +42,8 @@ can-decode : (c : tie.Else1) → let a = c .before .before .before .before .befo
 can-decode c =
     let s = c .before .before .before .before .before .before .before .before .before .before .before in
     let a = s .args in
-    let e = c .before .before .before .before .prepare .ensures .0 in
-    ready (a .header) (a .image .now) _ (a .level) (s .pre .0 .0) (s .pre .0 .1) (s .pre .1 .0) (ap length e ∙ length-marks (a .header) _ (a .level))
-    (ap (λ (ms : List Bool). readyNumber (a .header) (a .image .now) ms (a .level)) e ∙ sym (c .before .before .before .before .prepare .ensures .1 .0) ∙ c .if1 .left)
+    let p = c .before .before .before .before .prepare .ensures in
+    prepared (a .header) (a .image .now) (erasuresIn (a .erasures .now)) (a .level) (s .pre .0 .0) (s .pre .0 .1) (s .pre .1 .0) (p .0) (p .1 .0) (c .if1 .left)
 
 decode-all-requires : tie.Need-decode-all-requires
 decode-all-requires c κs =

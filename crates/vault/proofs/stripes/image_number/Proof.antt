@@ -1,7 +1,7 @@
 -- `vault::stripes::image_number` meets its contract. Assumes nothing.
 use mathlib.Core.Path.{_≡_, sym, ap, _∙_}
 use mathlib.Core.Bool.{Bool, true, false, _&&_}
-use Prim.Native.Nat.{ℕ, suc, _+_, _*_, _-_, _%_, _≤_}
+use Prim.Native.Nat.{ℕ, _+_, _*_, _-_, _%_, _≤_}
 use native.Mathlib.Nat.{mul-le-mul-left}
 use native.Mathlib.Numerals.{add-one}
 use native.Mathlib.Omega.{arith}

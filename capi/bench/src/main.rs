@@ -1,0 +1,268 @@
+//! `bench [--quick]`: the library beside the same algorithm in plain Rust, reference/, a copy of the image and par2. Prints tables for a README.
+mod measure;
+mod par2;
+mod plain;
+mod vaults;
+
+use measure::{interleaved, Effort, Subject, Time};
+use std::fs;
+use std::hint::black_box;
+use std::process::ExitCode;
+use std::thread;
+use std::time::{Duration, Instant};
+use vaults::{By, Job, Vault};
+
+const SIZES: [(u32, u32); 4] = [(10, 128), (10, 3), (6, 3), (10, 1)];
+const OPERATIONS: [&str; 3] = ["opening", "write", "recovery"];
+
+/// The times of one size: for each operation the library's and plain Rust's, and the reference's; and that of a copy of the image.
+struct Row {
+    library: [Time; 3],
+    plain: [Time; 3],
+    reference: [f64; 3],
+    copy: Time,
+}
+
+/// A job of one implementation, by the operation's index.
+fn subject<'a>(job: &'a Job, by: By, operation: usize) -> Subject<'a> {
+    let mut vault = Vault::new(job);
+    vault.open(by);
+    Box::new(move || match operation {
+        0 => vault.open(by),
+        1 => vault.round(by, job),
+        _ => vault.recover(by, job),
+    })
+}
+
+/// How many calls an operation is: a round has n.
+fn parts(job: &Job, operation: usize) -> usize {
+    if operation == 1 {
+        1 << job.k
+    } else {
+        1
+    }
+}
+
+fn measured(job: &Job, effort: Effort) -> Row {
+    job.check();
+    let mut copied = job.image.clone();
+    let mut library = Vec::new();
+    let mut plain = Vec::new();
+    let mut reference = Vec::new();
+    let mut copies = Vec::new();
+    for operation in 0..3 {
+        let copy: Subject = Box::new(|| {
+            copied.copy_from_slice(black_box(&job.image));
+            black_box(&mut copied);
+        });
+        let subjects = vec![
+            subject(job, By::Library, operation),
+            subject(job, By::Plain, operation),
+            copy,
+        ];
+        let times = interleaved(effort, subjects);
+        let parts = parts(job, operation);
+        library.push(times[0].part(parts));
+        plain.push(times[1].part(parts));
+        copies.push(times[2]);
+        let mut once = subject(job, By::Reference, operation);
+        let start = Instant::now();
+        once();
+        reference.push(start.elapsed().as_secs_f64() / parts as f64);
+    }
+    let three = |times: Vec<Time>| [times[0], times[1], times[2]];
+    Row {
+        library: three(library),
+        plain: three(plain),
+        reference: [reference[0], reference[1], reference[2]],
+        copy: copies[0],
+    }
+}
+
+/// A time with three figures, in a unit that fits.
+fn time(seconds: f64) -> String {
+    let (value, unit) = match seconds {
+        x if x < 1e-3 => (x * 1e6, "us"),
+        x if x < 1.0 => (x * 1e3, "ms"),
+        x => (x, "s"),
+    };
+    let digits = if value < 10.0 {
+        2
+    } else if value < 100.0 {
+        1
+    } else {
+        0
+    };
+    format!("{value:.digits$} {unit}")
+}
+
+fn both(times: Time) -> String {
+    format!("{} ({})", time(times.median), time(times.best))
+}
+
+/// The processor's name, and the cores.
+fn machine() -> String {
+    let info = fs::read_to_string("/proc/cpuinfo").unwrap_or_default();
+    let line = info.lines().find(|line| line.starts_with("model name"));
+    let name = line.and_then(|line| line.split(": ").nth(1));
+    let cores = thread::available_parallelism().map_or(1, usize::from);
+    format!("{}, {cores} cores", name.unwrap_or("unknown processor"))
+}
+
+fn print_row(job: &Job, row: &Row) {
+    for (i, name) in OPERATIONS.iter().enumerate() {
+        let (library, plain) = (row.library[i], row.plain[i]);
+        let ratio = format!(
+            "{:.2} ({:.2})",
+            library.median / plain.median,
+            library.best / plain.best
+        );
+        let slower = row.reference[i] / library.median;
+        // A write is far less than the image.
+        let copies = match i {
+            1 => String::new(),
+            _ => format!("{:.1}", library.median / row.copy.median),
+        };
+        println!(
+            "{:>4}{:>5}  {name:<9}{:>20}{:>20}{ratio:>14}{:>11}{slower:>9.0}{copies:>10}",
+            job.k,
+            job.s,
+            both(library),
+            both(plain),
+            time(row.reference[i]),
+        );
+    }
+}
+
+/// The table of sizes; gives the times at the first of them.
+fn print_sizes(effort: Effort) -> Row {
+    println!(
+        "{:>4}{:>5}  {:<9}{:>20}{:>20}{:>14}{:>11}{:>9}{:>10}",
+        "k", "s", "", "library", "plain Rust", "lib/plain", "reference", "ref/lib", "lib/copy"
+    );
+    let mut rows: Vec<Row> = Vec::new();
+    for (k, s) in SIZES {
+        let job = Job::new(k, s);
+        let row = measured(&job, effort);
+        print_row(&job, &row);
+        rows.push(row);
+    }
+    println!();
+    for ((k, s), row) in SIZES.iter().zip(&rows) {
+        let butterflies = f64::from(k << k) * f64::from(s + 1);
+        println!(
+            "k = {k}, s = {s}: a copy of the image {}; opening mixes {butterflies} word pairs, {:.0} million a second",
+            time(row.copy.median),
+            butterflies / row.library[0].median / 1e6
+        );
+    }
+    rows.swap_remove(0)
+}
+
+/// Times of an operation at each k, and its growth from the k before.
+fn growth(effort: Effort, s: u32, operation: usize, name: &str) -> f64 {
+    let jobs: Vec<Job> = (4..=10).map(|k| Job::new(k, s)).collect();
+    let subjects = jobs.iter().map(|job| subject(job, By::Library, operation));
+    let times = interleaved(effort, subjects.collect());
+    print!("{s:>5}  {name:<9}");
+    for time in &times {
+        print!("{:>9}", crate::time(time.median));
+    }
+    print!("\n{:>25}", "");
+    let mut last = 0.0;
+    for pair in times.windows(2) {
+        last = pair[1].median / pair[0].median;
+        print!("{last:>9.2}");
+    }
+    println!();
+    last
+}
+
+fn print_growth(effort: Effort) -> f64 {
+    print!("{:>5}  {:<9}", "s", "");
+    for k in 4..=10 {
+        print!("{:>9}", format!("k = {k}"));
+    }
+    println!();
+    let opening = growth(effort, 128, 0, "opening");
+    growth(effort, 128, 2, "recovery");
+    growth(effort, 3, 0, "opening");
+    growth(effort, 3, 2, "recovery");
+    opening
+}
+
+fn print_par2(row: &Row) {
+    if !par2::installed() {
+        println!("par2 is not installed: not compared");
+        return;
+    }
+    let runs: Vec<_> = (0..3)
+        .map(|_| par2::times(&Job::new(10, 128).data()))
+        .collect();
+    let mut creates = Vec::new();
+    let mut repairs = Vec::new();
+    for run in runs {
+        match run {
+            Ok(times) => {
+                creates.push(times.create.as_secs_f64());
+                repairs.push(times.repair.as_secs_f64());
+            }
+            Err(error) => {
+                println!("par2 failed: {error}");
+                return;
+            }
+        }
+    }
+    for (name, mut times, library) in [
+        ("create", creates, row.library[0]),
+        ("repair", repairs, row.library[2]),
+    ] {
+        times.sort_by(f64::total_cmp);
+        println!(
+            "par2 {name}, 1,024 + 1,024 blocks of the data of k = 10, s = 128: {} ({}), {:.0} times the library's {}",
+            time(times[1]),
+            time(times[0]),
+            times[1] / library.median,
+            if name == "create" { "opening" } else { "recovery" }
+        );
+    }
+}
+
+fn print_targets(row: &Row, growth: f64) {
+    let ratio = |i: usize| row.library[i].median / row.plain[i].median;
+    let recovery = row.library[2].median / row.library[0].median;
+    for (what, is, most) in [
+        ("opening / plain Rust", ratio(0), 1.3),
+        ("recovery / plain Rust", ratio(2), 1.3),
+        ("recovery / opening", recovery, 8.0),
+        ("opening at k = 10 / at k = 9", growth, 2.6),
+    ] {
+        let verdict = if is <= most { "met" } else { "MISSED" };
+        println!("  {what:<30}{is:>6.2}, at most {most}: {verdict}");
+    }
+}
+
+fn main() -> ExitCode {
+    let words: Vec<String> = std::env::args().skip(1).collect();
+    let quick = words == ["--quick"];
+    if !words.is_empty() && !quick {
+        eprintln!("usage: bench [--quick]");
+        return ExitCode::from(2);
+    }
+    let effort = Effort {
+        time: Duration::from_millis(if quick { 100 } else { 2000 }),
+        least: if quick { 3 } else { 15 },
+        most: 500,
+    };
+    println!("{}", machine());
+    println!("library: rt staticlib (clang -O3); plain Rust: the same steps, opt-level 3; both for x86-64 with no more than SSE2");
+    println!("median (best) of runs in turn; a write is the mean over a round; recovery at c = n - 1, half of every stripe lost; reference once\n");
+    let row = print_sizes(effort);
+    println!("\nthe library's growth with k, and its ratio to the size before (n log n: 2.22 from k = 9 to 10)\n");
+    let growth = print_growth(effort);
+    println!();
+    print_par2(&row);
+    println!("\ntargets at k = 10, s = 128");
+    print_targets(&row, growth);
+    ExitCode::SUCCESS
+}

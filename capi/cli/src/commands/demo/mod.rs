@@ -1,0 +1,117 @@
+//! `vault demo`: a small rack is written, loses half of every shelf, is brought back, and loses one position too many.
+mod rack;
+mod random;
+mod sheets;
+
+use super::recover::{recovered, refused};
+use super::Command;
+use crate::arguments::{number, Arguments, Options};
+use crate::failure::Failure;
+use crate::files;
+use crate::rack::shelf_name;
+use rack::Rack;
+use random::Random;
+use sheets::{Sheet, OPENED, WRITTEN};
+use vault_library::{stripes, Vault};
+
+pub const COMMAND: Command = Command {
+    name: "demo",
+    line: "lose half of a small rack at random, and bring its records back",
+    help: "\
+usage: vault demo [--seed N]
+
+Shows the vault at work on data of its own: writes the sheets of a pressing, draws the rack,
+loses half of every shelf at random, brings all records back, then loses one position too
+many. No file is read or written.
+
+  --seed N  lose the same positions as the run that printed this seed; without it, each run
+            loses others
+",
+    options: Options {
+        flags: &[],
+        values: &["--seed"],
+    },
+    run,
+};
+
+const K: u32 = 4;
+const S: u32 = 3;
+
+fn run(arguments: Arguments) -> Result<(), Failure> {
+    let seed = match arguments.value("--seed") {
+        Some(word) => number("--seed", word)?,
+        None => random::seed(),
+    };
+    arguments.end()?;
+    files::print(story(seed)?.as_bytes())
+}
+
+fn story(seed: u32) -> Result<String, Failure> {
+    let mut random = Random::new(seed);
+    let mut vault = Vault::open(K, S, OPENED.concat())?;
+    let mut written = OPENED;
+    for (record, sheet) in WRITTEN {
+        vault.write(record, &sheet)?;
+        written[record as usize] = sheet;
+    }
+    let header = vault.header();
+    let mut rack = Rack::new(header, vault.image()?);
+    let mut text = String::from(
+        "After each step a press writes a sheet: the step, its pressure in mbar, the litres drawn.\n\
+         This vault keeps 16 sheets. It was opened with yesterday's 16; today 13 were written over\n\
+         them: steps 1 to 12 to records 0 to 11, then step 5 again, because its litres were wrong.\n",
+    );
+
+    text += "\n1. THE RACK. A shelf spreads the sheets it holds over all of its positions.\n\n";
+    text += &rack.picture();
+
+    for stripe in header.stripes() {
+        for _ in 0..stripes::positions(stripe) / 2 {
+            rack.lose(stripe, &mut random);
+        }
+    }
+    text += "\n2. THE LOSS. Half of every shelf is lost, picked at random ";
+    text += &format!("(seed {seed}).\n\n");
+    text += &rack.picture();
+
+    let records =
+        recovered(header, &rack.image, &rack.gaps()).map_err(|fault| refused(header, fault))?;
+    text += "\n3. THE RECOVERY. All sheets, from the halves that are left.\n\n";
+    text += &comparison(&written, &records);
+
+    let filled: Vec<u32> = header.stripes().collect();
+    let stripe = random.one(&filled);
+    let position = rack.lose(stripe, &mut random);
+    let shelf = shelf_name(K, stripe);
+    text += "\n4. ONE POSITION MORE. ";
+    text += &format!("Position {position} of shelf {shelf} is lost too.\n\n");
+    text += &rack.shelf(stripe);
+    text += "\n   The vault does not guess. Recovery is\n   ";
+    text += &match recovered(header, &rack.image, &rack.gaps()) {
+        Ok(_) => "taken".into(),
+        Err(fault) => refused(header, fault).to_string(),
+    };
+    text += "\n\nThe same again: vault demo --seed ";
+    text += &format!("{seed}. With your own files: vault --help.\n");
+    Ok(text)
+}
+
+/// A line for each record: what was written to it last, and what came back.
+fn comparison(written: &[Sheet], recovered: &[u32]) -> String {
+    let columns = |sheet: &[u32]| format!("{:>4} {:>6} {:>7}", sheet[0], sheet[1], sheet[2]);
+    let names = "step   mbar  litres";
+    let mut text = format!("   {:<21}{:<24}recovered\n", "", "written last");
+    text += &format!("   record   day         {names}     {names}\n");
+    let mut same = 0;
+    for (record, sheet) in written.iter().enumerate() {
+        let back = &recovered[record * sheet.len()..][..sheet.len()];
+        let today = WRITTEN.iter().any(|write| write.0 as usize == record);
+        let day = if today { "today" } else { "yesterday" };
+        let verdict = if back == sheet { "same" } else { "DIFFERENT" };
+        same += usize::from(back == sheet);
+        let (sheet, back) = (columns(sheet), columns(back));
+        text += &format!("   {record:>6}   {day:<9}   {sheet}     {back}   {verdict}\n");
+    }
+    let all = written.len();
+    text + &format!("\n   {same} of {all} records are as they were last written.\n")
+}

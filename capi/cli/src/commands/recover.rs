@@ -1,0 +1,88 @@
+//! `vault recover`: all records, from what is left of a rack.
+use super::Command;
+use crate::arguments::{Arguments, Options};
+use crate::failure::Failure;
+use crate::{files, rack};
+use vault_library::{calls, sizes, Fault, Header};
+
+pub const COMMAND: Command = Command {
+    name: "recover",
+    line: "bring all records back from what is left of a rack",
+    help: "\
+usage: vault recover K S C IMAGE [GAPS] [--json]
+
+Prints all records of a vault, as they were last written: a line for each, its number and
+its S words in decimal, one space between. Half of each shelf may be lost.
+
+  K S C   the plate's numbers: 2^K records of S words, C writes since the full shelf was
+          last built
+  IMAGE   a file, as 'vault image' writes it; what it holds in the gaps does not matter
+  GAPS    a gap list, as 'vault gaps' writes it; '-' or no argument: there are no gaps
+  --json  print one line of JSON instead, whether taken or refused, with these keys:
+            number   0, or the number in the table of refusals
+            name     \"taken\", or the name in that table
+            shelf    the shelf at fault, \"C\" or a level as \"0\"; null if none is named
+            records  the 2^K records in order, each a list of S numbers; [] if refused
+          as in {\"number\":7,\"name\":\"too few\",\"shelf\":\"C\",\"records\":[]}
+
+Refused with exit status 1: 1 (plate), 2 (length), 3 (gap list), and, naming the first shelf
+at fault, 7 (too few), 8 (stray), 9 (discord), 10 (no sheet).
+",
+    options: Options {
+        flags: &["--json"],
+        values: &[],
+    },
+    run,
+};
+
+fn run(mut arguments: Arguments) -> Result<(), Failure> {
+    let header = rack::header(&mut arguments)?;
+    let path = arguments.needed("IMAGE")?;
+    let gaps = arguments.next();
+    let json = arguments.flag("--json");
+    arguments.end()?;
+    let image = rack::image(header, &path)?;
+    let gaps = rack::gaps(header, gaps)?;
+    let answer = recovered(header, &image, &gaps);
+    if json {
+        files::print(as_json(header, &answer).as_bytes())?;
+        return answer.map(|_| ()).map_err(|_| Failure::Told);
+    }
+    let records = answer.map_err(|fault| refused(header, fault))?;
+    let mut text = String::new();
+    for (number, record) in rack::records(header, &records).enumerate() {
+        rack::add_line(&mut text, number, record.iter().copied());
+    }
+    files::print(text.as_bytes())
+}
+
+/// The words of all records.
+pub fn recovered(header: Header, image: &[u8], gaps: &[u8]) -> Result<Vec<u32>, Fault> {
+    let mut records = vec![0; sizes::raw(header.k, header.s)];
+    let mut scratch = vec![0; sizes::scratch(header.k, header.s)];
+    calls::recover(header, image, gaps, &mut records, &mut scratch)?;
+    Ok(records)
+}
+
+/// The failure that a refused recovery is, with its shelf.
+pub fn refused(header: Header, fault: Fault) -> Failure {
+    let on = |stripe| format!(" on shelf {}", rack::shelf_name(header.k, stripe));
+    Failure::Refused(fault.refusal, fault.stripe.map(on).unwrap_or_default())
+}
+
+/// The answer as a line of JSON. Names and shelves hold nothing that JSON would have escaped.
+fn as_json(header: Header, answer: &Result<Vec<u32>, Fault>) -> String {
+    let (number, name, stripe) = match answer {
+        Ok(_) => (0, "taken", None),
+        Err(fault) => (fault.refusal.number(), fault.refusal.name(), fault.stripe),
+    };
+    let shelf = stripe.map_or("null".into(), |stripe| {
+        format!("\"{}\"", rack::shelf_name(header.k, stripe))
+    });
+    let records = answer.as_deref().unwrap_or_default();
+    let lists: Vec<String> = rack::records(header, records)
+        .map(|record| format!("{record:?}").replace(' ', ""))
+        .collect();
+    let lists = lists.join(",");
+    format!("{{\"number\":{number},\"name\":\"{name}\",\"shelf\":{shelf},\"records\":[{lists}]}}\n")
+}

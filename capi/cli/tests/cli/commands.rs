@@ -1,0 +1,187 @@
+//! Each command where it is taken.
+use crate::program::{bytes, file, image_file, line, numbers, vault, writes};
+use crate::random::Random;
+
+/// The writes of racklist's example in document 01, and its lines.
+const WRITES: [&[u16]; 3] = [&[0, 1], &[1, 2], &[2, 3]];
+const LINES: &str = "C 0 6 0\nC 1 255 0\nC 2 65533 0\nC 3 65280 0\nC 4 7984 0\nC 5 12576 0\nC 6 57041 0\nC 7 53473 0\n\
+                     0 0 2 3\n0 1 8192 12288\n1 0 1 3\n1 1 65536 65536\n1 2 65281 65026\n1 3 256 513\n";
+
+#[test]
+fn image_and_list_are_racklist() {
+    let answer = vault(["image", "2", "1"], &writes(&WRITES));
+    assert_eq!((answer.status, &answer.stderr[..]), (0, "plate 2 1 3\n"));
+    assert_eq!(answer.stdout.len(), 112);
+    let image = file("racklist", &answer.stdout);
+    let listed = line(&format!("list 2 1 3 {image}"));
+    assert_eq!((listed.status, listed.text()), (0, LINES.to_owned()));
+    let text = vault(["image", "--text", "2", "1"], b"0 1\n\n  1\t2\r\n2 3");
+    assert_eq!(text, answer);
+}
+
+#[test]
+fn image_of_no_writes_of_a_round_and_of_the_largest_vault() {
+    let empty = line("image 2 1");
+    assert_eq!((empty.status, &empty.stderr[..]), (0, "plate 2 1 0\n"));
+    let round = vault(["image", "1", "1"], &writes(&[&[0, 7], &[1, 8]]));
+    assert_eq!((round.status, &round.stderr[..]), (0, "plate 1 1 0\n"));
+    let records = line(&format!("recover 1 1 0 {}", file("round", &round.stdout)));
+    assert_eq!(records.text(), "0 7\n1 8\n");
+    let largest = vault(["image", "10", "128"], &vec![1; 3 * 2 * 129]);
+    assert_eq!(largest.stdout.len(), 2_112_504);
+    assert_eq!(&largest.stderr[..], "plate 10 128 3\n");
+    let listed = line(&format!(
+        "list 10 128 3 {}",
+        file("largest", &largest.stdout)
+    ));
+    assert_eq!(listed.text().lines().count(), 2048 + 2 + 4);
+}
+
+#[test]
+fn recover_with_and_without_gaps() {
+    let image = image_file("whole", 2, 1, &WRITES);
+    let expected = "0 1\n1 2\n2 3\n3 0\n";
+    for gaps in ["", " -", &format!(" {}", file("none", &[]))] {
+        let answer = line(&format!("recover 2 1 3 {image}{gaps}"));
+        assert_eq!((answer.status, answer.text()), (0, expected.to_owned()));
+        assert_eq!(answer.stderr, "");
+    }
+    let json = line(&format!("recover 2 1 3 {image} --json"));
+    let expected =
+        "{\"number\":0,\"name\":\"taken\",\"shelf\":null,\"records\":[[1],[2],[3],[0]]}\n";
+    assert_eq!((json.status, json.text()), (0, expected.to_owned()));
+    assert_eq!(line(&format!("recover --json 2 1 3 {image} -")), json);
+}
+
+#[test]
+fn decode_each_shelf() {
+    let image = image_file("shelves", 2, 1, &WRITES);
+    let shelf = |shelf: &str| line(&format!("decode 2 1 3 {image} - {shelf}")).text();
+    assert_eq!(shelf("0"), "2 3\n");
+    assert_eq!(shelf("1"), "0 1\n1 2\n");
+    assert_eq!(shelf("C"), "0 0\n1 0\n2 0\n3 0\n");
+    assert_eq!(shelf("2"), shelf("C"));
+    let gaps = file("half-of-level-1", &numbers(&[80, 16]));
+    let answer = line(&format!("decode 2 1 3 {image} {gaps} 1"));
+    assert_eq!(answer.text(), "0 1\n1 2\n");
+}
+
+#[test]
+fn gaps_are_sorted_and_joined() {
+    // k = 2, s = 1: positions of 8 bytes, the full shelf at 0, level 0 at 64, level 1 at 80.
+    let gaps = |positions: &str| {
+        let answer = line(&format!("gaps 2 1 {positions}"));
+        assert_eq!((answer.status, &answer.stderr[..]), (0, ""));
+        answer.stdout
+    };
+    assert_eq!(gaps("C:0"), numbers(&[0, 8]));
+    assert_eq!(gaps("C:2 C:0"), numbers(&[0, 8, 16, 8]));
+    assert_eq!(gaps("C:2-3 C:0 C:1 C:1-2"), numbers(&[0, 32]));
+    assert_eq!(gaps("1:3 0:0 2:7"), numbers(&[56, 16, 104, 8]));
+    assert_eq!(gaps("C:0-7 0:0-1 1:0-3"), numbers(&[0, 112]));
+    let answer = line("gaps 2 1 -o gaps-by-name C:5 0:1");
+    assert_eq!((answer.status, answer.stdout), (0, Vec::new()));
+    assert_eq!(bytes("gaps-by-name"), numbers(&[40, 8, 72, 8]));
+}
+
+/// Writes, an image, half of each needed shelf lost and overwritten, and the records are as last written.
+#[test]
+fn any_half_of_each_shelf_brings_the_records_back() {
+    let mut random = Random(1);
+    for _ in 0..25 {
+        let (k, s) = (1 + random.below(5), 1 + random.below(4));
+        let n = 1 << k;
+        let mut book = vec![vec![0; s]; n];
+        let mut input = String::new();
+        for _ in 0..random.below(3 * n) {
+            let record = random.below(n);
+            let sheet: Vec<usize> = (0..s).map(|_| random.below(65536)).collect();
+            input += &format!("{record} {}\n", spaced(&sheet));
+            book[record] = sheet;
+        }
+        let (k, s) = (k.to_string(), s.to_string());
+        let made = vault(["image", &k, &s, "--text"], input.as_bytes());
+        let c: usize = made
+            .stderr
+            .trim_end()
+            .rsplit(' ')
+            .next()
+            .unwrap()
+            .parse()
+            .unwrap();
+        let mut lost = Vec::new();
+        for shelf in 0..=n.ilog2() {
+            let size = 1 << shelf;
+            let name = if size == n {
+                "C".into()
+            } else {
+                shelf.to_string()
+            };
+            // An empty level may be lost whole.
+            let most = if size == n || c & size != 0 {
+                size
+            } else {
+                2 * size
+            };
+            let some = random.some(2 * size, most).into_iter();
+            lost.extend(some.map(|position| format!("{name}:{position}")));
+        }
+        let mut words = vec!["gaps".to_owned(), k.clone(), s.clone()];
+        words.extend(lost);
+        let gaps = vault(&words, &[]);
+        let mut image = made.stdout;
+        for pair in gaps.stdout.chunks(8) {
+            let number =
+                |at: usize| u32::from_le_bytes(pair[at..at + 4].try_into().unwrap()) as usize;
+            image[number(0)..number(0) + number(4)].fill_with(|| random.below(256) as u8);
+        }
+        let image = file("half", &image);
+        let gaps = file("half-gaps", &gaps.stdout);
+        let answer = line(&format!("recover {k} {s} {c} {image} {gaps}"));
+        let lines = book
+            .iter()
+            .enumerate()
+            .map(|(i, sheet)| format!("{i} {}\n", spaced(sheet)));
+        assert_eq!(
+            (answer.status, answer.text()),
+            (0, lines.collect()),
+            "{answer:?}"
+        );
+    }
+}
+
+fn spaced(words: &[usize]) -> String {
+    let words: Vec<String> = words.iter().map(usize::to_string).collect();
+    words.join(" ")
+}
+
+#[test]
+fn demo_is_the_same_for_a_seed() {
+    let answer = line("demo --seed 7");
+    let text = answer.text();
+    assert_eq!((answer.status, &answer.stderr[..]), (0, ""));
+    assert!(
+        text.contains("(seed 7)")
+            && text.contains("16 of 16 records are as they were last written")
+    );
+    assert!(text.contains("refused 7 (too few) on shelf ") && !text.contains("DIFFERENT"));
+    assert!(text.is_ascii() && text.lines().all(|line| line.len() <= 100));
+    assert_eq!(line("demo --seed 7").text(), text);
+    assert_ne!(line("demo --seed 8").text(), text);
+    assert_eq!(line("demo").status, 0);
+}
+
+#[test]
+fn help_of_everything() {
+    let overview = line("--help");
+    assert_eq!((overview.status, &overview.stderr[..]), (0, ""));
+    assert_eq!(line("-h"), overview);
+    for command in ["demo", "image", "gaps", "recover", "decode", "list"] {
+        assert!(overview.text().contains(&format!("\n  {command} ")));
+        let help = line(&format!("{command} --help"));
+        assert!(help.text().starts_with(&format!("usage: vault {command} ")));
+        assert_eq!((help.status, &help.stderr[..]), (0, ""));
+        assert_eq!(line(&format!("{command} 1 x --none -h")), help);
+        assert!(help.text().lines().all(|line| line.len() <= 100));
+    }
+}

@@ -1,0 +1,530 @@
+//! The scenarios: what is opened, written, lost, altered and asked.
+use crate::calls::{self, Answer, Call};
+use crate::erasures::{self, Broken, Loss, Marks};
+use crate::faults::{self, Fault};
+use crate::lent::Side;
+use crate::session::{Difference, Run, Session, Settings};
+use crate::tally::Tally;
+use reference::field::P;
+use reference::header::Header;
+use reference::random::Random;
+use reference::stripe::code;
+
+#[derive(Clone, Copy, Debug, PartialEq)]
+pub enum Kind {
+    /// Each refusal that comes before decoding, of each call, one by one.
+    Refusals,
+    /// A round but for its last write, then each kind of loss.
+    Losses,
+    /// Writes of several rounds and nothing else.
+    Rounds,
+    /// Writes of several rounds, readings, images, losses and refusals, mixed.
+    History,
+    /// Buffers that no opening made.
+    Foreign,
+    /// Images of blocks that no history wrote, some of which are no records.
+    Blocks,
+    /// Recovery at sizes where the reference is too slow: the library alone, against the records written.
+    Alone,
+}
+
+#[derive(Clone, Copy, Debug)]
+pub struct Scenario {
+    pub kind: Kind,
+    pub k: u32,
+    pub s: u32,
+}
+
+impl Scenario {
+    /// Runs it from a seed, and gives what it counted.
+    pub fn run(self, seed: u64, settings: Settings) -> Run<Tally> {
+        let Scenario { kind, k, s } = self;
+        let random = Random::new(seed);
+        let mut session = Session::new(Header { k, s, c: 0 }, random, settings);
+        session.allow(100);
+        match kind {
+            Kind::Refusals => refusals(&mut session)?,
+            Kind::Losses => losses(&mut session)?,
+            Kind::Rounds => rounds(&mut session)?,
+            Kind::History => history(&mut session)?,
+            Kind::Foreign => foreign(&mut session)?,
+            Kind::Blocks => blocks(&mut session)?,
+            Kind::Alone => alone(&mut session)?,
+        }
+        Ok(session.tally)
+    }
+}
+
+/// Data words, often the least or the greatest.
+fn data(random: &mut Random, count: usize) -> Vec<u32> {
+    let mut word = |_| match random.below(8) {
+        0 => 0,
+        1 => 65535,
+        _ => random.below(65536) as u32,
+    };
+    (0..count).map(&mut word).collect()
+}
+
+/// Words of 32 bits, often near a multiple of p.
+fn words(random: &mut Random, count: usize) -> Vec<u32> {
+    let mut word = |_| match random.below(4) {
+        0 => random.below(1 << 32) as u32,
+        1 => (P * random.below(65536)) as u32,
+        2 => random.below(P + 3) as u32,
+        _ => (P * random.below(65535) + random.below(5)).saturating_sub(2) as u32,
+    };
+    (0..count).map(&mut word).collect()
+}
+
+fn open(session: &mut Session) -> Run<Answer> {
+    let header = session.header();
+    let raw = data(&mut session.random, header.raw_len());
+    session.set(|side| {
+        side.raw.set(&raw);
+        side.header.c = 0;
+    });
+    session.call(Call::Open)
+}
+
+/// A write that is taken.
+fn write(session: &mut Session) -> Run<()> {
+    let header = session.header();
+    let random = &mut session.random;
+    let block = data(random, header.data());
+    let record = match random.below(4) {
+        0 => 0,
+        1 => header.c,
+        _ => random.below(header.records() as u64) as u32,
+    };
+    session.set(|side| side.block.set(&block));
+    let answer = session.call(Call::Write { record })?;
+    session.expect(answer.number == 0, "a write was refused")
+}
+
+fn read(session: &mut Session) -> Run<Answer> {
+    let record = session.random.below(session.header().records() as u64) as u32;
+    session.call(Call::Read { record })
+}
+
+/// Lends an erasure list, and fills what it erases, and the empty levels, with anything: none of it may matter.
+fn lose(session: &mut Session, marks: &Marks) {
+    let header = session.header();
+    let list = erasures::list(&mut session.random, header, marks);
+    let size = 4 * header.width();
+    let mut positions: Vec<usize> = erasures::positions(header, marks)
+        .filter_map(|(start, erased)| erased.then_some(start))
+        .collect();
+    for level in (0..header.k).filter(|&l| !header.filled(l)) {
+        let start = header.stripe_start(level);
+        positions.extend((0..2 << level).map(|i| 4 * (start + i * header.width())));
+    }
+    let mut image = session.side().image.part().to_vec();
+    for start in positions {
+        let byte = session.random.below(256) as u8;
+        image[start..start + size].fill(byte);
+    }
+    session.set(|side| {
+        side.erasures.set(&list);
+        side.image.set(&image);
+    });
+}
+
+/// Recovers the records of buffers that a history left, after a loss of that kind: they are the raw copy, if enough survives.
+fn recover_after(session: &mut Session, loss: Loss) -> Run<()> {
+    let header = session.header();
+    session.call(Call::Image)?;
+    let marks = loss.marks(&mut session.random, header);
+    lose(session, &marks);
+    let answer = session.call(Call::Recover)?;
+    if !erasures::enough(header, &marks) {
+        return session.expect(answer.number == 7, "too few were not refused");
+    }
+    let side = session.side();
+    let holds = answer.number == 0 && side.records.part() == side.raw.part();
+    session.expect(holds, "the records are not what was written")
+}
+
+/// Alters a word at a random place of the image, which may be lost or not looked at.
+fn alter(session: &mut Session) {
+    let words = session.side().image.len() / 4;
+    let at = 4 * session.random.below(words as u64) as usize;
+    let choice = session.random.below(5);
+    let other = session.random.below(P) as u32;
+    session.set(|side| {
+        let bytes = &mut side.image.part_mut()[at..at + 4];
+        let word = u32::from_le_bytes(bytes.try_into().expect("four bytes"));
+        let altered = match choice {
+            0 => 65537,
+            1 => u32::MAX,
+            2 => word ^ 1,
+            3 => (u64::from(word) + 1).rem_euclid(P) as u32,
+            _ => other,
+        };
+        bytes.copy_from_slice(&altered.to_le_bytes());
+    });
+}
+
+/// Alters a surviving word of a stripe. Without a stray word the refusal is 9 or 10, if more than half survives.
+fn alter_survivor(session: &mut Session, marks: &Marks, stripe: u32) {
+    let header = session.header();
+    let rows = &marks[stripe as usize];
+    let survivors: Vec<usize> = (0..rows.len()).filter(|&i| !rows[i]).collect();
+    if survivors.is_empty() {
+        return;
+    }
+    let random = &mut session.random;
+    let row = survivors[random.below(survivors.len() as u64) as usize];
+    let column = random.below(header.width() as u64) as usize;
+    let at = 4 * (header.stripe_start(stripe) + row * header.width() + column);
+    let more = 1 + random.below(65536) as u32;
+    let stray = random.below(4) == 0;
+    session.set(|side| {
+        let bytes = &mut side.image.part_mut()[at..at + 4];
+        let word = u32::from_le_bytes(bytes.try_into().expect("four bytes"));
+        let altered = if stray {
+            P as u32 + more
+        } else {
+            (word.wrapping_add(more)) % P as u32
+        };
+        bytes.copy_from_slice(&altered.to_le_bytes());
+    });
+}
+
+/// A stripe, mostly one that is filled.
+fn any_stripe(session: &mut Session) -> u32 {
+    let header = session.header();
+    let stripe = session.random.below(u64::from(header.k) + 2) as u32;
+    if session.random.below(8) == 0 {
+        return stripe;
+    }
+    let above = (stripe..header.k).find(|&level| header.filled(level));
+    above.unwrap_or(header.k)
+}
+
+/// Decodes each filled stripe, and one more.
+fn decode_all(session: &mut Session) -> Run<()> {
+    let header = session.header();
+    for stripe in (0..=header.k).filter(|&l| header.filled(l)) {
+        session.call_allowed(Call::Decode { stripe })?;
+    }
+    let stripe = any_stripe(session);
+    session.call_allowed(Call::Decode { stripe })
+}
+
+/// Image, loss, perhaps altered words; then recovery and some decodings.
+fn inspect(session: &mut Session) -> Run<()> {
+    let header = session.header();
+    session.call(Call::Image)?;
+    let loss = Loss::ALL[session.random.below(Loss::ALL.len() as u64) as usize];
+    let marks = loss.marks(&mut session.random, header);
+    lose(session, &marks);
+    for _ in 0..session.random.below(3) {
+        alter(session);
+    }
+    if session.random.below(3) == 0 {
+        let stripe = session.random.below(u64::from(header.k) + 1) as u32;
+        alter_survivor(session, &marks, stripe);
+    }
+    session.call_allowed(Call::Recover)?;
+    for _ in 0..2 {
+        let stripe = any_stripe(session);
+        session.call_allowed(Call::Decode { stripe })?;
+    }
+    Ok(())
+}
+
+fn any_refusal(session: &mut Session) -> Run<u32> {
+    let header = session.header();
+    let n = header.records() as u64;
+    let record = session.random.below(n) as u32;
+    let block = data(&mut session.random, header.data());
+    session.set(|side| side.block.set(&block));
+    let call = match session.random.below(6) {
+        0 => Call::Open,
+        1 => Call::Write { record },
+        2 => Call::Read { record },
+        3 => Call::Image,
+        4 => Call::Decode { stripe: header.k },
+        _ => Call::Recover,
+    };
+    faults::any_faulty(session, call)
+}
+
+fn history(session: &mut Session) -> Run<()> {
+    for _ in 0..session.random.below(3) {
+        any_refusal(session)?;
+    }
+    open(session)?;
+    let steps = 120 + 3 * session.header().records();
+    for _ in 0..steps {
+        match session.random.below(100) {
+            0..60 => write(session)?,
+            60..66 => {
+                read(session)?;
+            }
+            66..72 if session.is_allowed() => {
+                let loss = Loss::ALL[session.random.below(Loss::ALL.len() as u64) as usize];
+                recover_after(session, loss)?;
+            }
+            72..80 => inspect(session)?,
+            _ => {
+                any_refusal(session)?;
+            }
+        }
+    }
+    Ok(())
+}
+
+fn rounds(session: &mut Session) -> Run<()> {
+    open(session)?;
+    let n = session.header().records();
+    for i in 0..2 * n + 3 {
+        write(session)?;
+        if i % n == n / 2 {
+            read(session)?;
+            session.call(Call::Image)?;
+        }
+    }
+    Ok(())
+}
+
+fn losses(session: &mut Session) -> Run<()> {
+    open(session)?;
+    let n = session.header().records();
+    for _ in 1..n {
+        write(session)?;
+    }
+    session.allow(3000);
+    for loss in Loss::ALL {
+        if session.is_allowed() {
+            recover_after(session, loss)?;
+        }
+    }
+    let header = session.header();
+    for loss in [Loss::Half, Loss::Some, Loss::AllY] {
+        session.allow(500);
+        session.call(Call::Image)?;
+        let marks = loss.marks(&mut session.random, header);
+        lose(session, &marks);
+        decode_all(session)?;
+        for stripe in 0..=header.k {
+            session.call(Call::Image)?;
+            lose(session, &marks);
+            alter_survivor(session, &marks, stripe);
+            session.call_allowed(Call::Decode { stripe })?;
+            session.call_allowed(Call::Recover)?;
+        }
+    }
+    Ok(())
+}
+
+fn foreign(session: &mut Session) -> Run<()> {
+    let header = session.header();
+    let random = &mut session.random;
+    let raw = words(random, header.raw_len());
+    let full = words(random, header.full_len());
+    let log = words(random, header.log_len());
+    let c = random.below(header.records() as u64) as u32;
+    session.set(|side| {
+        side.raw.set(&raw);
+        side.full.set(&full);
+        side.log.set(&log);
+        side.header.c = c;
+    });
+    let steps = 40 + header.records();
+    for _ in 0..steps {
+        match session.random.below(10) {
+            0..6 => write(session)?,
+            6 => {
+                read(session)?;
+            }
+            7 => {
+                any_refusal(session)?;
+            }
+            8 => inspect(session)?,
+            _ => {
+                // An opening over the records, which are perhaps no data words.
+                session.call_changed(Call::Open, |_| ())?;
+            }
+        }
+    }
+    let image: Vec<u8> = (0..header.image_len())
+        .map(|_| session.random.below(256) as u8)
+        .collect();
+    let below: Vec<u32> = (0..header.image_len() / 4)
+        .map(|_| session.random.below(P) as u32)
+        .collect();
+    let below: Vec<u8> = below.into_iter().flat_map(u32::to_le_bytes).collect();
+    for image in [image, below] {
+        for loss in [Loss::None, Loss::Half, Loss::Some, Loss::AllX] {
+            session.set(|side| side.image.set(&image));
+            let header = session.header();
+            let marks = loss.marks(&mut session.random, header);
+            lose(session, &marks);
+            session.call_allowed(Call::Recover)?;
+            decode_all(session)?;
+        }
+    }
+    Ok(())
+}
+
+/// Blocks of a stripe: records, or with a number or a word that no record has.
+fn any_blocks(random: &mut Random, header: Header, stripe: u32) -> Vec<u64> {
+    let (n, count, width) = (header.records() as u64, 1 << stripe, header.width());
+    let mut blocks = Vec::new();
+    for i in 0..count as u64 {
+        let number = if stripe == header.k {
+            i
+        } else {
+            random.below(n)
+        };
+        blocks.push(number);
+        blocks.extend(data(random, header.data()).iter().map(|&x| u64::from(x)));
+    }
+    let row = width * random.below(count as u64) as usize;
+    match random.below(8) {
+        0 => blocks[row] = random.below(P),
+        1 => blocks[row] = n,
+        2 => blocks[row + 1 + random.below(header.data() as u64) as usize] = 65536,
+        3 => blocks[row] = 65536,
+        _ => {}
+    }
+    blocks
+}
+
+fn blocks(session: &mut Session) -> Run<()> {
+    for _ in 0..12 {
+        let k = session.header().k;
+        let c = session.random.below(1 << k) as u32;
+        let header = Header {
+            c,
+            ..session.header()
+        };
+        let mut image = vec![0xff; header.image_len()];
+        for stripe in (0..=k).filter(|&l| header.filled(l)) {
+            let blocks = any_blocks(&mut session.random, header, stripe);
+            let coded = code(k, header.first(stripe), header.width(), &blocks);
+            let start = 4 * header.stripe_start(stripe);
+            for (bytes, word) in image[start..].chunks_mut(4).zip(coded) {
+                bytes.copy_from_slice(&(word as u32).to_le_bytes());
+            }
+        }
+        session.set(|side| {
+            side.header.c = c;
+            side.image.set(&image);
+        });
+        let loss = Loss::ALL[session.random.below(Loss::ALL.len() as u64) as usize];
+        let marks = loss.marks(&mut session.random, header);
+        lose(session, &marks);
+        session.call_allowed(Call::Recover)?;
+        decode_all(session)?;
+        let stripe = session.random.below(u64::from(k) + 1) as u32;
+        alter_survivor(session, &marks, stripe);
+        session.call_allowed(Call::Recover)?;
+        session.call_allowed(Call::Decode { stripe })?;
+        let list = erasures::good(&mut session.random, header.image_len());
+        session.set(|side| side.erasures.set(&list));
+        session.call_allowed(Call::Recover)?;
+    }
+    Ok(())
+}
+
+fn refusals(session: &mut Session) -> Run<()> {
+    open(session)?;
+    for _ in 0..=session.random.below(5) {
+        write(session)?;
+    }
+    session.call(Call::Image)?;
+    let header = session.header();
+    let n = header.records() as u32;
+    let record = n - 1;
+    let calls = [
+        Call::Open,
+        Call::Write { record },
+        Call::Read { record },
+        Call::Image,
+        Call::Decode { stripe: header.k },
+        Call::Recover,
+    ];
+    let expect = |session: &Session, number, given| {
+        session.expect(number == given, &format!("{number} was given for {given}"))
+    };
+    for call in calls {
+        for fault in faults::headers(n) {
+            // Opening is given no c.
+            if call != Call::Open || !matches!(fault, Fault::C(_)) {
+                let number = faults::faulty(session, call, &[fault])?;
+                expect(session, number, 1)?;
+            }
+        }
+        for fault in faults::lengths(call) {
+            let number = faults::faulty(session, call, &[fault])?;
+            expect(session, number, 2)?;
+        }
+    }
+    for call in [Call::Decode { stripe: header.k }, Call::Recover] {
+        for broken in Broken::ALL {
+            for _ in 0..3 {
+                let list = broken.list(&mut session.random, header.image_len());
+                let number = faults::faulty(session, call, &[Fault::Erasures(list)])?;
+                expect(session, number, 3)?;
+            }
+        }
+    }
+    for call in [Call::Write { record }, Call::Read { record }] {
+        for record in [n, n + 1, 2 * n, 65536, 1 << 31, u32::MAX] {
+            let number = faults::faulty(session, call, &[Fault::Record(record)])?;
+            expect(session, number, 4)?;
+        }
+    }
+    for call in [Call::Open, Call::Write { record }] {
+        for word in [65536, 65537, 131_072, 1 << 31, u32::MAX] {
+            let at = session.random.below(1 << 20) as usize;
+            let number = faults::faulty(session, call, &[Fault::DataWord(at, word)])?;
+            expect(session, number, 5)?;
+        }
+    }
+    let empty = (0..header.k).filter(|&l| !header.filled(l));
+    let beyond = [header.k + 1, header.k + 2, 32, 64, 1 << 31, u32::MAX];
+    for stripe in empty.chain(beyond) {
+        let call = Call::Decode { stripe };
+        let number = faults::faulty(session, call, &[])?;
+        expect(session, number, 6)?;
+    }
+    for _ in 0..60 {
+        any_refusal(session)?;
+    }
+    Ok(())
+}
+
+/// Writes a round but for its last write, loses half of each stripe, and recovers: by the library alone.
+fn alone(session: &mut Session) -> Run<()> {
+    let header = session.header();
+    let n = header.records();
+    let mut side = Side::new(header, 0);
+    let raw = data(&mut session.random, header.raw_len());
+    side.raw.set(&raw);
+    let mut numbers = vec![calls::library(&mut side, Call::Open).number];
+    for _ in 1..n {
+        let block = data(&mut session.random, header.data());
+        side.block.set(&block);
+        let record = session.random.below(n as u64) as u32;
+        numbers.push(calls::library(&mut side, Call::Write { record }).number);
+    }
+    numbers.push(calls::library(&mut side, Call::Image).number);
+    let header = side.header;
+    let marks = Loss::Half.marks(&mut session.random, header);
+    let list = erasures::list(&mut session.random, header, &marks);
+    side.erasures.set(&list);
+    numbers.push(calls::library(&mut side, Call::Recover).number);
+    for stripe in 0..=header.k {
+        numbers.push(calls::library(&mut side, Call::Decode { stripe }).number);
+    }
+    let holds = numbers.iter().all(|&x| x == 0) && side.records.part() == side.raw.part();
+    session.expect(holds, "the library alone did not recover the records")
+}
+
+/// A difference that is not one of a call.
+pub fn panicked(text: String) -> Difference {
+    Difference { calls: 0, text }
+}

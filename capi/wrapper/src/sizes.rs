@@ -1,0 +1,69 @@
+//! The length of each buffer as a function of k and s: in words, the image's in bytes.
+//!
+//! All are 0 where k or s is out of its range: a call refuses such a header before it looks at a buffer.
+
+/// Whether k and s are in their ranges.
+pub(crate) fn in_range(k: u32, s: u32) -> bool {
+    (1..=10).contains(&k) && (1..=128).contains(&s)
+}
+
+/// A length that is given as a function of n and s.
+fn length(k: u32, s: u32, of: impl Fn(usize, usize) -> usize) -> usize {
+    if in_range(k, s) {
+        of(1 << k, s as usize)
+    } else {
+        0
+    }
+}
+
+/// The raw records, which are also what recovery gives.
+pub fn raw(k: u32, s: u32) -> usize {
+    length(k, s, |n, s| n * s)
+}
+
+/// The full stripe.
+pub fn full(k: u32, s: u32) -> usize {
+    length(k, s, |n, s| 2 * n * (s + 1))
+}
+
+/// The log: all levels.
+pub fn log(k: u32, s: u32) -> usize {
+    length(k, s, |n, s| (2 * n - 2) * (s + 1))
+}
+
+/// The image, in bytes.
+pub fn image(k: u32, s: u32) -> usize {
+    4 * (full(k, s) + log(k, s))
+}
+
+/// The output of stripe decoding.
+pub fn blocks(k: u32, s: u32) -> usize {
+    length(k, s, |n, s| n * (s + 1))
+}
+
+/// The scratch buffer of stripe decoding and of recovery.
+pub fn scratch(k: u32, s: u32) -> usize {
+    length(k, s, |n, s| n * (s + 1) + 4 * n)
+}
+
+#[cfg(test)]
+mod tests {
+    use super::*;
+
+    #[test]
+    fn lengths_of_the_document() {
+        assert_eq!(image(2, 1), 112);
+        assert_eq!(image(10, 128), 2_112_504);
+        assert_eq!((raw(2, 1), full(2, 1), log(2, 1)), (4, 16, 12));
+        assert_eq!((blocks(2, 1), scratch(2, 1)), (8, 24));
+    }
+
+    #[test]
+    fn out_of_range() {
+        for (k, s) in [(0, 1), (11, 1), (1, 0), (1, 129), (u32::MAX, u32::MAX)] {
+            for size in [raw, full, log, image, blocks, scratch] {
+                assert_eq!(size(k, s), 0);
+            }
+        }
+    }
+}
