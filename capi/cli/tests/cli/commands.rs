@@ -27,14 +27,25 @@ fn image_of_no_writes_of_a_round_and_of_the_largest_vault() {
     assert_eq!((round.status, &round.stderr[..]), (0, "plate 1 1 0\n"));
     let records = line(&format!("recover 1 1 0 {}", file("round", &round.stdout)));
     assert_eq!(records.text(), "0 7\n1 8\n");
-    let largest = vault(["image", "10", "128"], &vec![1; 3 * 2 * 129]);
-    assert_eq!(largest.stdout.len(), 2_112_504);
-    assert_eq!(&largest.stderr[..], "plate 10 128 3\n");
-    let listed = line(&format!(
-        "list 10 128 3 {}",
-        file("largest", &largest.stdout)
-    ));
+}
+
+#[test]
+fn the_largest_vault() {
+    // Three writes to record 257, whose words are all 257.
+    let made = vault(["image", "10", "128"], &[1; 3 * 2 * 129]);
+    assert_eq!(
+        (made.stdout.len(), &made.stderr[..]),
+        (2_112_504, "plate 10 128 3\n")
+    );
+    let image = file("largest", &made.stdout);
+    let listed = line(&format!("list 10 128 3 {image}"));
     assert_eq!(listed.text().lines().count(), 2048 + 2 + 4);
+    let gaps = line("gaps 10 128 C:512-1535 0:0 1:1-2");
+    let gaps = file("largest-gaps", &gaps.stdout);
+    let records = line(&format!("recover 10 128 3 {image} {gaps}"));
+    let expected =
+        (0..1024).map(|i| format!("{i}{}\n", [" 0", " 257"][usize::from(i == 257)].repeat(128)));
+    assert_eq!(records.text(), expected.collect::<String>());
 }
 
 #[test]
