@@ -4,12 +4,12 @@ mod par2;
 mod plain;
 mod vaults;
 
-use measure::{interleaved, Effort, Subject, Time};
+use measure::{interleaved, thread_time, Effort, Subject, Time};
 use std::fs;
 use std::hint::black_box;
 use std::process::ExitCode;
 use std::thread;
-use std::time::{Duration, Instant};
+use std::time::Duration;
 use vaults::{By, Job, Vault};
 
 const SIZES: [(u32, u32); 4] = [(10, 128), (10, 3), (6, 3), (10, 1)];
@@ -46,36 +46,26 @@ fn parts(job: &Job, operation: usize) -> usize {
 fn measured(job: &Job, effort: Effort) -> Row {
     job.check();
     let mut copied = job.image.clone();
-    let mut library = Vec::new();
-    let mut plain = Vec::new();
-    let mut reference = Vec::new();
-    let mut copies = Vec::new();
+    let mut subjects: Vec<Subject> = vec![Box::new(|| {
+        copied.copy_from_slice(black_box(&job.image));
+        black_box(&mut copied);
+    })];
     for operation in 0..3 {
-        let copy: Subject = Box::new(|| {
-            copied.copy_from_slice(black_box(&job.image));
-            black_box(&mut copied);
-        });
-        let subjects = vec![
-            subject(job, By::Library, operation),
-            subject(job, By::Plain, operation),
-            copy,
-        ];
-        let times = interleaved(effort, subjects);
-        let parts = parts(job, operation);
-        library.push(times[0].part(parts));
-        plain.push(times[1].part(parts));
-        copies.push(times[2]);
-        let mut once = subject(job, By::Reference, operation);
-        let start = Instant::now();
-        once();
-        reference.push(start.elapsed().as_secs_f64() / parts as f64);
+        subjects.push(subject(job, By::Library, operation));
+        subjects.push(subject(job, By::Plain, operation));
     }
-    let three = |times: Vec<Time>| [times[0], times[1], times[2]];
+    let times = interleaved(effort, subjects);
+    let part = |i: usize, operation| times[i].part(parts(job, operation));
     Row {
-        library: three(library),
-        plain: three(plain),
-        reference: [reference[0], reference[1], reference[2]],
-        copy: copies[0],
+        copy: times[0],
+        library: [0, 1, 2].map(|operation| part(1 + 2 * operation, operation)),
+        plain: [0, 1, 2].map(|operation| part(2 + 2 * operation, operation)),
+        reference: [0, 1, 2].map(|operation| {
+            let mut once = subject(job, By::Reference, operation);
+            let start = thread_time();
+            once();
+            (thread_time() - start).as_secs_f64() / parts(job, operation) as f64
+        }),
     }
 }
 
@@ -250,13 +240,14 @@ fn main() -> ExitCode {
         return ExitCode::from(2);
     }
     let effort = Effort {
-        time: Duration::from_millis(if quick { 100 } else { 2000 }),
+        time: Duration::from_millis(if quick { 200 } else { 4000 }),
         least: if quick { 3 } else { 15 },
         most: 500,
     };
     println!("{}", machine());
     println!("library: rt staticlib (clang -O3); plain Rust: the same steps, opt-level 3; both for x86-64 with no more than SSE2");
-    println!("median (best) of runs in turn; a write is the mean over a round; recovery at c = n - 1, half of every stripe lost; reference once\n");
+    println!("processor's time, median (best) of runs in turn; a write is the mean over a round; recovery at c = n - 1, half of every stripe lost at");
+    println!("random; reference/ runs once\n");
     let row = print_sizes(effort);
     println!("\nthe library's growth with k, and its ratio to the size before (n log n: 2.22 from k = 9 to 10)\n");
     let growth = print_growth(effort);

@@ -1,5 +1,51 @@
-//! Times of several subjects, taken in turn, so that a machine that slows down does so for all of them.
+//! Times of several subjects, taken in turn, so that a machine that slows down does so for all of them. What is counted is the processor's time: other
+//! programs on the machine have no part in it.
 use std::time::{Duration, Instant};
+
+/// C's timespec and timeval, on Linux with 64 bits: seconds, and billionths or millionths of one.
+#[derive(Default)]
+#[repr(C)]
+struct Clock {
+    seconds: i64,
+    fraction: i64,
+}
+
+/// C's rusage.
+#[derive(Default)]
+#[repr(C)]
+struct Usage {
+    user: Clock,
+    system: Clock,
+    other: [i64; 14],
+}
+
+/// Linux's CLOCK_THREAD_CPUTIME_ID and RUSAGE_CHILDREN.
+const THREAD: i32 = 3;
+const CHILDREN: i32 = -1;
+
+extern "C" {
+    fn clock_gettime(clock: i32, time: *mut Clock) -> i32;
+    fn getrusage(who: i32, usage: *mut Usage) -> i32;
+}
+
+/// The processor's time for this thread so far.
+pub fn thread_time() -> Duration {
+    let mut time = Clock::default();
+    // SAFETY: the pointer is to a timespec of this function's own.
+    let status = unsafe { clock_gettime(THREAD, &mut time) };
+    assert_eq!(status, 0, "no clock of the thread's time");
+    Duration::new(time.seconds as u64, time.fraction as u32)
+}
+
+/// The processor's time for all processes that this one has waited for.
+pub fn children_time() -> Duration {
+    let mut usage = Usage::default();
+    // SAFETY: the pointer is to an rusage of this function's own.
+    let status = unsafe { getrusage(CHILDREN, &mut usage) };
+    assert_eq!(status, 0, "no clock of the children's time");
+    let time = |clock: Clock| Duration::new(clock.seconds as u64, 1000 * clock.fraction as u32);
+    time(usage.user) + time(usage.system)
+}
 
 /// One subject: what is timed.
 pub type Subject<'a> = Box<dyn FnMut() + 'a>;
@@ -41,11 +87,11 @@ pub struct Effort {
 }
 
 fn timed(subject: &mut Subject, calls: u32) -> Duration {
-    let start = Instant::now();
+    let start = thread_time();
     for _ in 0..calls {
         subject();
     }
-    start.elapsed()
+    thread_time() - start
 }
 
 /// Runs each subject once unmeasured, then samples all of them in turn.

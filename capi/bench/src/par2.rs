@@ -1,8 +1,9 @@
-//! The program par2, where it is installed: 1,024 blocks of the same data and 1,024 more, half of all lost.
+//! The program par2, where it is installed: 1,024 blocks of the same data and 1,024 more, half of all lost. It runs on one core, as the library does.
+use crate::measure::children_time;
 use reference::random::Random;
 use std::path::{Path, PathBuf};
 use std::process::{Command, Stdio};
-use std::time::{Duration, Instant};
+use std::time::Duration;
 use std::{env, fs, io, process};
 
 /// The bytes of a block: two for each of 128 words.
@@ -25,12 +26,13 @@ pub fn installed() -> bool {
 }
 
 fn par2(folder: &Path, words: &[&str]) -> io::Result<Duration> {
-    let start = Instant::now();
+    let start = children_time();
     let output = Command::new("par2")
         .args(words)
         .current_dir(folder)
+        .env("OMP_NUM_THREADS", "1")
         .output()?;
-    let time = start.elapsed();
+    let time = children_time() - start;
     if output.status.success() {
         return Ok(time);
     }

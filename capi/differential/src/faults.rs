@@ -3,6 +3,7 @@ use crate::calls::Call;
 use crate::erasures::Broken;
 use crate::lent::{Side, Words};
 use crate::session::{Run, Session};
+use reference::random::Random;
 
 #[derive(Clone, Debug)]
 pub enum Fault {
@@ -110,25 +111,40 @@ pub fn lengths(call: Call) -> Vec<Fault> {
 /// A fault for a call, at random. A header in range that the buffers' lengths do not fit is one too.
 fn any(session: &mut Session, call: Call) -> Fault {
     let header = session.header();
+    let (n, k, s) = (header.records() as u32, header.k, header.s);
     let size = session.side().image.len();
     let random = &mut session.random;
-    let n = header.records() as u32;
-    let mut pick = |faults: Vec<Fault>| faults[random.below(faults.len() as u64) as usize].clone();
-    let header_fault = pick(headers(n));
-    let length_fault = pick(lengths(call));
-    let broken = Broken::ALL[random.below(Broken::ALL.len() as u64) as usize];
-    match random.below(9) {
-        0 => header_fault,
-        1 | 2 => length_fault,
-        3 | 4 => Fault::Erasures(broken.list(random, size)),
-        5 => Fault::Record([n, n + 1, 65536, 1 << 31, u32::MAX][random.below(5) as usize]),
-        6 => Fault::DataWord(
-            random.below(1 << 20) as usize,
-            [65536, 65537, 1 << 31, u32::MAX][random.below(4) as usize],
-        ),
-        7 => Fault::Stripe(random.below(u64::from(header.k) + 3) as u32),
-        _ => [Fault::K(header.k + 1), Fault::S(header.s + 1)][random.below(2) as usize].clone(),
+    let broken = *one(random, &Broken::ALL);
+    let mut faults = vec![
+        one(random, &headers(n)).clone(),
+        one(random, &lengths(call)).clone(),
+        one(random, &lengths(call)).clone(),
+        Fault::K(k + 1),
+        Fault::S(s + 1),
+    ];
+    if matches!(call, Call::Decode { .. } | Call::Recover) {
+        faults.push(Fault::Erasures(broken.list(random, size)));
+        faults.push(Fault::Erasures(broken.list(random, size)));
     }
+    if matches!(call, Call::Write { .. } | Call::Read { .. }) {
+        let record = *one(random, &[n, n + 1, 65536, 1 << 31, u32::MAX]);
+        faults.push(Fault::Record(record));
+    }
+    if matches!(call, Call::Open | Call::Write { .. }) {
+        let word = *one(random, &[65536, 65537, 1 << 31, u32::MAX]);
+        faults.push(Fault::DataWord(random.below(1 << 20) as usize, word));
+    }
+    if let Call::Decode { .. } = call {
+        let level = random.below(u64::from(k)) as u32;
+        let stripe = *one(random, &[level, k + 1, k + 2, u32::MAX]);
+        faults.push(Fault::Stripe(stripe));
+    }
+    one(random, &faults).clone()
+}
+
+/// One of some items, at random.
+fn one<'a, T>(random: &mut Random, items: &'a [T]) -> &'a T {
+    &items[random.below(items.len() as u64) as usize]
 }
 
 /// Makes a call with one fault, or with several.

@@ -1,5 +1,5 @@
 //! Which scenarios are run, on all cores, and in which order their results count.
-use crate::scenarios::{panicked, Kind, Scenario};
+use crate::scenarios::{Kind, Scenario};
 use crate::session::{Difference, Run, Settings};
 use crate::tally::Tally;
 use reference::random::Random;
@@ -100,8 +100,13 @@ fn run_one(options: Options, scenario: Scenario, index: usize, explain: Option<u
         explain,
     };
     let seed = seed_of(options, index);
-    catch_unwind(AssertUnwindSafe(|| scenario.run(seed, settings)))
-        .unwrap_or_else(|_| Err(panicked("a panic, above".to_string())))
+    let panicked = |_| {
+        Err(Difference {
+            calls: 0,
+            text: "a panic, as printed above\n".to_string(),
+        })
+    };
+    catch_unwind(AssertUnwindSafe(|| scenario.run(seed, settings))).unwrap_or_else(panicked)
 }
 
 /// Runs scenarios, whose numbers begin with `first`, on all cores; in order.
@@ -117,8 +122,9 @@ fn run_batch(options: Options, scenarios: &[Scenario], first: usize) -> Vec<Run<
         results.lock().expect("no panic").push((i, result));
     };
     let cores = thread::available_parallelism().map_or(1, usize::from);
+    let workers = if options.small { 1 } else { cores };
     thread::scope(|scope| {
-        for _ in 0..if options.small { 1 } else { cores } {
+        for _ in 0..workers {
             scope.spawn(work);
         }
     });

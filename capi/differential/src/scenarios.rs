@@ -3,7 +3,7 @@ use crate::calls::{self, Answer, Call};
 use crate::erasures::{self, Broken, Loss, Marks};
 use crate::faults::{self, Fault};
 use crate::lent::Side;
-use crate::session::{Difference, Run, Session, Settings};
+use crate::session::{Run, Session, Settings};
 use crate::tally::Tally;
 use reference::field::P;
 use reference::header::Header;
@@ -157,14 +157,14 @@ fn alter(session: &mut Session) {
             0 => 65537,
             1 => u32::MAX,
             2 => word ^ 1,
-            3 => (u64::from(word) + 1).rem_euclid(P) as u32,
+            3 => ((u64::from(word) + 1) % P) as u32,
             _ => other,
         };
         bytes.copy_from_slice(&altered.to_le_bytes());
     });
 }
 
-/// Alters a surviving word of a stripe. Without a stray word the refusal is 9 or 10, if more than half survives.
+/// Alters a surviving word of a stripe, one time in four to a stray word.
 fn alter_survivor(session: &mut Session, marks: &Marks, stripe: u32) {
     let header = session.header();
     let rows = &marks[stripe as usize];
@@ -294,7 +294,7 @@ fn losses(session: &mut Session) -> Run<()> {
     for _ in 1..n {
         write(session)?;
     }
-    session.allow(3000);
+    session.allow(5000);
     for loss in Loss::ALL {
         if session.is_allowed() {
             recover_after(session, loss)?;
@@ -522,9 +522,4 @@ fn alone(session: &mut Session) -> Run<()> {
     }
     let holds = numbers.iter().all(|&x| x == 0) && side.records.part() == side.raw.part();
     session.expect(holds, "the library alone did not recover the records")
-}
-
-/// A difference that is not one of a call.
-pub fn panicked(text: String) -> Difference {
-    Difference { calls: 0, text }
 }
