@@ -1,7 +1,6 @@
 // The calls of the vault, on parts of the buffers; each prints what it answered and what it left.
 use crate::output;
-use vault::Answer;
-use vault::Header;
+use layout::Header;
 
 // The header of the state, whose first numbers are k, s and c; the others are how much of each buffer is lent.
 pub(crate) fn header(numbers: &[u32; 11]) -> Header {
@@ -12,15 +11,14 @@ pub(crate) fn header(numbers: &[u32; 11]) -> Header {
     }
 }
 
-// Prints an answer; an accepted call's header is that of the calls that follow.
-fn answer(numbers: &mut [u32; 11], a: Answer) {
-    let h = a.header;
-    output::number(a.number);
+// Prints a number and the header that came with it; an accepted call's header is that of the calls that follow.
+fn answer(numbers: &mut [u32; 11], number: u32, h: Header) {
+    output::number(number);
     output::number(h.k);
     output::number(h.s);
     output::number(h.c);
     output::text(b"\n");
-    if a.number == 0 {
+    if number == 0 {
         numbers[0] = h.k;
         numbers[1] = h.s;
         numbers[2] = h.c;
@@ -29,9 +27,9 @@ fn answer(numbers: &mut [u32; 11], a: Answer) {
 
 pub(crate) fn open(numbers: &mut [u32; 11], raw: &[u32], full: &mut [u32], log: &mut [u32]) {
     let h = header(numbers);
-    let a = vault::opening::open(h.k, h.s, raw, full, log);
+    let a = store::opening::open(h.k, h.s, raw, full, log);
     output::text(b"open");
-    answer(numbers, a);
+    answer(numbers, a.number, a.header);
     output::words(b" full", full);
     output::words(b" log", log);
 }
@@ -44,9 +42,9 @@ pub(crate) fn write(
     record: u32,
     block: &[u32],
 ) {
-    let a = vault::writing::write(header(numbers), raw, full, log, record, block);
+    let a = store::writing::write(header(numbers), raw, full, log, record, block);
     output::text(b"write");
-    answer(numbers, a);
+    answer(numbers, a.number, a.header);
     output::words(b" raw", raw);
     output::words(b" full", full);
     output::words(b" log", log);
@@ -54,13 +52,13 @@ pub(crate) fn write(
 
 pub(crate) fn read(h: Header, raw: &[u32], record: u32) {
     output::text(b"read");
-    output::number(vault::reading::read_number(h, raw, record));
+    output::number(store::reading::read_number(h, raw, record));
     output::text(b"\n");
-    output::words(b" part", vault::reading::read(h, raw, record));
+    output::words(b" part", store::reading::read(h, raw, record));
 }
 
 pub(crate) fn image(h: Header, full: &[u32], log: &[u32], image: &mut [u8]) {
-    let number = vault::images::image(h, full, log, image);
+    let number = image::images::image(h, full, log, image);
     output::text(b"image");
     output::number(number);
     output::text(b"\n");
@@ -75,7 +73,7 @@ pub(crate) fn decode(
     out: &mut [u32],
     scratch: &mut [u32],
 ) {
-    let number = vault::stripes::decode(h, image, list, stripe, out, scratch);
+    let number = stripe::decoding::decode(h, image, list, stripe, out, scratch);
     output::text(b"decode");
     output::number(number);
     output::text(b"\n");
@@ -84,7 +82,7 @@ pub(crate) fn decode(
 }
 
 pub(crate) fn recover(h: Header, image: &[u8], list: &[u8], out: &mut [u32], scratch: &mut [u32]) {
-    let r = vault::recovering::recover(h, image, list, out, scratch);
+    let r = recovery::recovering::recover(h, image, list, out, scratch);
     output::text(b"recover");
     output::number(r.number);
     if r.named {

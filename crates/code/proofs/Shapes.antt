@@ -12,10 +12,9 @@ use Rattle.field.specs.Power.{power}
 use Rattle.field.specs.Words.{Words, table}
 use Rattle.field.proofs.Laws.{plus-lt, minus-lt, times-lt}
 use Rattle.field.proofs.WordLists.{words-nil, words-cons, words-take, words-drop, words-append, words-table, length-table, getD-table, table-low, table-high}
-use Rattle.code.specs.Transform.{sumAt, differenceAt, mixed, transform, evenAt, oddAt, unmixed, untransform, scaled, reversed, turned}
+use Rattle.code.specs.Transform.{sumAt, differenceAt, mixed, transform, evenAt, oddAt, unmixed, untransform, scaled, reversed, turned, bitReversed}
 use Rattle.code.specs.Stripe.{coded}
-use Rattle.code.specs.Decoding.{bitReversed}
-use Rattle.code.specs.Promises.{Column}
+use Rattle.code.specs.Rows.{Column}
 
 -- the count of positions, as the code writes it
 pub positions : (l : ℕ) {n : ℕ} → n ≡ 2 ^ (l + 1) → n ≡ 2 ^ suc l

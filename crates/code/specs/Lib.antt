@@ -1,8 +1,4 @@
-pub mod DecodeTrace
-pub mod Decoder
-pub mod Decoding
 pub mod MixTrace
-pub mod Promises
 pub mod RowTrace
 pub mod Rows
 pub mod Stripe

@@ -22,3 +22,7 @@ scaleRow p width a g l = stored a (scaledWord p a g l) width l
 unfoldable pub weighedBy : (p base j : ℕ) → (words : List ℕ) → (i : ℕ) → ℕ
 weighedBy p base j l i =
     elim (eqb j i) [ true ↦ getD l (base + i) 0 | false ↦ times p (getD l (base + i) 0) (minus p (getD l i 0) (getD l j 0)) ]
+
+-- word i of those from index `from` on
+unfoldable pub wordFrom : (words : List ℕ) → (from i : ℕ) → ℕ
+wordFrom l a i = getD l (a + i) 0

@@ -1,8 +1,15 @@
-// Coding and decoding of stripes (document 01: shelves), in place, on slices that the caller lends. A row is the words of one position, of any
+// Coding of stripes (document 01: shelves), in place, on slices that the caller lends. A row is the words of one position, of any
 // width; each function does the same to every column.
-pub mod decoding;
+pub mod coding;
 pub mod mixing;
 pub mod number;
-pub mod stripe;
 pub mod unmixing;
-pub mod weights;
+
+// The numbers of a stripe: 2^level blocks of `width` words in a vault of 2^k records whose root is `root`; `first` is t0, the write number of the first block.
+pub struct Stripe {
+    pub level: usize,
+    pub k: usize,
+    pub first: usize,
+    pub root: u32,
+    pub width: usize,
+}

@@ -1,11 +1,11 @@
 -- Laws of `Words` and `table` of specs/Words, over any modulus p > 0. Assumes nothing.
 use mathlib.Core.Path.{_≡_, refl, sym, ap, _∙_, subst}
-use mathlib.Core.List.{List, [], _∷_, _++_, map}
+use mathlib.Core.List.{List, [], _∷_, _++_, map, append-nil}
 use Prim.Native.Nat.{ℕ, zero, suc, _+_, _-_, _<_}
 use native.Mathlib.Decide.{decLt}
 use native.Mathlib.Omega.{arith}
 use lib.ListN.{length, getD, set, take, drop, replicate, length-append, List·getD-append}
-use lib.Seq.{getD-append-add, getD-drop, ext-getD}
+use lib.Seq.{sets, sets-eq, drop-length, getD-append-add, getD-drop, ext-getD}
 use Rattle.field.specs.Words.{Words, table}
 
 module _ (p : ℕ) (h : 0 < p) where
@@ -123,3 +123,14 @@ two-tables l n m f g long low high = ext-getD 0 l (table n f ++ table m g) (simp
         let e : n + (k - n) ≡ k = omega arith in
         let b′ : k - n < m = omega arith in
         subst (λ (j : ℕ). getD l j 0 ≡ getD (table n f ++ table m g) j 0) e (high (k - n) b′ ∙ sym (table-high n m f g (k - n) b′))
+
+-- STORES of one list after the other
+pub sets-append : (l : List ℕ) (i : ℕ) (xs ys : List ℕ) → sets l i (xs ++ ys) ≡ sets (sets l i xs) (i + length xs) ys
+sets-append l i [] ys = ap (λ (k : ℕ). sets l k ys) {x = i} {y = i + 0} (omega arith)
+sets-append l i (x ∷ xs) ys =
+    sets-append (set l i x) (suc i) xs ys ∙ ap (λ (k : ℕ). sets (sets (set l i x) (suc i) xs) k ys) {x = suc i + length xs} {y = i + suc (length xs)} (omega arith)
+
+-- as many stores as there are elements leave nothing of what was there
+pub sets-all : (l xs : List ℕ) → length l ≡ length xs → sets l 0 xs ≡ xs
+sets-all l xs e =
+    sets-eq xs l 0 (omega arith) ∙ ap (λ (r : List ℕ). xs ++ r) (ap (λ (k : ℕ). drop k l) {x = 0 + length xs} {y = length l} (omega arith) ∙ drop-length l) ∙ append-nil xs

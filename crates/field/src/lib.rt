@@ -3,36 +3,44 @@ ghost use mathlib.Core.Path.{_≡_};
 ghost use Prim.Native.Nat.{_<_};
 ghost use Rattle.field.specs.Residue.{plus, minus, times};
 ghost use Rattle.field.specs.Power;
+ghost use Rattle.field.specs.Field.{fermat};
+
+// p. In contracts it is `fermat .modulus`.
+pub const MODULUS: u32 = 65537;
 
 pub fn add(x: u32, y: u32) -> u32
-    requires { ⌜ (x < 65537) × (y < 65537) ⌝ }
-    ensures { λ r. ⌜ r ≡ plus 65537 x y ⌝ }
+    requires { ⌜ (x < fermat .modulus) × (y < fermat .modulus) ⌝ }
+    ensures { λ r. ⌜ r ≡ plus (fermat .modulus) x y ⌝ }
 {
     let s = x + y;
-    if s < 65537 { s } else { s - 65537 }
+    if s < MODULUS { s } else { s - MODULUS }
 }
 
 pub fn sub(x: u32, y: u32) -> u32
-    requires { ⌜ (x < 65537) × (y < 65537) ⌝ }
-    ensures { λ r. ⌜ r ≡ minus 65537 x y ⌝ }
+    requires { ⌜ (x < fermat .modulus) × (y < fermat .modulus) ⌝ }
+    ensures { λ r. ⌜ r ≡ minus (fermat .modulus) x y ⌝ }
 {
-    if y <= x { x - y } else { x + (65537 - y) }
+    if y <= x { x - y } else { x + (MODULUS - y) }
 }
 
-// 65536 is -1, so a product is reduced by a difference of its halves.
+// 65536 = p - 1 is -1, so a product is reduced by a difference of its halves.
 pub fn mul(x: u32, y: u32) -> u32
-    requires { ⌜ (x < 65537) × (y < 65537) ⌝ }
-    ensures { λ r. ⌜ r ≡ times 65537 x y ⌝ }
+    requires { ⌜ (x < fermat .modulus) × (y < fermat .modulus) ⌝ }
+    ensures { λ r. ⌜ r ≡ times (fermat .modulus) x y ⌝ }
 {
     let t = (x as u64) * (y as u64);
     let lo = (t % 65536) as u32;
     let hi = (t / 65536) as u32;
-    if hi <= lo { lo - hi } else { lo + (65537 - hi) }
+    if hi <= lo {
+        lo - hi
+    } else {
+        lo + (MODULUS - hi)
+    }
 }
 
 pub fn power(x: u32, e: u32) -> u32
-    requires { ⌜ x < 65537 ⌝ }
-    ensures { λ r. ⌜ r ≡ Power.power 65537 x e ⌝ }
+    requires { ⌜ x < fermat .modulus ⌝ }
+    ensures { λ r. ⌜ r ≡ Power.power (fermat .modulus) x e ⌝ }
 {
     let mut acc: u32 = 1;
     let mut base = x;
@@ -47,10 +55,10 @@ pub fn power(x: u32, e: u32) -> u32
     acc
 }
 
-// The inverse of a word that is not 0; of 0 it is 0.
+// The inverse of a word that is not 0, which is its power at p - 2 = 65535; of 0 it is 0.
 pub fn inverse(x: u32) -> u32
-    requires { ⌜ x < 65537 ⌝ }
-    ensures { λ r. ⌜ r ≡ Power.inverse 65537 x ⌝ }
+    requires { ⌜ x < fermat .modulus ⌝ }
+    ensures { λ r. ⌜ r ≡ Power.inverse (fermat .modulus) x ⌝ }
 {
     power(x, 65535)
 }

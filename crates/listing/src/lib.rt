@@ -1,7 +1,7 @@
 // The listing that the program `racklist` of document 01 prints. What it says is not proved: the programs racklist and cases compare it with what reference/
 // makes. Proved is that it is safe for every input, ends, and stays in its buffer.
-use vault::Answer;
-use vault::Header;
+use layout::Header;
+use store::Written;
 ghost use mathlib.Core.Path.{_≡_};
 ghost use Prim.Native.Nat.{_+_, _*_, _≤_, _<_};
 ghost use lib.ListN.{length};
@@ -41,12 +41,12 @@ fn write(
     log: &mut [u32],
     block: &mut [u32],
     bytes: &[u8],
-) -> Answer
+) -> Written
     requires { ⌜ 2 + 2 * length (now block) ≤ length (now bytes) ⌝ }
 {
     let number = pair(bytes, 0);
     load(block, &bytes[2..]);
-    vault::writing::write(header, raw, full, log, number, block)
+    store::writing::write(header, raw, full, log, number, block)
 }
 
 // At most 256 writes; what follows them is not read. The number is that of the first write that is refused, 2 where the bytes run out in one.
@@ -57,7 +57,7 @@ fn writes(
     log: &mut [u32],
     block: &mut [u32],
     bytes: &[u8],
-) -> Answer
+) -> Written
     requires { ⌜ length (now block) ≤ 16 ⌝ }
 {
     let size = 2 + 2 * block.len();
@@ -68,7 +68,7 @@ fn writes(
             break;
         }
         if bytes.len() - from < size {
-            return Answer {
+            return Written {
                 number: 2,
                 header: header,
             };
@@ -81,7 +81,7 @@ fn writes(
         header = answer.header;
         from = end;
     }
-    Answer {
+    Written {
         number: 0,
         header: header,
     }
@@ -116,12 +116,16 @@ fn history(
     log: &mut [u32],
     block: &mut [u32],
     bytes: &[u8],
-) -> Answer
+) -> Written
     requires { ⌜ length (now block) ≤ 16 ⌝ }
 {
-    let opened = vault::opening::open(k, block.len() as u32, raw, full, log);
+    let opened = store::opening::open(k, block.len() as u32, raw, full, log);
     if opened.number != 0 {
-        return opened;
+        let header = opened.header;
+        return Written {
+            number: opened.number,
+            header: header,
+        };
     }
     writes(opened.header, raw, full, log, block, bytes)
 }

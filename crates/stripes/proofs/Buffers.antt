@@ -2,7 +2,7 @@
 use mathlib.Core.Path.{_≡_, ap, _∙_}
 use mathlib.Core.Bool.{Bool}
 use mathlib.Core.List.{List, _++_}
-use Prim.Native.Nat.{ℕ, suc, _+_, _*_, _^_, _≤_, _<_}
+use Prim.Native.Nat.{ℕ, suc, _+_, _*_, _%_, _^_, _≤_, _<_}
 use native.Mathlib.Nat.{pow-suc, mul-le-mul, le-of-lt}
 use native.Mathlib.Omega.{arith}
 use lib.Dec.{lit<}
@@ -10,10 +10,18 @@ use lib.ListN.{length, drop, length-append, take-append-drop}
 use lib.Pow.{pow-mono}
 use lib.Seq.{drop-at, drop-length}
 use Rattle.field.specs.Words.{Words}
+use Rattle.field.specs.Field.{fermat, rootOf}
+use Rattle.field.proofs.Primes.{is-root}
+use Rattle.code.specs.Stripe.{Numbers}
 use Rattle.field.proofs.WordLists.{words-append, words-nil, length-table}
-use Rattle.code.specs.Decoder.{weightTo, weights}
-use Rattle.code.proofs.WeightLaws.{words-weights}
+use Rattle.decoder.specs.Decoder.{weightTo, weights}
+use Rattle.decoder.proofs.WeightLaws.{words-weights}
 use Rattle.stripes.specs.Input.{Loaded}
+
+-- the numbers of a stripe, where the code has 2 ^ l in a local and tests the others
+pub numbers : {l k first w width size : ℕ} → size ≡ 2 ^ l → first % size ≡ 0 → l ≤ k → k ≤ 15 → first + size ≤ 65536 → w ≡ rootOf fermat k
+    → Numbers (record { level = l; k = k; first = first; root = w; width = width })
+numbers e aligned within small ends r = record { within = within; small = small; aligned = rw e at aligned; ends = rw e at ends; rooted = is-root small r }
 
 -- lengths, where the code has 2 ^ l in a local
 module _ (l width : ℕ) {size : ℕ} (e : size ≡ 2 ^ l) where
@@ -40,7 +48,7 @@ words-loaded {count} {before} {after} r w =
 pub words-loaded-all : {before after : List ℕ} → Loaded (length before) before after → Words 65537 after
 words-loaded-all r = words-loaded r (rw drop-length (words-nil 65537 (lit< tt)))
 
--- the buffer once `code::weights::weights` has left the weights behind n words, and then these words are read
+-- the buffer once `decoder::weights::weights` has left the weights behind n words, and then these words are read
 module _ (w k l n : ℕ) (ms : List Bool) (a : List ℕ) {count : ℕ} {before after : List ℕ} (left : before ≡ a ++ weights 65537 w k l ms)
     (long : length before ≡ n + 2 ^ suc l) (e : count ≡ n) (read : Loaded count before after) where
   behind : drop n before ≡ weights 65537 w k l ms

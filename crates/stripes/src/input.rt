@@ -2,6 +2,7 @@
 ghost use mathlib.Core.Path.{_≡_};
 ghost use Prim.Native.Nat.{_≤_, _<_};
 ghost use lib.ListN.{length};
+ghost use Rattle.field.specs.Field.{fermat};
 ghost use Rattle.stripes.specs.Input.{Loaded};
 
 pub(crate) fn byte() -> u8 {
@@ -19,14 +20,14 @@ pub(crate) fn pair() -> u32
     low + 256 * high
 }
 
-// A word of three bytes, low byte first; 0 where it is not below 65537.
+// A word of three bytes, low byte first; 0 where it is not below p.
 fn word() -> u32
-    ensures { λ r. ⌜ r < 65537 ⌝ }
+    ensures { λ r. ⌜ r < fermat .modulus ⌝ }
 {
     let low = pair();
     let high = byte() as u32;
     let all = low + 65536 * high;
-    if all < 65537 { all } else { 0 }
+    if all < field::MODULUS { all } else { 0 }
 }
 
 // Reads the first `count` words of the part.

@@ -1,55 +1,44 @@
 // Codes and decodes the stripes that standard input holds, and prints what is left in place of each. The cases and the expected output are made by
 // `stripe_cases` of reference/, which describes both formats.
+use code::Stripe;
 ghost use mathlib.Core.Path.{_≡_};
-ghost use Prim.Native.Nat.{_+_, _*_, _%_, _^_, _≤_, _<_, suc};
+ghost use Prim.Native.Nat.{_+_, _≤_, _<_};
 ghost use lib.ListN.{length, drop};
-ghost use Rattle.field.specs.Field.{Root};
 ghost use Rattle.field.specs.Words.{Words};
-ghost use Rattle.code.specs.Decoder as Decoder;
+ghost use Rattle.code.specs.Stripe.{Numbers, modulusOf, positionCount, blockWords, stripeWords};
+ghost use Rattle.decoder.specs.Decoder.{weightsIn};
 
 mod input;
 mod output;
 
 // Reads a stripe, codes the blocks in its first half and prints all of it.
-fn code_case(stripe: &mut [u32], level: usize, k: usize, first: usize, width: usize)
-    requires { ⌜ (level ≤ k) × (k ≤ 15) ⌝ }
-    requires { ⌜ first + 2 ^ level ≤ 65536 ⌝ }
-    requires { ⌜ length (now stripe) ≡ 2 ^ level * width + 2 ^ level * width ⌝ }
+fn code_case(part: &mut [u32], st: Stripe)
+    requires { ⌜ Numbers st ⌝ }
+    requires { ⌜ length (now part) ≡ blockWords st + blockWords st ⌝ }
 {
-    let count = stripe.len();
-    let root = code::number::root(k);
-    input::words(stripe, count);
-    code::stripe::code(stripe, level, k, first, width, root);
-    output::words(stripe, count);
+    let count = part.len();
+    input::words(part, count);
+    code::coding::code(part, st);
+    output::words(part, count);
 }
 
 // Decodes a stripe and prints what is left of it, if at least half of its positions survive. The part has the stripe's words and, behind them, a weight
 // for each position.
-fn decode_and_print(
-    part: &mut [u32],
-    marks: &[bool],
-    level: usize,
-    k: usize,
-    first: usize,
-    width: usize,
-    root: u32,
-)
-    requires { ⌜ (level ≤ k) × (k ≤ 15) ⌝ }
-    requires { ⌜ (first % 2 ^ level ≡ 0) × (first + 2 ^ level ≤ 65536) ⌝ }
-    requires { ⌜ Root 65537 k root ⌝ }
-    requires { ⌜ 2 ^ suc level ≤ length (now marks) ⌝ }
-    requires { ⌜ length (now part) ≡ 2 ^ suc level * width + 2 ^ suc level ⌝ }
-    requires { ⌜ Words 65537 (now part) ⌝ }
-    requires { ⌜ drop (2 ^ suc level * width) (now part) ≡ Decoder.weights 65537 root k level (now marks) ⌝ }
+fn decode_and_print(part: &mut [u32], marks: &[bool], st: Stripe)
+    requires { ⌜ Numbers st ⌝ }
+    requires { ⌜ positionCount st ≤ length (now marks) ⌝ }
+    requires { ⌜ length (now part) ≡ stripeWords st + positionCount st ⌝ }
+    requires { ⌜ Words (modulusOf st) (now part) ⌝ }
+    requires { ⌜ drop (stripeWords st) (now part) ≡ weightsIn st (now marks) ⌝ }
 {
-    let positions = code::number::two_to(level + 1);
+    let positions = code::number::two_to(st.level + 1);
     let count = part.len() - positions;
-    let erased = code::decoding::count_erased(marks, level);
+    let erased = decoder::decoding::count_erased(marks, st.level);
     if positions < erased + erased {
         output::number(7, b'\n');
         return;
     }
-    if code::decoding::decode(part, marks, level, k, first, width, root) {
+    if decoder::decoding::decode(part, marks, st) {
         output::number(0, b' ');
     } else {
         output::number(9, b' ');
@@ -58,27 +47,18 @@ fn decode_and_print(
 }
 
 // Reads a stripe, decodes it and prints what is left of it.
-fn decode_case(
-    part: &mut [u32],
-    marks: &mut [bool],
-    level: usize,
-    k: usize,
-    first: usize,
-    width: usize,
-)
-    requires { ⌜ (level ≤ k) × (k ≤ 15) ⌝ }
-    requires { ⌜ (first % 2 ^ level ≡ 0) × (first + 2 ^ level ≤ 65536) ⌝ }
-    requires { ⌜ 0 < width ⌝ }
-    requires { ⌜ 2 ^ suc level ≤ length (now marks) ⌝ }
-    requires { ⌜ length (now part) ≡ 2 ^ suc level * width + 2 ^ suc level ⌝ }
+fn decode_case(part: &mut [u32], marks: &mut [bool], st: Stripe)
+    requires { ⌜ Numbers st ⌝ }
+    requires { ⌜ 0 < st .width ⌝ }
+    requires { ⌜ positionCount st ≤ length (now marks) ⌝ }
+    requires { ⌜ length (now part) ≡ stripeWords st + positionCount st ⌝ }
 {
-    let positions = code::number::two_to(level + 1);
+    let positions = code::number::two_to(st.level + 1);
     let count = part.len() - positions;
-    let root = code::number::root(k);
     input::marks(marks, positions);
-    code::weights::weights(part, marks, level, k, root);
+    decoder::weights::weights(part, marks, st);
     input::words(part, count);
-    decode_and_print(part, marks, level, k, first, width, root);
+    decode_and_print(part, marks, st);
 }
 
 // One case; nothing where its numbers are out of range or its words do not fit into the buffers.
@@ -98,10 +78,17 @@ fn run_case(part: &mut [u32], marks: &mut [bool]) {
     if first % size != 0 || 65536 < first + size || marks.len() < positions || part.len() < all {
         return;
     }
+    let st = Stripe {
+        level: level,
+        k: k,
+        first: first,
+        root: code::number::root(k),
+        width: width,
+    };
     if decodes == 1 {
-        decode_case(&mut part[..all], marks, level, k, first, width);
+        decode_case(&mut part[..all], marks, st);
     } else {
-        code_case(&mut part[..count], level, k, first, width);
+        code_case(&mut part[..count], st);
     }
 }
 

@@ -9,14 +9,14 @@ use lib.Dec.{lit<}
 use lib.Seq.{take-all, drop-nil, take-suc, drop-cons, take-at, drop-at, drop-append-add, getD-drop, drop-drop, take-add, length-take-le}
 use Rattle.field.specs.Words.{Words}
 use Rattle.field.proofs.WordLists.{words-part}
-use Rattle.vault.specs.declared.Header.{Header}
-use Rattle.vault.specs.Header.{width}
-use Rattle.vault.specs.Records.{recordIn, replaced, blocksFrom}
-use Rattle.vault.specs.Decoding.{blockNumber, blockData}
-use Rattle.vault.specs.Recovery.{laid}
+use Rattle.layout.specs.Records.{recordIn, replaced}
+use Rattle.store.specs.Buffers.{blocksFrom}
+use Rattle.rows.specs.Decoding.{blockNumber, blockData}
+use Rattle.recovery.specs.Recovery.{laid}
 use Rattle.vault.specs.Round.{Entry, putAll, rowsOf}
 use Rattle.vault.proofs.Rounds.{Taken, AllTaken, none, more, put-append}
-use Rattle.vault.proofs.Records.{reduced-same, length-record, record-end}
+use Rattle.store.proofs.StoredRecords.{reduced-same}
+use Rattle.layout.proofs.RecordWords.{length-record, record-end}
 
 -- entry j
 abbrev pub noEntry : Entry
@@ -43,30 +43,30 @@ module _ {k s : ℕ} where
   unfolding rowsOf
   row-at {xs} E j h = rows-drop E j ∙ ap rowsOf (drop-cons xs j noEntry h)
 
-module _ {k : ℕ} (h : Header) {xs : List Entry} (E : AllTaken k (h .s) xs) where
+module _ {k s : ℕ} {xs : List Entry} (E : AllTaken k s xs) where
   -- block j
   module _ (j : ℕ) (lt : j < length xs) where
-    pub number-at : blockNumber h (rowsOf xs) j ≡ getD xs j noEntry .number
+    pub number-at : blockNumber (suc s) (rowsOf xs) j ≡ getD xs j noEntry .number
     number-at =
-        ap (λ (n : ℕ). getD (rowsOf xs) n 0) (sym (add-zero (j * width h))) ∙ sym (getD-drop (j * width h) (rowsOf xs) 0 0)
+        ap (λ (n : ℕ). getD (rowsOf xs) n 0) (sym (add-zero (j * suc s))) ∙ sym (getD-drop (j * suc s) (rowsOf xs) 0 0)
         ∙ ap (λ (l : List ℕ). getD l 0 0) (row-at E j lt)
 
-    pub data-at : blockData h (rowsOf xs) j ≡ getD xs j noEntry .block
+    pub data-at : blockData (suc s) (rowsOf xs) j ≡ getD xs j noEntry .block
     data-at =
-        ap (λ (n : ℕ). take (h .s) (drop n (rowsOf xs))) {x = suc (j * width h)} {y = j * width h + 1} (omega arith)
-        ∙ ap (take (h .s)) (sym (drop-drop 1 (j * width h) (rowsOf xs)) ∙ ap (drop 1) (row-at E j lt))
-        ∙ take-at (getD xs j noEntry .block) (rowsOf (drop (suc j) xs)) (h .s) (entry-at E j lt .long)
+        ap (λ (n : ℕ). take s (drop n (rowsOf xs))) {x = suc (j * suc s)} {y = j * suc s + 1} (omega arith)
+        ∙ ap (take s) (sym (drop-drop 1 (j * suc s) (rowsOf xs)) ∙ ap (drop 1) (row-at E j lt))
+        ∙ take-at (getD xs j noEntry .block) (rowsOf (drop (suc j) xs)) s (entry-at E j lt .long)
 
   -- rows laid over records put their entries
-  laid-take : (r : List ℕ) (j : ℕ) → j ≤ length xs → laid h (rowsOf xs) j r ≡ putAll (h .s) r (take j xs)
+  laid-take : (r : List ℕ) (j : ℕ) → j ≤ length xs → laid s (rowsOf xs) j r ≡ putAll s r (take j xs)
   unfolding laid putAll
   laid-take r zero b = refl
   laid-take r (suc j) b =
       let lt : j < length xs = omega arith in
-      rw (laid-take r j (omega arith), number-at j lt, data-at j lt, take-suc xs j noEntry lt, put-append (h .s) r (take j xs) (getD xs j noEntry ∷ []))
+      rw (laid-take r j (omega arith), number-at j lt, data-at j lt, take-suc xs j noEntry lt, put-append s r (take j xs) (getD xs j noEntry ∷ []))
 
-  pub laid-put : (r : List ℕ) (n : ℕ) → length xs ≡ n → laid h (rowsOf xs) n r ≡ putAll (h .s) r xs
-  laid-put r n e = laid-take r n (omega arith) ∙ ap (putAll (h .s) r) (take-all n xs (omega arith))
+  pub laid-put : (r : List ℕ) (n : ℕ) → length xs ≡ n → laid s (rowsOf xs) n r ≡ putAll s r xs
+  laid-put r n e = laid-take r n (omega arith) ∙ ap (putAll s r) (take-all n xs (omega arith))
 
 -- RECORDS AS ENTRIES: n records of a list, from record i on
 unfoldable pub numbered : (s : ℕ) → (raw : List ℕ) → (i n : ℕ) → List Entry

@@ -2,23 +2,26 @@
 -- Assumes nothing.
 use mathlib.Core.Path.{_≡_, refl, sym, ap, _∙_}
 use mathlib.Core.Bool.{true, _&&_}
+use mathlib.Core.Logic.{⊎-elim}
 use mathlib.Core.List.{List, [], _∷_, _++_, append-assoc}
-use Prim.Native.Nat.{ℕ, zero, suc, _*_, _^_, _≤_, _<_}
-use native.Mathlib.Nat.{zero-mul}
+use Prim.Native.Nat.{ℕ, zero, suc, _*_, _^_, _≤_, _<_, _-_, _+_}
+use native.Mathlib.Nat.{zero-mul, eq-or-lt-of-le, suc-le-suc-iff}
 use native.Mathlib.Omega.{arith}
 use lib.Dec.{lit<, ltb, leb}
-use lib.ListN.{length, take, drop, length-append, length-drop}
-use lib.Seq.{length-take-le}
+use lib.ListN.{length, take, drop, length-append, length-drop, getD, List·getD-append}
+use lib.Seq.{length-take-le, getD-append-add}
 use lib.Pow.{pow-mono}
 use borrow.Author.Tests.{leb-true, le-leb, lt-ltb}
 use Rattle.field.specs.Words.{Words}
 use Rattle.field.proofs.WordLists.{words-nil, words-cons, words-append}
-use Rattle.code.specs.Promises.{Column}
-use Rattle.code.proofs.BlockDecoding.{both-true, first-true, second-true}
-use Rattle.vault.specs.Header.{headerOf, isIn, headerFits, isFilled, firstOf}
-use Rattle.vault.specs.Records.{replaced, blocksOf}
-use Rattle.vault.specs.Round.{Entry, Round, putAll, rowsOf, roundHeader, levelEntries}
-use Rattle.vault.proofs.Records.{field-words, length-replaced, words-replaced, length-blocks, words-blocks}
+use Rattle.code.specs.Rows.{Column}
+use Rattle.decoder.proofs.BlockDecoding.{both-true, first-true, second-true}
+use Rattle.layout.specs.Header.{headerOf, isIn, headerFits, isFilled, firstOf}
+use Rattle.layout.specs.Records.{replaced}
+use Rattle.store.specs.Buffers.{blocksOf}
+use Rattle.vault.specs.Round.{Entry, Round, putAll, beforeEach, rowsOf, recordsIn, roundHeader, levelEntries}
+use Rattle.layout.proofs.RecordWords.{field-words, length-replaced, words-replaced}
+use Rattle.store.proofs.StoredRecords.{length-blocks, words-blocks}
 use Rattle.vault.proofs.Levels.{filled-in}
 
 -- k from 1 to 10 and s from 1 to 128
@@ -59,12 +62,12 @@ pub data AllTaken (k s : ℕ) : List Entry → Type 0 where
   more : {x : Entry} {xs : List Entry} → Taken k s x → AllTaken k s xs → AllTaken k s (x ∷ xs)
 
 -- THE INVARIANT of rounds: n records of s data words, and since then fewer than n writes, each taken
-pub record Good (k s : ℕ) (a : Round) : Type 0 where
-  pub sizes : Sizes k s
-  pub base-long : length (a .base) ≡ 2 ^ k * s
+pub record Good (a : Round) : Type 0 where
+  pub sizes : Sizes (a .k) (a .s)
+  pub base-long : length (a .base) ≡ 2 ^ a .k * a .s
   pub base-words : Words 65536 (a .base)
-  pub taken : AllTaken k s (a .since)
-  pub few : length (a .since) < 2 ^ k
+  pub taken : AllTaken (a .k) (a .s) (a .since)
+  pub few : length (a .since) < 2 ^ a .k
 
 -- parts of what was taken
 pub taken-append : {k s : ℕ} {xs ys : List Entry} → AllTaken k s xs → AllTaken k s ys → AllTaken k s (xs ++ ys)
@@ -119,27 +122,57 @@ words-put r u none = u
 words-put {s} r u (more {x = x} h t) =
     words-put (replaced s r (x .number) (x .block)) (words-replaced 65536 s (lit< tt) r (x .number) (x .block) u (h .words)) t
 
+-- what is remembered before each: one more write remembers the records that it finds
+pub before-append : (s : ℕ) (r : List ℕ) (xs : List Entry) (x : Entry) → beforeEach s r (xs ++ (x ∷ [])) ≡ putAll s r xs ∷ beforeEach s r xs
+unfolding putAll beforeEach
+before-append s r [] x = refl
+before-append s r (y ∷ xs) x = ap (λ (l : List (List ℕ)). l ++ (r ∷ [])) (before-append s (replaced s r (y .number) (y .block)) xs x)
+
+pub length-before : (s : ℕ) (r : List ℕ) (xs : List Entry) → length (beforeEach s r xs) ≡ length xs
+unfolding beforeEach
+length-before s r [] = refl
+length-before s r (x ∷ xs) =
+    let r′ = replaced s r (x .number) (x .block) in
+    length-append (beforeEach s r′ xs) (r ∷ []) ∙ omega (arith, length-before s r′ xs)
+
+pub before-at : (s : ℕ) (r : List ℕ) (xs : List Entry) (i : ℕ) → i < length xs → getD (beforeEach s r xs) i [] ≡ putAll s r (take (length xs - suc i) xs)
+unfolding putAll beforeEach
+before-at s r [] i b = absurd (omega arith)
+before-at s r (x ∷ xs) i b = ⊎-elim oldest (λ d. newer d (before-at s (replaced s r (x .number) (x .block)) xs i d)) (eq-or-lt-of-le (suc-le-suc-iff .0 b))
+  where
+    r′ : List ℕ
+    r′ = replaced s r (x .number) (x .block)
+
+    oldest : i ≡ length xs → getD (beforeEach s r′ xs ++ (r ∷ [])) i [] ≡ putAll s r (take (suc (length xs) - suc i) (x ∷ xs))
+    oldest e =
+        let z : suc (length xs) - suc i ≡ 0 = omega arith in
+        let d : i ≡ length (beforeEach s r′ xs) + 0 = omega (arith, length-before s r′ xs) in
+        rw z (ap (λ (j : ℕ). getD (beforeEach s r′ xs ++ (r ∷ [])) j []) d ∙ getD-append-add (beforeEach s r′ xs) (r ∷ []) 0 [])
+
+    newer : i < length xs → getD (beforeEach s r′ xs) i [] ≡ putAll s r′ (take (length xs - suc i) xs)
+        → getD (beforeEach s r′ xs ++ (r ∷ [])) i [] ≡ putAll s r (take (suc (length xs) - suc i) (x ∷ xs))
+    newer d rest =
+        let z : suc (length xs) - suc i ≡ suc (length xs - suc i) = omega arith in
+        rw z (List·getD-append (beforeEach s r′ xs) (r ∷ []) [] i (rw length-before d) ∙ rest)
+
 -- OF A GOOD ROUND: the records now, the header, the rows of a filled level, and the blocks of the full stripe
-module _ {k s : ℕ} {a : Round} (good : Good k s a) where
-  pub records-long : length (putAll s (a .base) (a .since)) ≡ 2 ^ k * s
+module _ {a : Round} (good : Good a) where
+  pub records-long : length (recordsIn a) ≡ 2 ^ a .k * a .s
   records-long = length-put (a .base) (good .base-long) (good .taken)
 
-  pub records-words : Words 65536 (putAll s (a .base) (a .since))
-  records-words = words-put (a .base) (good .base-words) (good .taken)
+  pub header-fits : headerFits (roundHeader a) ≡ true
+  header-fits = sizes-fit (a .k) (a .s) (length (a .since)) (good .sizes) (good .few)
 
-  pub header-fits : headerFits (roundHeader k s a) ≡ true
-  header-fits = sizes-fit k s (length (a .since)) (good .sizes) (good .few)
-
-  pub length-entries : (l : ℕ) → l < k → isFilled (roundHeader k s a) l ≡ true → length (levelEntries (roundHeader k s a) a l) ≡ 2 ^ l
+  pub length-entries : (l : ℕ) → l < a .k → isFilled (roundHeader a) l ≡ true → length (levelEntries (roundHeader a) (a .since) l) ≡ 2 ^ l
   length-entries l b e =
-      let h = roundHeader k s a in
+      let h = roundHeader a in
       length-take-le (2 ^ l) (drop (firstOf h l) (a .since)) (rw length-drop (omega (arith, filled-in h l b e)))
 
-  pub level-column : (l : ℕ) → l < k → isFilled (roundHeader k s a) l ≡ true → Column 65537 (2 ^ l * suc s) (rowsOf (levelEntries (roundHeader k s a) a l))
-  level-column l b e = rows-column (2 ^ l) (good .sizes .k-high) (taken-take (2 ^ l) (taken-drop (firstOf (roundHeader k s a) l) (good .taken))) (length-entries l b e)
+  pub level-column : (l : ℕ) → l < a .k → isFilled (roundHeader a) l ≡ true → Column 65537 (2 ^ l * suc (a .s)) (rowsOf (levelEntries (roundHeader a) (a .since) l))
+  level-column l b e = rows-column (2 ^ l) (good .sizes .k-high) (taken-take (2 ^ l) (taken-drop (firstOf (roundHeader a) l) (good .taken))) (length-entries l b e)
 
-  pub base-column : (c : ℕ) → Column 65537 (2 ^ k * suc s) (blocksOf (headerOf k s c) (a .base))
+  pub base-column : (c : ℕ) → Column 65537 (2 ^ a .k * suc (a .s)) (blocksOf (headerOf (a .k) (a .s) c) (a .base))
   base-column c = record {
-    long = length-blocks 65537 (2 ^ k) s (a .base) 0 (2 ^ k) (good .base-long) (omega arith);
-    words = words-blocks 65537 s (lit< tt) (a .base) 0 (2 ^ k) (omega (arith, pow-mono (good .sizes .k-high)));
+    long = length-blocks 65537 (2 ^ a .k) (a .s) (a .base) 0 (2 ^ a .k) (good .base-long) (omega arith);
+    words = words-blocks 65537 (a .s) (lit< tt) (a .base) 0 (2 ^ a .k) (omega (arith, pow-mono (good .sizes .k-high)));
   }

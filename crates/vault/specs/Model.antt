@@ -1,42 +1,59 @@
--- The model (document 01: the record book): n records of s words and a count, fed k, s, the opened records and the events, and nothing from the vault.
--- Assumes nothing: these are definitions.
+-- The model (document 01: the record book): n = 2^k records of s words, and those that there were before each write of this round. It is fed k, s, the opened
+-- records and the events, and nothing from the vault: of this crate it imports the events alone. Assumes nothing: these are definitions.
 use mathlib.Core.Bool.{Bool, true, false, _&&_}
 use mathlib.Core.List.{List, [], _∷_, _++_}
 use Prim.Native.Nat.{ℕ, suc, _*_, _^_}
 use lib.Dec.{ltb, leb, eqb}
 use lib.ListN.{length, take, drop}
-use Rattle.vault.specs.History.{Event, write}
+use Rattle.vault.specs.Event.{Opening, Event, write}
 
+-- `before` has the records as they were before each write of this round, the newest first: its head is what taking back the last write would give
 pub record Model : Type 0 where
+  pub k : ℕ
+  pub s : ℕ
   pub records : List ℕ
-  pub writes : ℕ
+  pub before : List (List ℕ)
+
+-- the count: the writes of this round
+abbrev pub writes : Model → ℕ
+writes m = length (m .before)
 
 unfoldable pub wordsFit : List ℕ → Bool
 wordsFit [] = true
 wordsFit (x ∷ xs) = leb x 65535 && wordsFit xs
 
--- the number that the table gives to a write, judged from k, s, its record number and its block
-abbrev pub tableNumber : (k s : ℕ) → Event → ℕ
-tableNumber k s (write i b) =
-    elim (eqb (length b) s) [
-      | true ↦ elim (ltb i (2 ^ k)) [ true ↦ elim (wordsFit b) [ true ↦ 0 | false ↦ 5 ] | false ↦ 4 ]
+-- the number that the table gives to an event: a write's is judged from k, s, its record number and its block
+abbrev pub tableNumber : Model → Event → ℕ
+tableNumber m (write i b) =
+    elim (eqb (length b) (m .s)) [
+      | true ↦ elim (ltb i (2 ^ m .k)) [ true ↦ elim (wordsFit b) [ true ↦ 0 | false ↦ 5 ] | false ↦ 4 ]
       | false ↦ 2
     ]
 
--- the block's words in place of that record; the count grows by 1, and at n it becomes 0
-abbrev pub entered : (k s : ℕ) → Model → Event → Model
-entered k s b (write i ws) = record {
-  records = take (i * s) (b .records) ++ (ws ++ drop (suc i * s) (b .records));
-  writes = elim (eqb (suc (b .writes)) (2 ^ k)) [ true ↦ 0 | false ↦ suc (b .writes) ];
+-- a block's words in place of record i; the count grows by 1, and at n it becomes 0
+abbrev pub put : Model → (number : ℕ) → (block : List ℕ) → Model
+put m i b = record {
+  k = m .k;
+  s = m .s;
+  records = take (i * m .s) (m .records) ++ (b ++ drop (suc i * m .s) (m .records));
+  before = elim (eqb (suc (writes m)) (2 ^ m .k)) [ true ↦ [] | false ↦ m .records ∷ m .before ];
 }
 
--- an event that the table refuses leaves records and count as they are
-abbrev pub fed : (k s : ℕ) → Model → Event → Model
-fed k s b e = elim (eqb (tableNumber k s e) 0) [ true ↦ entered k s b e | false ↦ b ]
+-- what an event that the table takes does to the model
+abbrev pub entered : Model → Event → Model
+entered m (write i b) = put m i b
 
-unfoldable pub fedAll : (k s : ℕ) → Model → List Event → Model
-fedAll k s b [] = b
-fedAll k s b (e ∷ es) = fedAll k s (fed k s b e) es
+-- an event that the table refuses leaves the model as it is
+abbrev pub fed : Model → Event → Model
+fed m e = elim (eqb (tableNumber m e) 0) [ true ↦ entered m e | false ↦ m ]
 
-abbrev pub modelOf : (k s : ℕ) → (opened : List ℕ) → List Event → Model
-modelOf k s r es = fedAll k s (record { records = r; writes = 0 }) es
+unfoldable pub fedAll : Model → List Event → Model
+fedAll m [] = m
+fedAll m (e ∷ es) = fedAll (fed m e) es
+
+-- it begins as the opened records, with count 0
+abbrev pub openedModel : Opening → Model
+openedModel o = record { k = o .k; s = o .s; records = o .raw; before = [] }
+
+abbrev pub modelOf : Opening → List Event → Model
+modelOf o es = fedAll (openedModel o) es

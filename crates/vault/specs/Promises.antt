@@ -1,81 +1,143 @@
--- WHAT THE VAULT PROMISES of every history. Open this file first: each promise is a type, and the term of proofs/ that is named beside it is its proof.
--- `after (openedVault k s r f g) es` is a vault after the opening of records r into buffers f and g, and then the events es; `modelOf k s r es` is what
--- the record book says. Assumes nothing.
+-- WHAT THE VAULT PROMISES of every history, and of decoding and recovery. Each promise is a type and has a line of words above it; the record `Promises` at the end has one
+-- field for each; and `proved : Promises` in proofs/Proved.antt is their proof, all in one term: with one of them missing it is refused. Assumes nothing.
+--
+-- SIGNS
+--   (x : T) → A       for every x of type T: A             A → B       if A, then B
+--   a ≡ b             a equals b                           f x y       f of x and y, as f(x, y) elsewhere
+--   A × B             A and B                              (x : T) × A there is an x of type T with A
+--   A ⊎ B             A or B                               A ↔ B       A if and only if B
+--   ⊥                 what is never true                   A → ⊥       not A
+--   h .k              the field k of h                     let x = a in A   A, where x is short for a
+--   ℕ                 the numbers 0, 1, 2, ..              suc n       n + 1 (and 2 ^ suc l is twice 2 ^ l)
+--   List T            a list of things of type T           []          the empty list; xs ++ ys is xs and then ys
+--   length xs         how many entries it has              getD xs i d entry i of xs, counted from 0; d if xs has none
+--   take n xs         the first n entries of xs            replicate n x   n times x
+--
+-- LETTERS
+--   o, o′     an opening: k, s, the raw records, and the buffers `full` and `log` that it is lent
+--   es, es′   the events after it; `next` one more
+--   k, s, c   the header's numbers: n = 2^k records of s words, and c writes since the full stripe was last built
+--   h         a header (document 01: plate)
+--   l         a stripe (shelf): a level below k, or k for the full stripe; it has 2^l blocks and 2^(l+1) positions
+--   i, j      a position of a stripe, and a word of its 1 + s; in `BeforeIs` i is an entry of `before`
+--   m         an image, as bytes
+--   e         an erasure list (gap list), as bytes
+--   bs, cs    blocks of 1 + s words, a record's number and its data, one block after the other
+--   a         a round: the records when the full stripe was last built, `base`, and the writes since, `since`, the oldest first
+--   out, scratch   the output and the scratch that a call is lent; they may hold anything
+--
+-- FROM THIS CRATE
+--   specs/Event    Opening, Event: what a history is made of
+--   specs/History  Opens o: the call takes the opening, that is, gives 0. vaultAfter o es: header and buffers as the calls leave them; headerAfter, imageAfter: its header and its
+--                  image. numberOn v next: the number that the call gives to an event
+--   specs/Model    modelOf o es: what the model (record book) says, from k, s, the opened records and the events alone. writes: its count. tableNumber: the table's number
+--   specs/Round    roundOf o es: the round that a history ends in. represent a: the buffers' words as "Words and shelves" fixes them. modelIn a: the model of a round.
+--                  putAll s r xs: the records r with the writes xs put in. levelEntries h xs l: the writes that level l holds. rowsOf xs: writes as blocks
+--
+-- FROM OTHER CRATES
+--   layout     headerOf k s c: the header of these numbers. headerFits h: k is 1 to 10, s 1 to 128, c below n. rawSize, outSize, scratchSize, imageSize: the lengths that document 01
+--              asks for. width h: 1 + s. isFull h l: l is k. isFilled h l: bit l of c is 1. stripeAt h l: the word of the image at which the stripe begins; stripeSize h l: how many
+--              it has. stripeOf h l: the stripe's numbers: l, k, its t0, w of order 2n, and 1 + s
+--   code       p: the field's modulus, 65537. codedStripe st bs: the words that the blocks bs of the stripe st are coded to. Column p n xs: xs are n words below p
+--   decoder    survivors l ms: the positions of stripe l that are not erased. AgreesRows ms n width xs ys: xs and ys have the same words at these, of n positions
+--   store      blocksOf h raw: the raw records as blocks, in number order
+--   image      wordAt m i: word i of an image. wordsOf bytes: the words of some bytes. stripeIn h m l: the bytes of a stripe in an image. erasuresIn e: the pairs of a list.
+--              erasuresFit h e: it is well formed, number 3 does not apply. marksOf h gs l: for each position of a stripe whether a pair touches one of its bytes; true is erased
+--   rows       of a stripe's numbers st, its marks ms and its words r, whatever stands at erased positions. Its specs/Promises has: Codes st ms r bs: bs are 2^l blocks of words
+--              below p (Column) that code to (codedStripe) all words of r that survive (AgreesRows); InField st ms r: all of these are below p; OutOfField st ms r: one is not.
+--              Its specs/Decoding has: `decoded bs` or `failed` with a number: what a stripe decodes to; areRecords st bs n: the first n blocks are records, number 10 does not apply
+--   stripe     decodeStripe h m gs l: what a stripe of an image decodes to: decodeRows of the rows crate, of its numbers, marks and words. decodeEarly: the number of the call
+--              `decode` by its tests 1 to 6. decodeNumber, decodeLeaves, decodeScratch: the number that it gives, and what it leaves in the output and in the scratch
+--   recovery   recoverAnswer, recoverLeaves, recoverScratch: what the call `recover` answers and leaves. unnamed n: the number n, and no stripe is named
 use mathlib.Core.Path.{_≡_}
 use mathlib.Core.Bool.{Bool, true, false}
 use mathlib.Core.Logic.{_⊎_, _↔_}
-use mathlib.Core.List.{List, [], _∷_, _++_}
-use Prim.Native.Nat.{ℕ, suc, _+_, _*_, _^_, _≤_, _<_}
-use lib.ListN.{length, getD, replicate}
-use Rattle.field.specs.Words.{Words}
-use Rattle.code.specs.Decoding.{survivors}
-use Rattle.code.specs.Stripe.{codedRows}
-use Rattle.code.specs.Promises.{Column, AgreesRows}
-use Rattle.vault.specs.declared.Header.{Header}
-use Rattle.vault.specs.Header.{headerOf, modulusOf, vaultRoot, count, width, headerFits, rawSize, outSize, scratchSize, imageSize, isFull, isFilled, firstOf, stripeAt}
-use Rattle.vault.specs.Records.{Buffers, fullStripe, blocksOf}
-use Rattle.vault.specs.Image.{imageOf, wordAt}
-use Rattle.vault.specs.Erasures.{Erasure, erasuresIn, erasuresFit, marksOf}
-use Rattle.vault.specs.Decoding.{Decoded, failed, decoded, loaded, areBelow, areRecords, decodeStripe}
-use Rattle.vault.specs.Calls.{openNumber, recoverAnswer, recoverLeaves, recoverScratch, unnamed}
-use Rattle.vault.specs.History.{Event, write, Vault, numberOn, after, openedVault}
-use Rattle.vault.specs.Model.{Model, tableNumber, modelOf}
-use Rattle.vault.specs.Round.{roundOf, roundHeader, levelEntries, rowsOf, represent}
+use mathlib.Core.List.{List, [], _++_}
+use Prim.Native.Nat.{ℕ, suc, _+_, _*_, _-_, _^_, _≤_, _<_}
+use lib.ListN.{length, getD, take, replicate}
+use Rattle.decoder.specs.Decoding.{survivors}
+use Rattle.layout.specs.declared.Header.{Header}
+use Rattle.layout.specs.Header.{headerOf, width, headerFits, rawSize, outSize, scratchSize, imageSize, isFull, isFilled, stripeAt, stripeSize, stripeOf}
+use Rattle.store.specs.Buffers.{blocksOf}
+use Rattle.image.specs.Image.{wordAt, wordsOf}
+use Rattle.image.specs.Erasures.{erasuresIn, erasuresFit, marksOf}
+use Rattle.image.specs.Loading.{stripeIn}
+use Rattle.rows.specs.Decoding.{failed, decoded, areRecords}
+use Rattle.rows.specs.Promises as Rows
+use Rattle.rows.specs.Promises.{InField, OutOfField}
+use Rattle.stripe.specs.Decoding.{decodeStripe}
+use Rattle.stripe.specs.StripeCall.{decodeEarly, decodeNumber, decodeLeaves, decodeScratch}
+use Rattle.recovery.specs.RecoveryCall.{recoverAnswer, recoverLeaves, recoverScratch, unnamed}
+use Rattle.vault.specs.Event.{Opening, Event}
+use Rattle.vault.specs.Model.{writes, tableNumber, modelOf}
+use Rattle.vault.specs.History.{numberOn, Opens, vaultAfter, headerAfter, imageAfter}
+use Rattle.vault.specs.Round.{putAll, rowsOf, modelIn, roundOf, levelEntries, represent}
+use Rattle.vault.specs.Boundary.{PartIs, NoneNamed}
+use Rattle.vault.specs.Worked.{Holds, table}
 
--- a taken opening: the call gives 0
-abbrev pub Opens : (k s : ℕ) → (raw full log : List ℕ) → Type 0
-Opens k s r f g = openNumber k s r f g ≡ 0
-
--- 1. THE HEADER after any history has the opening's k and s, and its c is the model's count; the model keeps n records of s words
+-- 1. THE HEADER after any history has the opening's k and s, and its c is the model's count
 abbrev pub HeaderIs : Type 0
-HeaderIs =
-    (k s : ℕ) (r f g : List ℕ) (es : List Event) → Opens k s r f g →
-    after (openedVault k s r f g) es .header ≡ headerOf k s (modelOf k s r es .writes)
+HeaderIs = (o : Opening) (es : List Event) → Opens o → headerAfter o es ≡ headerOf (o .k) (o .s) (writes (modelOf o es))
+
+-- the model keeps the opening's k and s, and n records of s words
+abbrev pub SizesStay : Type 0
+SizesStay = (o : Opening) (es : List Event) → (modelOf o es .k ≡ o .k) × (modelOf o es .s ≡ o .s)
 
 abbrev pub RecordsLong : Type 0
-RecordsLong = (k s : ℕ) (r f g : List ℕ) (es : List Event) → Opens k s r f g → length (modelOf k s r es .records) ≡ 2 ^ k * s
+RecordsLong = (o : Opening) (es : List Event) → Opens o → length (modelOf o es .records) ≡ 2 ^ o .k * o .s
 
--- in any history each write's number is the table's, judged from k, s, record number and block alone
+-- in any history the number that the call gives to the next event is the table's, judged from the model and the event alone
 abbrev pub NumbersAre : Type 0
-NumbersAre =
-    (k s : ℕ) (r f g : List ℕ) (es : List Event) (e : Event) → Opens k s r f g →
-    numberOn (after (openedVault k s r f g) es) e ≡ tableNumber k s e
+NumbersAre = (o : Opening) (es : List Event) (next : Event) → Opens o → numberOn (vaultAfter o es) next ≡ tableNumber (modelOf o es) next
 
 -- 2. THE WORDS after any history are the scheme's: raw copy, full stripe and every level
 abbrev pub WordsAre : Type 0
-WordsAre =
-    (k s : ℕ) (r f g : List ℕ) (es : List Event) → Opens k s r f g →
-    after (openedVault k s r f g) es .held ≡ represent k s (roundOf k s r es)
+WordsAre = (o : Opening) (es : List Event) → Opens o → vaultAfter o es .held ≡ represent (roundOf o es)
 
 abbrev pub RawIs : Type 0
-RawIs =
-    (k s : ℕ) (r f g : List ℕ) (es : List Event) → Opens k s r f g →
-    after (openedVault k s r f g) es .held .raw ≡ modelOf k s r es .records
+RawIs = (o : Opening) (es : List Event) → Opens o → vaultAfter o es .held .raw ≡ modelOf o es .records
 
--- 3. DECODING A STRIPE, both ways round, for any image and erasure list. `Codes h m e l bs`: bs are 2^l blocks of words below p that code to all words that
--- survive on stripe l of the image m under the erasures e
+-- the model is the round's: its records are those of the round's start with all writes since put in
+abbrev pub ModelIs : Type 0
+ModelIs = (o : Opening) (es : List Event) → Opens o → modelOf o es ≡ modelIn (roundOf o es)
+
+-- and what it remembers of the round is what was there: it counts the writes since, and entry i of `before` is the records as all writes but the last i + 1 left them
+abbrev pub BeforeIs : Type 0
+BeforeIs =
+    (o : Opening) (es : List Event) → Opens o →
+    let n = writes (modelOf o es) in
+    let a = roundOf o es in
+    (n ≡ length (a .since)) × ((i : ℕ) → i < n → getD (modelOf o es .before) i [] ≡ putAll (o .s) (a .base) (take (n - suc i) (a .since)))
+
+-- 3. DECODING A STRIPE, both ways round, for any image and erasure list: its marks, and its words in the image, whatever stands at erased positions
 abbrev pub marks : Header → (erasures : List ℕ) → (stripe : ℕ) → List Bool
 marks h e l = marksOf h (erasuresIn e) l
 
-abbrev pub rowsIn : Header → (image erasures : List ℕ) → (stripe : ℕ) → List ℕ
-rowsIn h m e l = loaded h m (marks h e l) l
+abbrev pub wordsIn : Header → (image : List ℕ) → (stripe : ℕ) → List ℕ
+wordsIn h m l = wordsOf (stripeIn h m l)
 
-pub record Codes (h : Header) (m e : List ℕ) (l : ℕ) (bs : List ℕ) : Type 0 where
-  pub blocks : Column (modulusOf h) (2 ^ l * width h) bs
-  pub agrees : AgreesRows (marks h e l) (2 ^ suc l) (width h) (codedRows (modulusOf h) (vaultRoot h) (h .k) l (firstOf h l) (width h) bs) (rowsIn h m e l)
+-- which are the image's words from the stripe's place on
+abbrev pub WordsStand : Type 0
+WordsStand =
+    (h : Header) (m : List ℕ) (l q : ℕ) → headerFits h ≡ true → length m ≡ imageSize h → l ≤ h .k → q < stripeSize h l →
+    getD (wordsIn h m l) q 0 ≡ wordAt m (stripeAt h l + q)
+
+-- bs are 2^l blocks of words below p that code to all words that survive on stripe l of the image m under the erasures e
+abbrev pub Codes : Header → (image erasures : List ℕ) → (stripe : ℕ) → (blocks : List ℕ) → Type 0
+Codes h m e l bs = Rows.Codes (stripeOf h l) (marks h e l) (wordsIn h m l) bs
 
 -- a stripe that can be decoded: half of its positions survive, and no word of theirs is out of field
 pub record Readable (h : Header) (m e : List ℕ) (l : ℕ) : Type 0 where
   pub fits : headerFits h ≡ true
   pub within : l ≤ h .k
   pub enough : 2 ^ l ≤ length (survivors l (marks h e l))
-  pub inField : areBelow (modulusOf h) (rowsIn h m e l) ≡ true
+  pub inField : InField (stripeOf h l) (marks h e l) (wordsIn h m l)
 
 -- blocks are given if and only if they are the ones that code to all surviving words, and hold records
 abbrev pub DecodesIff : Type 0
 DecodesIff =
     (h : Header) (m e : List ℕ) (l : ℕ) (bs : List ℕ) → Readable h m e l →
-    (decodeStripe h m (erasuresIn e) l ≡ decoded bs) ↔ (Codes h m e l bs × (areRecords h l bs (2 ^ l) ≡ true))
+    (decodeStripe h m (erasuresIn e) l ≡ decoded bs) ↔ (Codes h m e l bs × (areRecords (stripeOf h l) bs (2 ^ l) ≡ true))
 
 -- 9 if and only if no blocks of words below p code to them; 10 if and only if the one list that does holds no records
 abbrev pub NineIff : Type 0
@@ -86,18 +148,63 @@ NineIff =
 abbrev pub TenIff : Type 0
 TenIff =
     (h : Header) (m e : List ℕ) (l : ℕ) → Readable h m e l →
-    (decodeStripe h m (erasuresIn e) l ≡ failed 10) ↔ ((bs : List ℕ) × Codes h m e l bs × (areRecords h l bs (2 ^ l) ≡ false))
+    (decodeStripe h m (erasuresIn e) l ≡ failed 10) ↔ ((bs : List ℕ) × Codes h m e l bs × (areRecords (stripeOf h l) bs (2 ^ l) ≡ false))
 
 -- and the blocks that code to them are one list
 abbrev pub OneList : Type 0
 OneList = (h : Header) (m e : List ℕ) (l : ℕ) (bs cs : List ℕ) → Readable h m e l → Codes h m e l bs → Codes h m e l cs → bs ≡ cs
+
+-- THE CALL `decode`, on inputs to which no number from 1 to 6 applies: what it gives, both ways round
+abbrev pub Asked : Header → (image erasures : List ℕ) → (stripe : ℕ) → (out scratch : List ℕ) → Type 0
+Asked h m e l out scratch = decodeEarly h m e l out scratch ≡ 0
+
+-- 7 if and only if fewer than 2^l positions survive, and 8 if and only if enough do and one of their words is out of field
+abbrev pub GivesSeven : Type 0
+GivesSeven =
+    (h : Header) (m e : List ℕ) (l : ℕ) (out scratch : List ℕ) → Asked h m e l out scratch →
+    (decodeNumber h m e l out scratch ≡ 7) ↔ (length (survivors l (marks h e l)) < 2 ^ l)
+
+abbrev pub GivesEight : Type 0
+GivesEight =
+    (h : Header) (m e : List ℕ) (l : ℕ) (out scratch : List ℕ) → Asked h m e l out scratch →
+    (decodeNumber h m e l out scratch ≡ 8) ↔ ((2 ^ l ≤ length (survivors l (marks h e l))) × OutOfField (stripeOf h l) (marks h e l) (wordsIn h m l))
+
+-- 9 if and only if the stripe is readable and no blocks code to its surviving words; 10 if and only if it is and blocks do that hold no records; 0 if and only if it is and
+-- blocks do that hold records
+abbrev pub GivesNine : Type 0
+GivesNine =
+    (h : Header) (m e : List ℕ) (l : ℕ) (out scratch : List ℕ) → Asked h m e l out scratch →
+    (decodeNumber h m e l out scratch ≡ 9) ↔ (Readable h m e l × ((bs : List ℕ) → Codes h m e l bs → ⊥))
+
+abbrev pub GivesTen : Type 0
+GivesTen =
+    (h : Header) (m e : List ℕ) (l : ℕ) (out scratch : List ℕ) → Asked h m e l out scratch →
+    (decodeNumber h m e l out scratch ≡ 10) ↔ (Readable h m e l × ((bs : List ℕ) × Codes h m e l bs × (areRecords (stripeOf h l) bs (2 ^ l) ≡ false)))
+
+abbrev pub GivesZero : Type 0
+GivesZero =
+    (h : Header) (m e : List ℕ) (l : ℕ) (out scratch : List ℕ) → Asked h m e l out scratch →
+    (decodeNumber h m e l out scratch ≡ 0) ↔ (Readable h m e l × ((bs : List ℕ) × Codes h m e l bs × (areRecords (stripeOf h l) bs (2 ^ l) ≡ true)))
+
+-- with 0 it leaves the blocks in order of time at the start of the output, and zeros after them; with any other number an output of zeros; and always a scratch of zeros
+abbrev pub LeavesBlocks : Type 0
+LeavesBlocks =
+    (h : Header) (m e : List ℕ) (l : ℕ) (bs out scratch : List ℕ) → Asked h m e l out scratch →
+    Readable h m e l → Codes h m e l bs → areRecords (stripeOf h l) bs (2 ^ l) ≡ true →
+    decodeLeaves h m e l out scratch ≡ bs ++ replicate (outSize h - length bs) 0
+
+abbrev pub LeavesZeros : Type 0
+LeavesZeros =
+    (h : Header) (m e : List ℕ) (l : ℕ) (out scratch : List ℕ) → Asked h m e l out scratch →
+    ((decodeNumber h m e l out scratch ≡ 0 → ⊥) → decodeLeaves h m e l out scratch ≡ replicate (outSize h) 0) ×
+    (decodeScratch h m e l out scratch ≡ replicate (scratchSize h) 0)
 
 -- 4. DEMAND 3. A stripe is needed if it is the full stripe or a filled level
 abbrev pub Needed : Header → (stripe : ℕ) → Type 0
 Needed h l = (isFull h l ≡ true) ⊎ ((l < h .k) × (isFilled h l ≡ true))
 
 -- the erasure list is well formed and leaves half of the positions of each needed stripe
-pub record Leaves (h : Header) (e : List ℕ) : Type 0 where
+pub record LeavesHalf (h : Header) (e : List ℕ) : Type 0 where
   pub wellFormed : erasuresFit h e ≡ true
   pub half : (l : ℕ) → Needed h l → 2 ^ l ≤ length (survivors l (marks h e l))
 
@@ -106,38 +213,78 @@ pub record SameWords (h : Header) (e one other : List ℕ) : Type 0 where
   pub same : (l i j : ℕ) → Needed h l → i < 2 ^ suc l → j < width h → getD (marks h e l) i false ≡ false →
       wordAt one (stripeAt h l + (i * width h + j)) ≡ wordAt other (stripeAt h l + (i * width h + j))
 
-abbrev pub imageLeft : Vault → List ℕ
-imageLeft v = imageOf (v .held .full) (v .held .log)
+-- the image left by a history has the length that recovery asks for
+abbrev pub ImageLong : Type 0
+ImageLong = (o : Opening) (es : List Event) → Opens o → length (imageAfter o es) ≡ imageSize (headerAfter o es)
 
 -- for every history and every such erasure list, and any image with the words that survive: recovery is taken, names no stripe, and gives every record
 -- as last written; the output and the scratch that it was lent may hold anything
 abbrev pub RecoversAll : Type 0
 RecoversAll =
-    (k s : ℕ) (r f g : List ℕ) (es : List Event) (e m o x : List ℕ) → Opens k s r f g →
-    let h = headerOf k s (modelOf k s r es .writes) in
-    Leaves h e → length m ≡ imageSize h → SameWords h e (imageLeft (after (openedVault k s r f g) es)) m → length o ≡ rawSize h → length x ≡ scratchSize h →
-    (recoverAnswer h m e o x ≡ unnamed 0) × (recoverLeaves h m e o x ≡ modelOf k s r es .records) × (recoverScratch h m e o x ≡ replicate (scratchSize h) 0)
+    (o : Opening) (es : List Event) (e m out scratch : List ℕ) → Opens o →
+    let h = headerAfter o es in
+    LeavesHalf h e → length m ≡ imageSize h → SameWords h e (imageAfter o es) m → length out ≡ rawSize h → length scratch ≡ scratchSize h →
+    (recoverAnswer h m e out scratch ≡ unnamed 0) × (recoverLeaves h m e out scratch ≡ modelOf o es .records) ×
+    (recoverScratch h m e out scratch ≡ replicate (scratchSize h) 0)
 
--- no other history with the same header and surviving words ends with other records
+-- no other history with the same header and surviving words ends with another model: records, count, and the records before each write of the round
 abbrev pub NoOther : Type 0
 NoOther =
-    (k s : ℕ) (r f g r′ f′ g′ : List ℕ) (es es′ : List Event) (e : List ℕ) → Opens k s r f g → Opens k s r′ f′ g′ →
-    modelOf k s r es .writes ≡ modelOf k s r′ es′ .writes →
-    let h = headerOf k s (modelOf k s r es .writes) in
-    Leaves h e → SameWords h e (imageLeft (after (openedVault k s r f g) es)) (imageLeft (after (openedVault k s r′ f′ g′) es′)) →
-    modelOf k s r es .records ≡ modelOf k s r′ es′ .records
+    (o o′ : Opening) (es es′ : List Event) (e : List ℕ) → Opens o → Opens o′ → headerAfter o es ≡ headerAfter o′ es′ →
+    let h = headerAfter o es in
+    LeavesHalf h e → SameWords h e (imageAfter o es) (imageAfter o′ es′) →
+    modelOf o es ≡ modelOf o′ es′
+
+-- the blocks of a stripe are bs: its decoding gives them, and the call `decode`, whatever output and scratch it is lent, gives 0 and leaves them, zeros after them,
+-- and a scratch of zeros
+pub record Gives (h : Header) (m e : List ℕ) (l : ℕ) (bs : List ℕ) : Type 0 where
+  pub stripe : decodeStripe h m (erasuresIn e) l ≡ decoded bs
+  pub call : (out scratch : List ℕ) → length out ≡ outSize h → length scratch ≡ scratchSize h →
+      (decodeNumber h m e l out scratch ≡ 0) × (decodeLeaves h m e l out scratch ≡ bs ++ replicate (outSize h - length bs) 0) ×
+      (decodeScratch h m e l out scratch ≡ replicate (scratchSize h) 0)
 
 -- after any history a filled level decodes to the writes that it holds, in order of time, and the full stripe to the records of the round's start
 abbrev pub LevelsDecode : Type 0
 LevelsDecode =
-    (k s : ℕ) (r f g : List ℕ) (es : List Event) (e m : List ℕ) (l : ℕ) → Opens k s r f g →
-    let h = headerOf k s (modelOf k s r es .writes) in
-    Leaves h e → SameWords h e (imageLeft (after (openedVault k s r f g) es)) m → l < k → isFilled h l ≡ true →
-    decodeStripe h m (erasuresIn e) l ≡ decoded (rowsOf (levelEntries h (roundOf k s r es) l))
+    (o : Opening) (es : List Event) (e m : List ℕ) (l : ℕ) → Opens o →
+    let h = headerAfter o es in
+    LeavesHalf h e → length m ≡ imageSize h → SameWords h e (imageAfter o es) m → l < h .k → isFilled h l ≡ true →
+    Gives h m e l (rowsOf (levelEntries h (roundOf o es .since) l))
 
 abbrev pub FullDecodes : Type 0
 FullDecodes =
-    (k s : ℕ) (r f g : List ℕ) (es : List Event) (e m : List ℕ) → Opens k s r f g →
-    let h = headerOf k s (modelOf k s r es .writes) in
-    Leaves h e → SameWords h e (imageLeft (after (openedVault k s r f g) es)) m →
-    decodeStripe h m (erasuresIn e) k ≡ decoded (blocksOf h (roundOf k s r es .base))
+    (o : Opening) (es : List Event) (e m : List ℕ) → Opens o →
+    let h = headerAfter o es in
+    LeavesHalf h e → length m ≡ imageSize h → SameWords h e (imageAfter o es) m →
+    Gives h m e (h .k) (blocksOf h (roundOf o es .base))
+
+-- ALL OF THEM; the last are those of the C boundary (specs/Boundary), and the worked examples (specs/Worked)
+pub record Promises : Type 0 where
+  pub header-is : HeaderIs
+  pub sizes-stay : SizesStay
+  pub records-long : RecordsLong
+  pub numbers-are : NumbersAre
+  pub words-are : WordsAre
+  pub raw-is : RawIs
+  pub model-is : ModelIs
+  pub before-is : BeforeIs
+  pub words-stand : WordsStand
+  pub decodes-iff : DecodesIff
+  pub nine-iff : NineIff
+  pub ten-iff : TenIff
+  pub one-list : OneList
+  pub gives-seven : GivesSeven
+  pub gives-eight : GivesEight
+  pub gives-nine : GivesNine
+  pub gives-ten : GivesTen
+  pub gives-zero : GivesZero
+  pub leaves-blocks : LeavesBlocks
+  pub leaves-zeros : LeavesZeros
+  pub image-long : ImageLong
+  pub recovers-all : RecoversAll
+  pub no-other : NoOther
+  pub levels-decode : LevelsDecode
+  pub full-decodes : FullDecodes
+  pub part-is : PartIs
+  pub none-named : NoneNamed
+  pub worked : Holds table

@@ -1,76 +1,99 @@
--- A round: the records when the full stripe was last built, and the blocks written since. It stands between the model and the buffers: what a round
--- represents are the buffers' words as "Words and shelves" of document 01 fixes them. Assumes nothing: these are definitions.
-use mathlib.Core.Bool.{Bool, true, false}
+-- A round: k and s, the records when the full stripe was last built, and the blocks written since. It stands between the model and the buffers: it fixes the model,
+-- and what it represents are the buffers' words as "Words and shelves" of document 01 fixes them. Assumes nothing: these are definitions.
+use mathlib.Core.Bool.{true, false}
 use mathlib.Core.List.{List, [], _∷_, _++_}
-use Prim.Native.Nat.{ℕ, zero, suc, _*_, _^_}
+use Prim.Native.Nat.{ℕ, zero, suc, _^_}
 use lib.Dec.{eqb}
 use lib.ListN.{length, take, drop, replicate}
 use Rattle.code.specs.Stripe.{codedRows}
-use Rattle.vault.specs.declared.Header.{Header}
-use Rattle.vault.specs.Header.{headerOf, modulusOf, vaultRoot, width, isFilled, firstOf, stripeSize}
-use Rattle.vault.specs.Records.{replaced, fullStripe, Buffers, buffers}
-use Rattle.vault.specs.History.{Event, write}
-use Rattle.vault.specs.Model.{tableNumber}
+use Rattle.layout.specs.declared.Header.{Header}
+use Rattle.layout.specs.Header.{headerOf, primeOf, vaultRoot, width, isFilled, firstOf, stripeSize}
+use Rattle.layout.specs.Records.{replaced}
+use Rattle.store.specs.Buffers.{fullStripe, Buffers, buffers}
+use Rattle.vault.specs.Event.{Opening, Event, write}
+use Rattle.vault.specs.Model.{Model, tableNumber}
 
 pub record Entry : Type 0 where
   pub number : ℕ
   pub block : List ℕ
 
 pub record Round : Type 0 where
+  pub k : ℕ
+  pub s : ℕ
   pub base : List ℕ
   pub since : List Entry
 
--- the raw records after some writes
+-- the raw records after some writes, the oldest first
 unfoldable pub putAll : (s : ℕ) → (raw : List ℕ) → List Entry → List ℕ
 putAll s r [] = r
 putAll s r (x ∷ xs) = putAll s (replaced s r (x .number) (x .block)) xs
+
+-- the raw records before each of them, the newest first
+unfoldable pub beforeEach : (s : ℕ) → (raw : List ℕ) → List Entry → List (List ℕ)
+beforeEach s r [] = []
+beforeEach s r (x ∷ xs) = beforeEach s (replaced s r (x .number) (x .block)) xs ++ (r ∷ [])
 
 -- the rows that some writes are coded as
 unfoldable pub rowsOf : List Entry → List ℕ
 rowsOf [] = []
 rowsOf (x ∷ xs) = (x .number ∷ x .block) ++ rowsOf xs
 
--- what an event does to the round
-abbrev pub entry : Event → Entry
-entry (write i b) = record { number = i; block = b }
+-- THE MODEL of a round
+abbrev pub recordsIn : Round → List ℕ
+recordsIn a = putAll (a .s) (a .base) (a .since)
 
-abbrev pub grown : (k s : ℕ) → Round → Entry → Round
-grown k s a x =
-    elim (eqb (suc (length (a .since))) (2 ^ k)) [
-      | true ↦ record { base = putAll s (a .base) (a .since ++ (x ∷ [])); since = [] }
-      | false ↦ record { base = a .base; since = a .since ++ (x ∷ []) }
+abbrev pub modelIn : Round → Model
+modelIn a = record { k = a .k; s = a .s; records = recordsIn a; before = beforeEach (a .s) (a .base) (a .since) }
+
+-- WHAT AN EVENT DOES to a round. A write is entered; the n-th one ends the round, and its records start the next
+abbrev pub startOf : (k s : ℕ) → (raw : List ℕ) → Round
+startOf k s r = record { k = k; s = s; base = r; since = [] }
+
+abbrev pub grown : Round → Entry → Round
+grown a x =
+    elim (eqb (suc (length (a .since))) (2 ^ a .k)) [
+      | true ↦ startOf (a .k) (a .s) (putAll (a .s) (a .base) (a .since ++ (x ∷ [])))
+      | false ↦ record { k = a .k; s = a .s; base = a .base; since = a .since ++ (x ∷ []) }
     ]
 
-abbrev pub turnRound : (k s : ℕ) → Round → Event → Round
-turnRound k s a e = elim (eqb (tableNumber k s e) 0) [ true ↦ grown k s a (entry e) | false ↦ a ]
+abbrev pub turned : Round → Event → Round
+turned a (write i b) = grown a (record { number = i; block = b })
 
-unfoldable pub roundAfter : (k s : ℕ) → Round → List Event → Round
-roundAfter k s a [] = a
-roundAfter k s a (e ∷ es) = roundAfter k s (turnRound k s a e) es
+-- one that the table refuses leaves it as it is
+abbrev pub turnRound : Round → Event → Round
+turnRound a e = elim (eqb (tableNumber (modelIn a) e) 0) [ true ↦ turned a e | false ↦ a ]
 
-abbrev pub roundOf : (k s : ℕ) → (opened : List ℕ) → List Event → Round
-roundOf k s r es = roundAfter k s (record { base = r; since = [] }) es
+unfoldable pub roundAfter : Round → List Event → Round
+roundAfter a [] = a
+roundAfter a (e ∷ es) = roundAfter (turnRound a e) es
+
+abbrev pub openedRound : Opening → Round
+openedRound o = startOf (o .k) (o .s) (o .raw)
+
+abbrev pub roundOf : Opening → List Event → Round
+roundOf o es = roundAfter (openedRound o) es
 
 -- THE WORDS that a round represents: c counts the writes since; each filled level codes its writes in order of time, an empty level is zeros
-abbrev pub roundHeader : (k s : ℕ) → Round → Header
-roundHeader k s a = headerOf k s (length (a .since))
+abbrev pub roundHeader : Round → Header
+roundHeader a = headerOf (a .k) (a .s) (length (a .since))
 
-abbrev pub levelEntries : Header → Round → (level : ℕ) → List Entry
-levelEntries h a l = take (2 ^ l) (drop (firstOf h l) (a .since))
+-- of the writes since: those that a level holds
+abbrev pub levelEntries : Header → (since : List Entry) → (level : ℕ) → List Entry
+levelEntries h xs l = take (2 ^ l) (drop (firstOf h l) xs)
 
-abbrev pub levelWords : Header → Round → (level : ℕ) → List ℕ
-levelWords h a l =
+abbrev pub levelWords : Header → (since : List Entry) → (level : ℕ) → List ℕ
+levelWords h xs l =
     elim (isFilled h l) [
-      | true ↦ codedRows (modulusOf h) (vaultRoot h) (h .k) l (firstOf h l) (width h) (rowsOf (levelEntries h a l))
+      | true ↦ codedRows (primeOf h) (vaultRoot h) (h .k) l (firstOf h l) (width h) (rowsOf (levelEntries h xs l))
       | false ↦ replicate (stripeSize h l) 0
     ]
 
 -- levels 0 to n - 1, one after the other
-unfoldable pub logWords : Header → Round → (n : ℕ) → List ℕ
-logWords h a zero = []
-logWords h a (suc l) = logWords h a l ++ levelWords h a l
+unfoldable pub logWords : Header → (since : List Entry) → (n : ℕ) → List ℕ
+logWords h xs zero = []
+logWords h xs (suc l) = logWords h xs l ++ levelWords h xs l
 
-abbrev pub represent : (k s : ℕ) → Round → Buffers
-represent k s a =
-    let h = roundHeader k s a in
-    buffers (putAll s (a .base) (a .since)) (fullStripe h (a .base)) (logWords h a k)
+abbrev pub represent : Round → Buffers
+represent a =
+    let h = roundHeader a in
+    buffers (recordsIn a) (fullStripe h (a .base)) (logWords h (a .since) (a .k))

@@ -3,17 +3,19 @@
 use mathlib.Core.Path.{_≡_}
 use mathlib.Core.Bool.{Bool, true, false}
 use mathlib.Core.List.{List, [], _∷_, _++_}
-use Prim.Native.Nat.{ℕ, zero, suc}
-use lib.ListN.{replicate}
+use Prim.Native.Nat.{ℕ}
+use lib.ListN.{getD, replicate}
 use Rattle.field.specs.Field.{fermat, rootOf}
 use Rattle.code.specs.Stripe.{coded}
-use Rattle.code.specs.Decoding.{decodedColumn}
-use Rattle.vault.specs.declared.Header.{Header}
-use Rattle.vault.specs.declared.Recovery.{Recovery}
-use Rattle.vault.specs.Header.{headerOf, firstOf}
-use Rattle.vault.specs.Image.{little, imageOf}
-use Rattle.vault.specs.Calls.{decodeNumber, decodeLeaves, decodeScratch, recoverAnswer, recoverLeaves, recoverScratch}
-use Rattle.vault.specs.History.{Event, write, Vault, numberOn, after, openedVault}
+use Rattle.decoder.specs.Decoding.{decodedColumn}
+use Rattle.recovery.specs.declared.Recovery.{Recovery}
+use Rattle.layout.specs.Header.{headerOf, firstOf}
+use Rattle.image.specs.Image.{little, imageOf}
+use Rattle.stripe.specs.StripeCall.{decodeNumber, decodeLeaves, decodeScratch}
+use Rattle.recovery.specs.RecoveryCall.{recoverAnswer, recoverLeaves}
+use Rattle.vault.specs.Event.{Opening, Event, write}
+use Rattle.vault.specs.Model.{modelOf}
+use Rattle.vault.specs.History.{Vault, imageLeft, numberOn, after, openedVault}
 
 -- an entry: what is given, and what document 01 says
 pub data Table : Type 0 where
@@ -27,15 +29,15 @@ Holds (entry given said rest) = (given ≡ said) × Holds rest
 abbrev pub root4 : ℕ
 root4 = rootOf fermat 2
 
--- zero records just opened, and after some writes
 abbrev pub zeros : ℕ → List ℕ
 zeros n = replicate n 0
 
-abbrev pub opening : Vault
-opening = openedVault 2 1 (zeros 4) (zeros 16) (zeros 12)
+-- zero records, and a vault just opened with them
+abbrev pub zeroRecords : Opening
+zeroRecords = record { k = 2; s = 1; raw = zeros 4; full = zeros 16; log = zeros 12 }
 
-abbrev pub image : Vault → List ℕ
-image v = imageOf (v .held .full) (v .held .log)
+abbrev pub opening : Vault
+opening = openedVault zeroRecords
 
 -- one pair of an erasure list, as bytes
 abbrev pub pair : (offset size : ℕ) → List ℕ
@@ -56,7 +58,7 @@ named a = a .number ∷ flag (a .named) ∷ a .stripe ∷ []
 abbrev pub recovery : Vault → (erasures : List ℕ) → List ℕ
 recovery v e =
     let h = v .header in
-    named (recoverAnswer h (image v) e (zeros 4) (zeros 24)) ++ recoverLeaves h (image v) e (zeros 4) (zeros 24)
+    named (recoverAnswer h (imageLeft v) e (zeros 4) (zeros 24)) ++ recoverLeaves h (imageLeft v) e (zeros 4) (zeros 24)
 
 -- stripe 0 decoded at c = 3 from lent buffers of ones: the number, then the output and the scratch
 abbrev pub decoding : (image erasures : List ℕ) → List ℕ
@@ -68,8 +70,15 @@ decoding m e =
 
 -- whether an erasure list is taken: recovery of zero records just opened gives 3 if it is not
 abbrev pub taken : (erasures : List ℕ) → List ℕ
-taken e = recoverAnswer (opening .header) (image opening) e (zeros 4) (zeros 24) .number ∷ []
+taken e = recoverAnswer (opening .header) (imageLeft opening) e (zeros 4) (zeros 24) .number ∷ []
 
+-- the model's records after some writes to zero records, and those before the last write and before the one before it
+abbrev pub goingBack : List Event → List ℕ
+goingBack es =
+    let m = modelOf zeroRecords es in
+    m .records ++ (getD (m .before) 0 [] ++ getD (m .before) 1 [])
+
+-- P1 to P12 in order; P7, P8, P9 and P12 have two entries each. The last two are not the document's: the model goes back, and a round's end is as far as it goes
 abbrev pub table : Table
 table =
     entry (coded 65537 root4 2 1 0 (1 ∷ 2 ∷ [])) (3 ∷ 65536 ∷ 65026 ∷ 513 ∷ [])
@@ -88,4 +97,6 @@ table =
     (entry (decoding (levelZero (4 ∷ 3 ∷ 16384 ∷ 12288 ∷ [])) []) (10 ∷ zeros 32)
     (entry (numberOn opening (write 0 (65535 ∷ [])) ∷ []) (0 ∷ [])
     (entry (numberOn opening (write 0 (65536 ∷ [])) ∷ []) (5 ∷ [])
-    end)))))))))))))))
+    (entry (goingBack (write 0 (1 ∷ []) ∷ write 0 (2 ∷ []) ∷ [])) (2 ∷ 0 ∷ 0 ∷ 0 ∷ 1 ∷ 0 ∷ 0 ∷ 0 ∷ 0 ∷ 0 ∷ 0 ∷ 0 ∷ [])
+    (entry (goingBack (write 0 (1 ∷ []) ∷ write 1 (2 ∷ []) ∷ write 2 (3 ∷ []) ∷ write 3 (4 ∷ []) ∷ [])) (1 ∷ 2 ∷ 3 ∷ 4 ∷ [])
+    end)))))))))))))))))

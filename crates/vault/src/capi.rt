@@ -1,10 +1,13 @@
 // The vault's calls for C (include/vault.h): the header's numbers as parameters, and what an answer holds behind pointers. Each does what its call does.
-use crate::Header;
-use crate::Recovery;
+use layout::Header;
+use recovery::Recovery;
 ghost use mathlib.Core.Path.{_≡_};
-ghost use Rattle.vault.specs.Header.{headerOf};
-ghost use Rattle.vault.specs.Records.{buffers};
-ghost use Rattle.vault.specs.Calls.{openNumber, openLeaves, writeNumber, writeAnswer, writeLeaves, readNumber, decodeNumber, decodeLeaves, decodeScratch, recoverAnswer, recoverLeaves, recoverScratch, imageNumber, imageLeaves};
+ghost use Rattle.layout.specs.Header.{headerOf};
+ghost use Rattle.store.specs.Buffers.{buffers};
+ghost use Rattle.store.specs.StoreCalls.{openNumber, openLeaves, writeNumber, writeAnswer, writeLeaves, readNumber};
+ghost use Rattle.stripe.specs.StripeCall.{decodeNumber, decodeLeaves, decodeScratch};
+ghost use Rattle.recovery.specs.RecoveryCall.{recoverAnswer, recoverLeaves, recoverScratch};
+ghost use Rattle.image.specs.ImageCall.{imageNumber, imageLeaves};
 ghost use Rattle.vault.specs.Boundary.{readStart, readCount, shelfOf};
 
 // The header is then k, s, 0.
@@ -14,7 +17,7 @@ pub extern "C" fn vault_open(k: u32, s: u32, raw: &[u32], full: &mut [u32], log:
     ensures { λ _. ⌜ now (full .exit) ≡ openLeaves k s (now (raw .entry)) (now (full .entry)) (now (log .entry)) .full ⌝ }
     ensures { λ _. ⌜ now (log .exit) ≡ openLeaves k s (now (raw .entry)) (now (full .entry)) (now (log .entry)) .log ⌝ }
 {
-    let answer = crate::opening::open(k, s, raw, full, log);
+    let answer = store::opening::open(k, s, raw, full, log);
     answer.number
 }
 
@@ -37,7 +40,7 @@ pub extern "C" fn vault_write(
     ensures { λ _. ⌜ now (log .exit) ≡ writeLeaves (headerOf k s (now (c .entry))) (buffers (now (raw .entry)) (now (full .entry)) (now (log .entry))) «record» (now (block .entry)) .log ⌝ }
 {
     let header = Header { k: k, s: s, c: *c };
-    let answer = crate::writing::write(header, raw, full, log, record, block);
+    let answer = store::writing::write(header, raw, full, log, record, block);
     let next = answer.header;
     *c = next.c;
     answer.number
@@ -58,7 +61,7 @@ pub extern "C" fn vault_read(
     ensures { λ _. ⌜ now (start .exit) ≡ readStart (headerOf k s c) (now (raw .entry)) «record» ⌝ }
     ensures { λ _. ⌜ now (count .exit) ≡ readCount (headerOf k s c) (now (raw .entry)) «record» ⌝ }
 {
-    let number = crate::reading::read_number(Header { k: k, s: s, c: c }, raw, record);
+    let number = store::reading::read_number(Header { k: k, s: s, c: c }, raw, record);
     if number != 0 {
         *start = 0;
         *count = 0;
@@ -85,7 +88,7 @@ pub extern "C" fn vault_decode(
     ensures { λ _. ⌜ now (out .exit) ≡ decodeLeaves (headerOf k s c) (now (image .entry)) (now (gaps .entry)) shelf (now (out .entry)) (now (scratch .entry)) ⌝ }
     ensures { λ _. ⌜ now (scratch .exit) ≡ decodeScratch (headerOf k s c) (now (image .entry)) (now (gaps .entry)) shelf (now (out .entry)) (now (scratch .entry)) ⌝ }
 {
-    crate::stripes::decode(
+    stripe::decoding::decode(
         Header { k: k, s: s, c: c },
         image,
         gaps,
@@ -122,7 +125,13 @@ pub extern "C" fn vault_recover(
     ensures { λ _. ⌜ now (scratch .exit) ≡ recoverScratch (headerOf k s c) (now (image .entry)) (now (gaps .entry)) (now (out .entry)) (now (scratch .entry)) ⌝ }
     ensures { λ _. ⌜ now (shelf .exit) ≡ shelfOf (recoverAnswer (headerOf k s c) (now (image .entry)) (now (gaps .entry)) (now (out .entry)) (now (scratch .entry))) ⌝ }
 {
-    let answer = crate::recovering::recover(Header { k: k, s: s, c: c }, image, gaps, out, scratch);
+    let answer = recovery::recovering::recover(
+        Header { k: k, s: s, c: c },
+        image,
+        gaps,
+        out,
+        scratch,
+    );
     *shelf = shelf_of(answer);
     answer.number
 }
@@ -140,5 +149,5 @@ pub extern "C" fn vault_image(
     ensures { λ r. ⌜ r ≡ imageNumber (headerOf k s c) (now (full .entry)) (now (log .entry)) (now (image .entry)) ⌝ }
     ensures { λ _. ⌜ now (image .exit) ≡ imageLeaves (headerOf k s c) (now (full .entry)) (now (log .entry)) (now (image .entry)) ⌝ }
 {
-    crate::images::image(Header { k: k, s: s, c: c }, full, log, image)
+    image::images::image(Header { k: k, s: s, c: c }, full, log, image)
 }

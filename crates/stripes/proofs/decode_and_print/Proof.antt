@@ -2,7 +2,7 @@
 use native.Mathlib.Omega.{arith}
 use borrow.Author.Needs.{needs}
 use Rattle.code.proofs.Shapes.{positions}
-use Rattle.code.proofs.Survivors.{enough}
+use Rattle.decoder.proofs.Survivors.{enough}
 use Rattle.stripes.proofs.decode_and_print.Statement.{statement}
 use Rattle.stripes.proofs.decode_and_print.Tie as tie
 
@@ -13,7 +13,7 @@ two-to-requires : tie.Need-two-to-requires
 two-to-requires c κs = search needs
 
 sub-count : tie.Need-sub-count
-sub-count c = omega (arith, positions (c .before .before .before .args .level) (c .two-to .ensures))
+sub-count c = omega (arith, positions (c .before .before .before .before .args .st .level) (c .two-to .ensures))
 
 count-erased-requires : tie.Need-count-erased-requires
 count-erased-requires c κs = search needs
@@ -29,10 +29,10 @@ returns c = search needs
 
 decode-requires : tie.Need-decode-requires
 decode-requires c κs =
-    let s = c .before .before .before .before .before .before in
-    let half = enough (s .args .level) (s .args .marks .now) (omega (arith, positions (s .args .level) (c .before .before .before .two-to .ensures), c .before .before .count-erased .ensures)) in
+    let s = c .before .before .before .before .before .before .before in
+    let half = enough (s .args .st .level) (s .args .marks .now) (omega (arith, positions (s .args .st .level) (c .before .before .before .two-to .ensures), c .before .before .count-erased .ensures)) in
     let pre = s .pre in
-    (pre .0, (pre .1 .0, (pre .1 .1 .0, ((pre .1 .1 .1 .0, half), pre .1 .1 .1 .1))))
+    (pre .0, ((pre .1 .0, half), pre .1 .1))
 
 number-requires-2 : tie.Need-number-requires-2
 number-requires-2 c κs = search needs

@@ -1,12 +1,11 @@
 -- `stripes::run_case` is safe and ends: its tests are what coding and decoding require. Assumes nothing.
-use mathlib.Core.Path.{_≡_, sym, _∙_}
-use Prim.Native.Nat.{_%_, _^_}
+use mathlib.Core.Path.{sym, _∙_}
 use native.Mathlib.Omega.{arith}
 use borrow.Author.Needs.{needs}
 use borrow.Author.Tests.{ltb-false, eqb-false}
 use lib.Pow.{pow-pos}
 use lib.Seq.{length-take-le}
-use Rattle.stripes.proofs.Buffers.{twice, stripe-length, part-length, small-length}
+use Rattle.stripes.proofs.Buffers.{numbers, twice, stripe-length, part-length, small-length}
 use Rattle.stripes.proofs.run_case.Statement.{statement}
 use Rattle.stripes.proofs.run_case.Tie as tie
 
@@ -61,6 +60,9 @@ add-if5 c = omega (arith, small-length (c .before .before .before .before .befor
 returns-2 : tie.Need-returns-2
 returns-2 c = search needs
 
+root-requires : tie.Need-root-requires
+root-requires c κs = omega (arith, ltb-false)
+
 slice-relend-prefix-decode-case : tie.Need-slice-relend-prefix-decode-case
 slice-relend-prefix-decode-case c = search needs
 
@@ -69,20 +71,16 @@ slice-aggregate-decode-case c = sym (length-take-le _ _ (omega (arith, ltb-false
 
 decode-case-requires : tie.Need-decode-case-requires
 decode-case-requires c κs =
-    let t = c .before .before .before .before .before .before .before in
+    let t = c .before .before .before .before .before .before .before .before in
     let l = t .before .before .before .before .before .before .before .byte2 .result in
     let width = t .before .before .before .before .before .byte4 .result in
-    let e = t .two-to .ensures in
-    let aligned : t .before .before .before .before .pair .result % 2 ^ l ≡ 0 = rw e at (c .before .before .before .before .before .before .if4 .left) in (
-      omega (arith, ltb-false),
+    let e = t .two-to .ensures in (
+      numbers e (c .before .before .before .before .before .before .before .if4 .left) (omega (arith, ltb-false)) (omega (arith, ltb-false)) (omega (arith, ltb-false)) (c .before .before .before .root .ensures),
       (
-        (aligned, omega (arith, ltb-false)),
+        omega (arith, eqb-false),
         (
-          omega (arith, eqb-false),
-          (
-            omega (arith, ltb-false, twice l width e),
-            length-take-le _ _ (omega (arith, ltb-false)) ∙ part-length l width e,
-          ),
+          omega (arith, ltb-false, twice l width e),
+          length-take-le _ _ (omega (arith, ltb-false)) ∙ part-length l width e,
         ),
       ),
     )
@@ -95,11 +93,13 @@ slice-aggregate-code-case c = sym (length-take-le _ _ (omega (arith, ltb-false))
 
 code-case-requires : tie.Need-code-case-requires
 code-case-requires c κs =
-    let t = c .before .before .before .before .before .before in
+    let t = c .before .before .before .before .before .before .before in
     let l = t .before .before .before .before .before .before .before .byte2 .result in
     let width = t .before .before .before .before .before .byte4 .result in
-    let e = t .two-to .ensures in
-    (omega (arith, ltb-false), (omega (arith, ltb-false), length-take-le _ _ (omega (arith, ltb-false)) ∙ stripe-length l width e))
+    let e = t .two-to .ensures in (
+      numbers e (c .before .before .before .before .before .before .if4 .left) (omega (arith, ltb-false)) (omega (arith, ltb-false)) (omega (arith, ltb-false)) (c .before .before .root .ensures),
+      length-take-le _ _ (omega (arith, ltb-false)) ∙ stripe-length l width e,
+    )
 
 same-length : tie.Need-same-length
 same-length c = search needs
@@ -137,6 +137,7 @@ run-case-spec =
     rem-if4
     add-if5
     returns-2
+    root-requires
     slice-relend-prefix-decode-case
     slice-aggregate-decode-case
     decode-case-requires

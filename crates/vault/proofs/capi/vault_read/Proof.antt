@@ -3,9 +3,9 @@ use mathlib.Core.Path.{_≡_, sym, _∙_}
 use Prim.Native.Nat.{_*_}
 use native.Mathlib.Nat.{mul-le-mul}
 use native.Mathlib.Omega.{arith}
-use Rattle.vault.specs.Calls.{readNumber}
-use Rattle.vault.specs.Header.{headerOf}
-use Rattle.vault.proofs.Bounds.{if-taken, if-refused}
+use Rattle.store.specs.StoreCalls.{readNumber}
+use Rattle.layout.specs.Header.{headerOf}
+use Rattle.layout.proofs.Bounds.{if-taken, if-refused}
 use borrow.Author.Needs.{needs}
 use Rattle.vault.proofs.capi.vault_read.Statement.{statement}
 use Rattle.vault.proofs.capi.vault_read.Tie as tie

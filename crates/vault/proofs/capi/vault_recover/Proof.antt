@@ -1,6 +1,6 @@
 -- `vault::capi::vault_recover` meets its contract. Assumes nothing.
 use mathlib.Core.Path.{ap, _∙_}
-use Rattle.vault.specs.declared.Recovery.{Recovery}
+use Rattle.recovery.specs.declared.Recovery.{Recovery}
 use Rattle.vault.specs.Boundary.{shelfOf}
 use borrow.Author.Needs.{needs}
 use Rattle.vault.proofs.capi.vault_recover.Statement.{statement}

@@ -1,6 +1,6 @@
 -- `vault::capi::vault_write` meets its contract. Assumes nothing.
 use mathlib.Core.Path.{ap}
-use Rattle.vault.specs.declared.Answer.{Answer}
+use Rattle.store.specs.declared.Written.{Written}
 use borrow.Author.Needs.{needs}
 use Rattle.vault.proofs.capi.vault_write.Statement.{statement}
 use Rattle.vault.proofs.capi.vault_write.Tie as tie
@@ -20,7 +20,7 @@ same-length-3 c = search needs
 returns : tie.Need-returns
 returns c =
     let e = c .before .before .before .before .before .before .before .write .ensures in
-    (ap (λ (a : Answer). a .number) (e .0), (ap (λ (a : Answer). a .header .c) (e .0), e .1))
+    (ap (λ (a : Written). a .number) (e .0), (ap (λ (a : Written). a .header .c) (e .0), e .1))
 
 pub vault-write-spec : {M : Type 1} → statement M
 vault-write-spec = tie.close (tie.spec write-requires same-length same-length-2 same-length-3 returns)

@@ -1,0 +1,107 @@
+-- `code::coding::turn` meets its contract. The invariant: the first j rows are turned. Assumes nothing.
+use mathlib.Core.Path.{_≡_, sym, ap, _∙_}
+use mathlib.Core.List.{List}
+use Prim.Native.Nat.{ℕ, _+_, _*_, _-_, _≤_}
+use native.Mathlib.Nat.{zero-add}
+use native.Mathlib.Omega.{arith}
+use lib.Arith.{digits-div}
+use lib.Dec.{lit<}
+use lib.ListN.{length}
+use Rattle.field.specs.Residue.{times}
+use Rattle.field.specs.Power.{power}
+use Rattle.field.proofs.Powers.{power-lt}
+use Rattle.code.specs.Rows.{column, lifted}
+use Rattle.code.specs.Transform.{reversed, turned}
+use Rattle.code.specs.RowTrace.{stored}
+use Rattle.code.proofs.Shapes.{turned-at}
+use Rattle.code.proofs.Lifting.{length-column, column-at, table-lifted}
+use Rattle.code.proofs.RowLaws.{stored-last, StoringRows, storing-rows-start, storing-rows-room, storing-rows-done, scaledRowsWord, scaling-words, scaling-turn}
+use Rattle.code.proofs.coding.turn.Statement.{statement}
+use Rattle.code.proofs.coding.turn.Tie as tie
+
+-- the factor of the row of write first + i
+unfoldable factor : (w k first i : ℕ) → ℕ
+factor w k t i = power 65537 w (reversed k (t + i))
+
+abbrev Inv-loop : tie.InvT-loop
+Inv-loop part₀ rows first k width root at₀ j₀ part at j = StoringRows 0 (scaledRowsWord 65537 width (factor root k first) part₀) rows width part₀ part at j
+
+abbrev μ-loop : tie.MeasureT-loop
+μ-loop part₀ rows first k width root at₀ j₀ part at j = rows - j
+
+loop-holds : tie.Need-loop-holds Inv-loop μ-loop
+loop-holds c = storing-rows-start _ _ _ _ _
+
+add-reversed : tie.Need-add-reversed Inv-loop μ-loop
+add-reversed c = omega arith
+
+reversed-requires : tie.Need-reversed-requires Inv-loop μ-loop
+reversed-requires c κs = omega arith
+
+power-requires : tie.Need-power-requires Inv-loop μ-loop
+power-requires c κs = omega arith
+
+-- row j ends within the part
+room : (c : tie.In-loop Inv-loop μ-loop) → c .before .loop .at + c .before .before .before .args .width ≤ length (c .before .loop .part)
+room c = omega (arith, storing-rows-room (c .before .loop .inv) (c .loop-test .taken), c .before .loop .inv .same, c .before .before .before .pre .0)
+
+scale-row-requires : tie.Need-scale-row-requires Inv-loop μ-loop
+scale-row-requires c κs =
+    let at-test = c .before .before .before in
+    let s = at-test .before .before .before in
+    (room at-test, (rw (c .before .power .ensures) (power-lt 65537 (lit< tt) _ _), scaling-words 65537 (s .args .width) (factor (s .args .root) (s .args .k) (s .args .first)) (at-test .before .loop .inv) (lit< tt) (s .pre .1 .1 .1)))
+
+add-at : tie.Need-add-at Inv-loop μ-loop
+add-at c = omega (arith, room (c .before .before .before .before .before .before))
+
+add-j : tie.Need-add-j Inv-loop μ-loop
+add-j c = omega arith
+
+loop-less : tie.Need-loop-less Inv-loop μ-loop
+loop-less c = omega arith
+
+loop-again : tie.Need-loop-again Inv-loop μ-loop
+unfolding factor
+loop-again c =
+    let at-row = c .before .before in
+    let at-power = at-row .before .before in
+    let at-test = at-power .before .before in
+    let a = at-test .before .before .before .args in
+    scaling-turn 65537 (a .width) (factor (a .root) (a .k) (a .first)) (at-test .before .loop .inv) (at-test .loop-test .taken)
+    (at-power .power .ensures ∙ ap (power 65537 (a .root)) (at-power .before .reversed .ensures)) (at-row .scale-row .ensures)
+
+-- all rows turned
+turned-rows : (rows first k width root : ℕ) (l : List ℕ) → length l ≡ rows * width
+    → stored 0 (scaledRowsWord 65537 width (factor root k first) l) (rows * width) l ≡ lifted width rows rows (turned 65537 root k first) l
+unfolding factor scaledRowsWord
+turned-rows rows first k width root l e =
+    stored-last 0 (scaledRowsWord 65537 width (factor root k first) l) (rows * width) l (e ∙ sym (zero-add (rows * width)))
+    ∙ table-lifted width rows rows (turned 65537 root k first) (scaledRowsWord 65537 width (factor root k first) l) l
+    (λ i j h b. rw (digits-div i b) (ap (times 65537 (power 65537 root (reversed k (first + i)))) (sym (column-at width rows j l i h)) ∙ sym (turned-at 65537 root k first (column width rows j l) i (rw length-column h))))
+
+same-length : tie.Need-same-length Inv-loop μ-loop
+same-length c = c .before .loop .inv .same
+
+returns : tie.Need-returns Inv-loop μ-loop
+returns c =
+    let s = c .before .before .before in
+    let a = s .args in
+    storing-rows-done (c .before .loop .inv) (c .loop-test .left) ∙ turned-rows (a .rows) (a .first) (a .k) (a .width) (a .root) (a .part .now) (s .pre .0)
+
+pub turn-spec : {M : Type 1} → statement M
+turn-spec =
+    tie.close
+    (tie.spec
+    Inv-loop
+    μ-loop
+    loop-holds
+    add-reversed
+    reversed-requires
+    power-requires
+    scale-row-requires
+    add-at
+    add-j
+    loop-less
+    loop-again
+    same-length
+    returns)

@@ -1,0 +1,67 @@
+// Coding of a stripe in place.
+use crate::Stripe;
+ghost use mathlib.Core.Path.{_≡_};
+ghost use mathlib.Core.List.{_++_};
+ghost use Prim.Native.Nat.{_+_, _*_, _≤_, _<_};
+ghost use lib.ListN.{length, take};
+ghost use Rattle.field.specs.Field.{fermat};
+ghost use Rattle.field.specs.Words.{Words};
+ghost use Rattle.code.specs.Rows.{lifted};
+ghost use Rattle.code.specs.Transform.{turned};
+ghost use Rattle.code.specs.Stripe.{Numbers, modulusOf, blockWords, codedStripe};
+ghost use Rattle.code.specs.RowTrace.{scaleRow};
+
+// Multiplies `width` words from index `at` by `g`.
+pub fn scale_row(part: &mut [u32], at: usize, width: usize, g: u32)
+    requires { ⌜ at + width ≤ length (now part) ⌝ }
+    requires { ⌜ g < fermat .modulus ⌝ }
+    requires { ⌜ Words (fermat .modulus) (now part) ⌝ }
+    ensures { λ _. ⌜ now (part .exit) ≡ scaleRow (fermat .modulus) width at g (now (part .entry)) ⌝ }
+{
+    for j in 0..width {
+        let x = at + j;
+        part[x] = field::mul(g, part[x]);
+    }
+}
+
+// Turns the rows of writes first, first + 1, ..: the row of write t is multiplied by root^rev(t).
+pub fn turn(part: &mut [u32], rows: usize, first: usize, k: usize, width: usize, root: u32)
+    requires { ⌜ length (now part) ≡ rows * width ⌝ }
+    requires { ⌜ (k ≤ 15) × (first + rows ≤ 65536) ⌝ }
+    requires { ⌜ root < fermat .modulus ⌝ }
+    requires { ⌜ Words (fermat .modulus) (now part) ⌝ }
+    ensures { λ _. ⌜ now (part .exit) ≡ lifted width rows rows (turned (fermat .modulus) root k first) (now (part .entry)) ⌝ }
+{
+    let mut at = 0;
+    for j in 0..rows {
+        let g = field::power(root, crate::number::reversed(k, first + j));
+        scale_row(part, at, width, g);
+        at += width;
+    }
+}
+
+// Copies the first half of the words over the second half.
+fn copy_half(part: &mut [u32], half: usize)
+    requires { ⌜ length (now part) ≡ half + half ⌝ }
+    ensures { λ _. ⌜ now (part .exit) ≡ take half (now (part .entry)) ++ take half (now (part .entry)) ⌝ }
+{
+    for i in 0..half {
+        let to = half + i;
+        part[to] = part[i];
+    }
+}
+
+// Codes the blocks in the first half of the rows: X where they stand, and Y behind it. What stands in the second half does not matter.
+pub fn code(part: &mut [u32], st: Stripe)
+    requires { ⌜ Numbers st ⌝ }
+    requires { ⌜ length (now part) ≡ blockWords st + blockWords st ⌝ }
+    requires { ⌜ Words (modulusOf st) (take (blockWords st) (now part)) ⌝ }
+    ensures { λ _. ⌜ now (part .exit) ≡ codedStripe st (take (blockWords st) (now (part .entry))) ⌝ }
+{
+    let rows = crate::number::two_to(st.level);
+    let half = rows * st.width;
+    copy_half(part, half);
+    crate::mixing::mix_all(&mut part[..half], st.level, st.k, st.width, st.root);
+    turn(&mut part[half..], rows, st.first, st.k, st.width, st.root);
+    crate::mixing::mix_all(&mut part[half..], st.level, st.k, st.width, st.root);
+}

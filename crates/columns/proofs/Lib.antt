@@ -1,0 +1,7 @@
+pub mod CopiedRows
+pub mod FullTests
+pub mod Places
+pub mod RangeCopies
+pub mod RangeDecoding
+pub mod RangeLoop
+pub mod ScratchTails

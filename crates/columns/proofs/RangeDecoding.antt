@@ -1,0 +1,34 @@
+-- A range of columns decoded: its blocks are those columns of the stripe's blocks, and the weights stay. Assumes nothing.
+use mathlib.Core.Path.{_≡_, ap, _∙_}
+use mathlib.Core.Bool.{Bool, true}
+use mathlib.Core.List.{List, _++_, append-assoc}
+use Prim.Native.Nat.{ℕ, _+_, _*_, _≤_}
+use lib.ListN.{take, drop, replicate}
+use lib.Seq.{take-at, drop-at}
+use Rattle.code.specs.declared.Stripe.{Stripe}
+use Rattle.code.specs.Stripe.{modulusOf, blockCount, positionCount}
+use Rattle.decoder.specs.Decoding.{blocksIn, leftOf}
+use Rattle.decoder.specs.Decoder.{weightsIn}
+use Rattle.decoder.proofs.DecodeRows.{leaves-blocks}
+use Rattle.image.specs.Loading.{columnsOf}
+use Rattle.rows.specs.Ready.{narrow}
+use Rattle.rows.proofs.ColumnRanges.{decoded-range}
+use Rattle.rows.proofs.RowParts.{length-left, length-blocks}
+use Rattle.columns.specs.Ranges.{isConsistentRange}
+
+module _ (st : Stripe) (ms : List Bool) (r : List ℕ) (from cols : ℕ) where
+  abbrev words : List ℕ
+  words = columnsOf (st .width) from cols (positionCount st) r
+
+  module _ {part : List ℕ} (q : part ≡ leftOf (narrow st cols) ms words ++ weightsIn st ms) where
+    pub range-weights : drop (positionCount st * cols) part ≡ weightsIn st ms
+    range-weights = ap (drop (positionCount st * cols)) q ∙ drop-at (leftOf (narrow st cols) ms words) (weightsIn st ms) (positionCount st * cols) (length-left (narrow st cols) ms words)
+
+    pub range-blocks : from + cols ≤ st .width → isConsistentRange st ms r from cols ≡ true → take (blockCount st * cols) part ≡ columnsOf (st .width) from cols (blockCount st) (blocksIn st ms r)
+    range-blocks fit c =
+        let bs = blocksIn (narrow st cols) ms words in
+        let zs : List ℕ = replicate (blockCount st * cols) 0 in
+        let a : part ≡ bs ++ (zs ++ weightsIn st ms) =
+        q ∙ ap (λ (x : List ℕ). x ++ weightsIn st ms) (leaves-blocks (modulusOf st) (st .root) (st .k) (st .level) (st .first) cols ms words c) ∙ append-assoc bs zs (weightsIn st ms) in
+        ap (take (blockCount st * cols)) a ∙ take-at bs (zs ++ weightsIn st ms) (blockCount st * cols) (length-blocks (narrow st cols) ms words)
+        ∙ decoded-range (modulusOf st) (st .root) (st .k) (st .level) (st .first) ms (st .width) r from cols fit

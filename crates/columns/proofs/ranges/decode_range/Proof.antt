@@ -1,0 +1,151 @@
+-- `columns::ranges::decode_range` meets its contract. Assumes nothing.
+use mathlib.Core.Path.{_≡_, refl, sym, _∙_}
+use mathlib.Core.Bool.{false≢true}
+use Prim.Native.Nat.{_+_, _*_, _-_, max}
+use native.Mathlib.Omega.{arith}
+use borrow.Author.Needs.{needs}
+use borrow.Author.Tests.{not-true, not-false}
+use borrow.Rule.Slice.PartMut.{putMid}
+use lib.ListN.{length, take, drop}
+use Rattle.code.specs.Stripe.{blockCount, positionCount}
+use Rattle.image.specs.Loading.{rowsIn}
+use Rattle.columns.specs.Ranges.{scratchWords, isConsistentRange, arePlaces, rangeTaken, rangeNumber}
+use Rattle.columns.proofs.ScratchTails.{Tail, span, half-span, scratch-low, tail-long, tail-weights, put-weights, lent-again}
+use Rattle.columns.proofs.RangeCopies.{range-fails, range-taken}
+use Rattle.columns.proofs.RangeDecoding.{range-weights, range-blocks}
+use Rattle.columns.proofs.ranges.decode_range.Statement.{statement}
+use Rattle.columns.proofs.ranges.decode_range.Tie as tie
+
+two-to-requires : tie.Need-two-to-requires
+two-to-requires c κs = omega (arith, c .before .before .before .before .pre .0 .fits .low, c .before .before .before .before .pre .0 .fits .numbers .within)
+
+mul-start : tie.Need-mul-start
+mul-start c = search needs
+
+add-start : tie.Need-add-start
+add-start c = search needs
+
+-- the words of the range and the weights, and where they begin
+span-is : (c : tie.After-two-to) → let a = c .before .before .before .before .before .args in 2 * c .two-to .result * (a .range .cols + 1) ≡ positionCount (a .st) * a .range .cols + positionCount (a .st)
+span-is c = let a = c .before .before .before .before .before .args in span (a .st .level) (a .range .cols) (a .range .cols) (c .two-to .result) refl (c .two-to .ensures)
+
+tail : (c : tie.After-two-to) → let a = c .before .before .before .before .before .args in
+    Tail (a .scratch .now) (scratchWords (a .st)) (length (a .scratch .now) - 2 * c .two-to .result * (a .range .cols + 1)) (a .range .cols) (positionCount (a .st))
+tail c = let s = c .before .before .before .before .before in record { long = s .pre .1 .1 .1 .0; begins = omega (arith, span-is c, s .pre .1 .0 .1 .room, s .pre .1 .1 .1 .0) }
+
+mul-start-2 : tie.Need-mul-start-2
+mul-start-2 c = let s = c .before .before .before .before .before in omega (arith, span-is c, s .pre .1 .0 .1 .room, scratch-low (s .args .st) (s .pre .0 .fits))
+
+sub-start : tie.Need-sub-start
+sub-start c = let s = c .before .before .before .before .before in omega (arith, span-is c, s .pre .1 .0 .1 .room, s .pre .1 .1 .1 .0)
+
+mul-part : tie.Need-mul-part
+mul-part c = search needs
+
+sub-part : tie.Need-sub-part
+sub-part c = search needs
+
+part-part-start : tie.Need-part-part-start
+part-part-start c = search needs
+
+part-part-end : tie.Need-part-part-end
+part-part-end c = search needs
+
+decode-columns-requires : tie.Need-decode-columns-requires
+decode-columns-requires c κs =
+    let s = c .before .before .before .before .before .before in
+    let T = tail (c .before) in
+    (s .pre .0, ((s .pre .1 .0 .0, s .pre .1 .0 .1 .within), (tail-long T, tail-weights T ∙ s .pre .1 .1 .1 .1)))
+
+same-length : tie.Need-same-length
+same-length c = search needs
+
+-- the weights stay
+weights-stay : (c : tie.After-decode-columns) → let a = c .before .before .before .before .before .before .before .args in let n = length (a .scratch .now) - 2 * c .before .before .two-to .result * (a .range .cols + 1) in
+    drop (scratchWords (a .st) - positionCount (a .st)) (putMid n (length (a .scratch .now) - n) (a .scratch .now) (c .decode-columns .last .1 .1 .1 .1 .1 .0)) ≡ drop (scratchWords (a .st) - positionCount (a .st)) (a .scratch .now)
+weights-stay c =
+    let s = c .before .before .before .before .before .before .before in
+    let a = s .args in
+    let T = tail (c .before .before) in
+    put-weights T _ (range-weights (a .st) (a .marks .now) (rowsIn (a .st) (a .marks .now) (a .bytes .now)) (a .range .from) (a .range .cols) (c .decode-columns .ensures .1) ∙ sym (tail-weights T ∙ s .pre .1 .1 .1 .1))
+
+returns : tie.Need-returns
+returns c =
+    let s = c .before .before .before .before .before .before .before .before .before .before in
+    let e = sym (c .before .before .before .decode-columns .ensures .0) ∙ not-true _ (c .if1 .taken) in
+    (sym (range-fails (s .args .range .from) (s .args .range .skip) _ e), (λ t. absurd (false≢true (sym e ∙ t)), weights-stay (c .before .before .before)))
+
+mul-take-range : tie.Need-mul-take-range
+mul-take-range c = search needs
+
+sub-take-range : tie.Need-sub-take-range
+sub-take-range c = search needs
+
+part-take-range-start : tie.Need-part-take-range-start
+part-take-range-start c = search needs
+
+part-take-range-end : tie.Need-part-take-range-end
+part-take-range-end c = search needs
+
+-- the words of the range, lent again
+words-are : (c : tie.After-decode-columns) → let l = c .before .before .before .before .before .before .before .args .scratch .now in
+    let start = length l - 2 * c .before .before .two-to .result * (c .before .before .before .before .before .before .before .args .range .cols + 1) in
+    let x = c .decode-columns .last .1 .1 .1 .1 .1 .0 in
+    let l′ = putMid start (length l - start) l x in take (length l′ - start) (drop start l′) ≡ x
+words-are c = lent-again (tail (c .before .before)) _ (c .decode-columns .kept .1 .1 .1 .1 .1 .0)
+
+take-range-requires : tie.Need-take-range-requires
+take-range-requires c κs =
+    let s = c .before .before .before .before .before .before .before .before .before .before .before .before .before in
+    let a = s .args in
+    let f = s .pre .1 .0 .1 in (
+      (omega (arith, s .pre .0 .fits .low, s .pre .0 .fits .numbers .within), f .some, f .within, s .pre .1 .0 .2),
+      (rw (words-are (c .before .before .before .before .before .before), c .before .before .before .before .before .before .decode-columns .kept .1 .1 .1 .1 .1 .0, tail-long (tail (c .before .before .before .before .before .before .before .before))) (half-span (a .st .level) (a .range .cols)), s .pre .1 .1 .0),
+    )
+
+same-length-2 : tie.Need-same-length-2
+same-length-2 c = search needs
+
+same-length-3 : tie.Need-same-length-3
+same-length-3 c = search needs
+
+-- the range taken
+taken : (c : tie.After-take-range) → let a = c .before .before .before .before .before .before .before .before .before .before .before .before .before .before .args in let r = rowsIn (a .st) (a .marks .now) (a .bytes .now) in
+    (c .take-range .result ≡ rangeNumber (a .range .from) (a .range .skip) (isConsistentRange (a .st) (a .marks .now) r (a .range .from) (a .range .cols)) (arePlaces (a .st) (a .marks .now) r))
+    × (c .take-range .last .1 .1 .1 .0 ≡ rangeTaken (a .st) (a .marks .now) r (a .range .from) (a .range .cols) (a .range .skip) (a .out .now))
+taken c =
+    let s = c .before .before .before .before .before .before .before .before .before .before .before .before .before .before in
+    let a = s .args in
+    let r = rowsIn (a .st) (a .marks .now) (a .bytes .now) in
+    let d = c .before .before .before .before .before .before .before .decode-columns .ensures in
+    let e = sym (d .0) ∙ not-false _ (c .before .before .before .before .if1 .left) in
+    range-taken (a .st) (a .marks .now) r (a .range .from) (a .range .cols) (a .range .skip) (a .out .now) refl refl (words-are (c .before .before .before .before .before .before .before)) (s .pre .1 .0 .1) (s .pre .1 .0 .2)
+    e (range-blocks (a .st) (a .marks .now) r (a .range .from) (a .range .cols) (d .1) (s .pre .1 .0 .1 .within) e) (c .take-range .ensures .0) (c .take-range .ensures .1)
+
+returns-2 : tie.Need-returns-2
+returns-2 c = (taken (c .before .before) .0, (λ _. taken (c .before .before) .1, weights-stay (c .before .before .before .before .before .before .before .before .before)))
+
+pub decode-range-spec : {M : Type 1} → statement M
+decode-range-spec =
+    tie.close
+    (tie.spec
+    two-to-requires
+    mul-start
+    add-start
+    mul-start-2
+    sub-start
+    mul-part
+    sub-part
+    part-part-start
+    part-part-end
+    decode-columns-requires
+    same-length
+    returns
+    mul-take-range
+    sub-take-range
+    part-take-range-start
+    part-take-range-end
+    take-range-requires
+    same-length-2
+    same-length-3
+    returns-2)

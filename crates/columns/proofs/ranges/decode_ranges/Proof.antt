@@ -1,0 +1,108 @@
+-- `columns::ranges::decode_ranges` meets its contract. The invariant: the columns below `from` are decoded and copied. Assumes nothing.
+use mathlib.Core.Path.{_≡_, refl, sym, _∙_}
+use mathlib.Core.Bool.{false≢true}
+use mathlib.Core.Logic.{⊎-elim}
+use Prim.Native.Nat.{_-_, _<_}
+use native.Mathlib.Omega.{arith}
+use borrow.Author.Needs.{needs}
+use lib.ListN.{length}
+use Rattle.image.specs.Loading.{rowsIn}
+use Rattle.columns.proofs.RangeLoop.{Ranging, ranging-start, ranging-first, ranging-later, ranging-fails, ranging-agrees, ranging-number, ranging-rows, columns-fail, columns-agree}
+use Rattle.columns.proofs.ranges.decode_ranges.Statement.{statement}
+use Rattle.columns.proofs.ranges.decode_ranges.Tie as tie
+
+abbrev Inv-loop : tie.InvT-loop
+Inv-loop st bytes marks skip out₀ scratch₀ width number₀ from₀ out scratch number from =
+    (width ≡ st .width) × (length out ≡ length out₀) × (length scratch ≡ length scratch₀) × Ranging st marks (rowsIn st marks bytes) skip out₀ out scratch number from
+
+abbrev μ-loop : tie.MeasureT-loop
+μ-loop st bytes marks skip out₀ scratch₀ width number₀ from₀ out scratch number from = width - from
+
+loop-holds : tie.Need-loop-holds Inv-loop μ-loop
+loop-holds c =
+    let s = c .before .before .before .before in
+    let a = s .args in
+    (refl, refl, refl, ranging-start (a .st) (a .marks .now) (rowsIn (a .st) (a .marks .now) (a .bytes .now)) (a .skip) (a .out .now) _ (s .pre .1 .1 .1 .0) (s .pre .1 .1 .1 .1))
+
+range-columns-requires : tie.Need-range-columns-requires Inv-loop μ-loop
+range-columns-requires c κs = (c .before .before .before .before .before .before .pre .0 .fits, omega (arith, c .loop-test .taken))
+
+decode-range-requires : tie.Need-decode-range-requires Inv-loop μ-loop
+decode-range-requires c κs =
+    let s = c .before .before .before .before .before .before .before .before .before in
+    let i = c .before .before .before .before .loop .inv in
+    (s .pre .0, ((s .pre .1 .0 .0, c .before .before .range-columns .ensures, s .pre .1 .0 .1), (omega (arith, i .1, s .pre .1 .1 .0), (i .3 .sized, i .3 .weighed))))
+
+same-length : tie.Need-same-length Inv-loop μ-loop
+same-length c = c .before .before .before .before .before .decode-range .kept .1 .1 .1 .1 .0 ∙ c .before .before .before .before .before .before .before .before .before .before .loop .inv .1
+
+same-length-2 : tie.Need-same-length-2 Inv-loop μ-loop
+same-length-2 c = c .before .before .before .before .before .decode-range .kept .1 .1 .1 .1 .1 .0 ∙ c .before .before .before .before .before .before .before .before .before .before .loop .inv .2
+
+returns : tie.Need-returns Inv-loop μ-loop
+returns c =
+    let a = c .before .before .before .before .before .before .before .before .before .before .before .before .before .before .before .args in
+    let r = rowsIn (a .st) (a .marks .now) (a .bytes .now) in
+    let f = ranging-fails (a .st) (a .marks .now) r (a .skip) (a .out .now) (c .before .before .before .before .before .before .before .before .before .before .loop .inv .3) (c .before .before .before .before .before .before .before .before .range-columns .ensures) (c .before .before .before .before .before .decode-range .ensures .0) (c .if1 .taken) in
+    (sym (columns-fail (a .skip) _ f), λ t. absurd (false≢true (sym f ∙ t)))
+
+add-from : tie.Need-add-from Inv-loop μ-loop
+add-from c = omega (arith, c .before .before .before .before .before .before .before .before .before .range-columns .ensures .within, c .before .before .before .before .before .before .before .before .before .before .before .before .before .before .before .before .pre .0 .fits .thin)
+
+loop-less : tie.Need-loop-less Inv-loop μ-loop
+loop-less c = omega (arith, c .before .before .before .before .before .before .before .before .before .range-columns .ensures .some, c .before .before .before .before .before .before .before .before .before .before .loop-test .taken)
+
+loop-again : tie.Need-loop-again Inv-loop μ-loop
+loop-again c =
+    let s = c .before .before .before .before .before .before .before .before .before .before .before .before .before .before .before .before in
+    let a = s .args in
+    let r = rowsIn (a .st) (a .marks .now) (a .bytes .now) in
+    let i = c .before .before .before .before .before .before .before .before .before .before .before .loop .inv in
+    let d = c .before .before .before .before .before .before .decode-range in
+    let thin : a .skip < a .st .width = omega (arith, s .pre .1 .0 .1, s .pre .0 .fits .thick) in (
+      i .0,
+      d .kept .1 .1 .1 .1 .0 ∙ i .1,
+      d .kept .1 .1 .1 .1 .1 .0 ∙ i .2,
+      ⊎-elim
+          (λ w. ranging-first (a .st) (a .marks .now) r (a .skip) (a .out .now) (i .3) (d .last .1 .1 .1 .1 .1 .0) (c .before .before .before .before .before .before .before .before .before .range-columns .ensures) (s .pre .1 .0 .1) thin (s .pre .1 .1 .0) (d .ensures .0) (c .before .if1 .left) (d .ensures .1 .0) (d .kept .1 .1 .1 .1 .1 .0) (d .ensures .1 .1) (w .0 .taken) (w .1))
+          (λ w. ranging-later (a .st) (a .marks .now) r (a .skip) (a .out .now) (i .3) (d .last .1 .1 .1 .1 .1 .0) (c .before .before .before .before .before .before .before .before .before .range-columns .ensures) (s .pre .1 .0 .1) thin (s .pre .1 .1 .0) (d .ensures .0) (c .before .if1 .left) (d .ensures .1 .0) (d .kept .1 .1 .1 .1 .1 .0) (d .ensures .1 .1) (w .0 .left) (w .1))
+          (c .if2 .came),
+    )
+
+same-length-3 : tie.Need-same-length-3 Inv-loop μ-loop
+same-length-3 c = c .before .loop .inv .1
+
+same-length-4 : tie.Need-same-length-4 Inv-loop μ-loop
+same-length-4 c = c .before .loop .inv .2
+
+returns-2 : tie.Need-returns-2 Inv-loop μ-loop
+returns-2 c =
+    let s = c .before .before .before .before .before .before in
+    let a = s .args in
+    let r = rowsIn (a .st) (a .marks .now) (a .bytes .now) in
+    let i = c .before .loop .inv in
+    let b = c .loop-test .left in
+    let thin : a .skip < a .st .width = omega (arith, s .pre .1 .0 .1, s .pre .0 .fits .thick) in
+    let g = ranging-agrees (a .st) (a .marks .now) r (a .skip) (a .out .now) (i .3) b in (
+      ranging-number (a .st) (a .marks .now) r (a .skip) (a .out .now) (i .3) b (omega arith) ∙ sym (columns-agree (a .skip) _ g),
+      λ t. ranging-rows (a .st) (a .marks .now) r (a .skip) (a .out .now) (i .3) b thin (s .pre .1 .1 .0),
+    )
+
+pub decode-ranges-spec : {M : Type 1} → statement M
+decode-ranges-spec =
+    tie.close
+    (tie.spec
+    Inv-loop
+    μ-loop
+    loop-holds
+    range-columns-requires
+    decode-range-requires
+    same-length
+    same-length-2
+    returns
+    add-from
+    loop-less
+    loop-again
+    same-length-3
+    same-length-4
+    returns-2)

@@ -1,0 +1,103 @@
+// The full stripe decoded: its blocks, or its records.
+use code::Stripe;
+ghost use mathlib.Core.Path.{_≡_};
+ghost use Prim.Native.Nat.{_*_, _-_, _≤_, pred};
+ghost use lib.ListN.{length, drop, replicate};
+ghost use Rattle.code.specs.Stripe.{blockCount, positionCount, blockWords, stripeWords};
+ghost use Rattle.decoder.specs.Decoder.{weightsIn};
+ghost use Rattle.layout.specs.Refusals.{ifTaken};
+ghost use Rattle.image.specs.Loading.{rowsIn};
+ghost use Rattle.rows.specs.Decoding.{decodedNumber, decodedWords, solved};
+ghost use Rattle.rows.specs.Ready.{StripeFits, Ready};
+ghost use Rattle.columns.specs.Ranges.{scratchWords, allNumber, withoutFirst};
+ghost use Rattle.columns.specs.Full.{decodedData};
+
+// Stores the weights of the positions in the last words of the scratch.
+fn store_weights(st: Stripe, marks: &[bool], scratch: &mut [u32])
+    requires { ⌜ StripeFits st ⌝ }
+    requires { ⌜ (positionCount st ≤ length (now marks)) × (length (now scratch) ≡ scratchWords st) ⌝ }
+    ensures { λ _. ⌜ drop (scratchWords st - positionCount st) (now (scratch .exit)) ≡ weightsIn st (now (marks .entry)) ⌝ }
+{
+    let rows = code::number::two_to(st.level + 1);
+    let start = scratch.len() - 2 * rows;
+    decoder::weights::weights(&mut scratch[start..], marks, st);
+}
+
+// Decodes all columns but the first `skip`: 9 or 10, or 0 and the blocks' words without those columns; zeros where it is not 0. The scratch is zeros.
+fn decode_all(
+    st: Stripe,
+    bytes: &[u8],
+    marks: &[bool],
+    skip: usize,
+    out: &mut [u32],
+    scratch: &mut [u32],
+) -> u32
+    requires { ⌜ Ready st (now marks) (rowsIn st (now marks) (now bytes)) ⌝ }
+    requires { ⌜ (length (now bytes) ≡ 4 * stripeWords st) × (skip ≤ 1) ⌝ }
+    requires { ⌜ (length (now out) ≡ blockCount st * (st .width - skip)) × (length (now scratch) ≡ scratchWords st) ⌝ }
+    ensures { λ r. ⌜ r ≡ allNumber st (now (marks .entry)) (rowsIn st (now (marks .entry)) (now (bytes .entry))) skip ⌝ }
+    ensures { λ _. ⌜ now (out .exit) ≡
+        ifTaken (allNumber st (now (marks .entry)) (rowsIn st (now (marks .entry)) (now (bytes .entry))) skip)
+        (withoutFirst st (now (marks .entry)) (rowsIn st (now (marks .entry)) (now (bytes .entry))) skip) (replicate (blockCount st * (st .width - skip)) 0) ⌝ }
+    ensures { λ _. ⌜ now (scratch .exit) ≡ replicate (scratchWords st) 0 ⌝ }
+{
+    store_weights(st, marks, scratch);
+    let number = crate::ranges::decode_ranges(st, bytes, marks, skip, out, scratch);
+    layout::words::clear(scratch);
+    if number != 0 {
+        layout::words::clear(out);
+    }
+    number
+}
+
+// Decodes the full stripe: 9 or 10, or 0 and its blocks; zeros where it is not 0. The scratch is zeros.
+pub fn decode_full(
+    st: Stripe,
+    bytes: &[u8],
+    marks: &[bool],
+    out: &mut [u32],
+    scratch: &mut [u32],
+) -> u32
+    requires { ⌜ Ready st (now marks) (rowsIn st (now marks) (now bytes)) ⌝ }
+    requires { ⌜ length (now bytes) ≡ 4 * stripeWords st ⌝ }
+    requires { ⌜ (length (now out) ≡ blockWords st) × (length (now scratch) ≡ scratchWords st) ⌝ }
+    ensures { λ r. ⌜ r ≡ decodedNumber (solved st (now (marks .entry)) (rowsIn st (now (marks .entry)) (now (bytes .entry)))) ⌝ }
+    ensures { λ _. ⌜ now (out .exit) ≡ decodedWords (solved st (now (marks .entry)) (rowsIn st (now (marks .entry)) (now (bytes .entry)))) (blockWords st) ⌝ }
+    ensures { λ _. ⌜ now (scratch .exit) ≡ replicate (scratchWords st) 0 ⌝ }
+{
+    let number = decode_all(st, bytes, marks, 0, out, scratch);
+    if number != 0 {
+        return number;
+    }
+    if rows::records::are_records(st, out) {
+        return 0;
+    }
+    layout::words::clear(out);
+    10
+}
+
+// The records that the full stripe holds: 9 or 10, or 0 and the records; zeros where it is not 0. The scratch is zeros.
+pub fn recover_full(
+    st: Stripe,
+    bytes: &[u8],
+    marks: &[bool],
+    out: &mut [u32],
+    scratch: &mut [u32],
+) -> u32
+    requires { ⌜ Ready st (now marks) (rowsIn st (now marks) (now bytes)) ⌝ }
+    requires { ⌜ (length (now bytes) ≡ 4 * stripeWords st) × (st .level ≡ st .k) ⌝ }
+    requires { ⌜ (length (now out) ≡ blockCount st * pred (st .width)) × (length (now scratch) ≡ scratchWords st) ⌝ }
+    ensures { λ r. ⌜ r ≡ decodedNumber (solved st (now (marks .entry)) (rowsIn st (now (marks .entry)) (now (bytes .entry)))) ⌝ }
+    ensures { λ _. ⌜ now (out .exit) ≡ decodedData st (solved st (now (marks .entry)) (rowsIn st (now (marks .entry)) (now (bytes .entry)))) ⌝ }
+    ensures { λ _. ⌜ now (scratch .exit) ≡ replicate (scratchWords st) 0 ⌝ }
+{
+    let number = decode_all(st, bytes, marks, 1, out, scratch);
+    if number != 0 {
+        return number;
+    }
+    if layout::words::all_data(out) {
+        return 0;
+    }
+    layout::words::clear(out);
+    10
+}

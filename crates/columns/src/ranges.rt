@@ -1,0 +1,181 @@
+// Ranges of columns of a stripe decoded in the scratch, and rows copied out of it.
+use crate::Lines;
+use crate::Range;
+use code::Stripe;
+ghost use mathlib.Core.Path.{_≡_};
+ghost use mathlib.Core.Bool.{true};
+ghost use mathlib.Core.List.{_++_};
+ghost use Prim.Native.Nat.{_+_, _*_, _-_, _^_, _≤_, _<_, suc, max};
+ghost use lib.ListN.{length, drop};
+ghost use Rattle.code.specs.Stripe.{blockCount, positionCount, stripeWords};
+ghost use Rattle.decoder.specs.Decoding.{isConsistent};
+ghost use Rattle.decoder.specs.Decoder.{weightsIn};
+ghost use Rattle.image.specs.Loading.{rowsIn};
+ghost use Rattle.rows.specs.Ready.{StripeFits, Ready};
+ghost use Rattle.columns.specs.Ranges.{placesTo, copiedRows, scratchWords, RangeFits, isConsistentRange, arePlaces, rangeTaken, rangeNumber, allNumber, withoutFirst};
+
+// Copies `count` words of each row.
+fn copy_rows(out: &mut [u32], to: Lines, words: &[u32], from: Lines, count: usize, rows: usize)
+    requires { ⌜ (to .first + count ≤ to .stride) × (rows * to .stride ≤ length (now out)) ⌝ }
+    requires { ⌜ (from .first + count ≤ from .stride) × (rows * from .stride ≤ length (now words)) ⌝ }
+    ensures { λ _. ⌜ now (out .exit) ≡
+        copiedRows (to .first) (to .stride) (from .first) (from .stride) count (now (words .entry)) rows (now (out .entry)) ⌝ }
+{
+    let stride = from.stride;
+    let width = to.stride;
+    let mut x = from.first;
+    let mut y = to.first;
+    for i in 0..rows {
+        layout::words::copy_row(out, y, words, x, count);
+        x += stride;
+        y += width;
+    }
+}
+
+// Whether the first word of each row is its place.
+fn are_places(words: &[u32], width: usize, rows: usize) -> bool
+    requires { ⌜ (0 < width) × (rows * width ≤ length (now words)) ⌝ }
+    ensures { λ r. ⌜ r ≡ placesTo width (now (words .entry)) rows ⌝ }
+{
+    let mut at = 0;
+    for i in 0..rows {
+        if words[at] as usize != i {
+            return false;
+        }
+        at += width;
+    }
+    true
+}
+
+// How many columns are decoded at once from column `from` on: as many as the scratch has room for, or all that are left.
+fn range_columns(st: Stripe, from: usize) -> usize
+    requires { ⌜ (StripeFits st) × (from < st .width) ⌝ }
+    ensures { λ r. ⌜ RangeFits st from r ⌝ }
+{
+    let left = st.width - from;
+    let most = (st.width + 2) / 2;
+    if most < left {
+        return most;
+    }
+    left
+}
+
+// Copies the words of a range of columns to their columns of `out`. 10 if column 0 is skipped and holds a number that is not its place, 0 otherwise.
+fn take_range(words: &[u32], st: Stripe, range: Range, out: &mut [u32]) -> u32
+    requires { ⌜ (st .level ≤ 15) × (0 < range .cols) × (range .from + range .cols ≤ st .width) × (range .skip ≤ 1) ⌝ }
+    requires { ⌜ (blockCount st * range .cols ≤ length (now words)) × (blockCount st * (st .width - range .skip) ≤ length (now out)) ⌝ }
+    ensures { λ r. ⌜ r ≡ rangeNumber (range .from) (range .skip) true (placesTo (range .cols) (now (words .entry)) (blockCount st)) ⌝ }
+    ensures { λ _. ⌜ now (out .exit) ≡
+        copiedRows (max (range .from) (range .skip) - range .skip) (st .width - range .skip) (max (range .from) (range .skip) - range .from) (range .cols)
+        (range .from + range .cols - max (range .from) (range .skip)) (now (words .entry)) (blockCount st) (now (out .entry)) ⌝ }
+{
+    let rows = code::number::two_to(st.level);
+    let from = range.from;
+    let cols = range.cols;
+    let skip = range.skip;
+    let width = st.width - skip;
+    if 0 < from {
+        let to = Lines {
+            first: from - skip,
+            stride: width,
+        };
+        let all = Lines {
+            first: 0,
+            stride: cols,
+        };
+        copy_rows(out, to, words, all, cols, rows);
+        return 0;
+    }
+    let to = Lines {
+        first: 0,
+        stride: width,
+    };
+    let some = Lines {
+        first: skip,
+        stride: cols,
+    };
+    copy_rows(out, to, words, some, cols - skip, rows);
+    if skip == 0 {
+        return 0;
+    }
+    if are_places(words, cols, rows) {
+        return 0;
+    }
+    10
+}
+
+// Decodes a range of columns in the last words of the scratch and copies the blocks' words to `out`, as `take_range` does. 9 if no blocks have the surviving
+// words. The weights behind the range stay.
+fn decode_range(
+    st: Stripe,
+    bytes: &[u8],
+    marks: &[bool],
+    range: Range,
+    out: &mut [u32],
+    scratch: &mut [u32],
+) -> u32
+    requires { ⌜ Ready st (now marks) (rowsIn st (now marks) (now bytes)) ⌝ }
+    requires { ⌜ (length (now bytes) ≡ 4 * stripeWords st) × (RangeFits st (range .from) (range .cols)) × (range .skip ≤ 1) ⌝ }
+    requires { ⌜ blockCount st * (st .width - range .skip) ≤ length (now out) ⌝ }
+    requires { ⌜ length (now scratch) ≡ scratchWords st ⌝ }
+    requires { ⌜ drop (scratchWords st - positionCount st) (now scratch) ≡ weightsIn st (now marks) ⌝ }
+    ensures { λ r. ⌜ r ≡
+        rangeNumber (range .from) (range .skip)
+        (isConsistentRange st (now (marks .entry)) (rowsIn st (now (marks .entry)) (now (bytes .entry))) (range .from) (range .cols))
+        (arePlaces st (now (marks .entry)) (rowsIn st (now (marks .entry)) (now (bytes .entry)))) ⌝ }
+    ensures { λ _. ⌜ (isConsistentRange st (now (marks .entry)) (rowsIn st (now (marks .entry)) (now (bytes .entry))) (range .from) (range .cols) ≡ true →
+        now (out .exit) ≡
+        rangeTaken st (now (marks .entry)) (rowsIn st (now (marks .entry)) (now (bytes .entry))) (range .from) (range .cols) (range .skip) (now (out .entry))) ⌝ }
+    ensures { λ _. ⌜ drop (scratchWords st - positionCount st) (now (scratch .exit)) ≡ drop (scratchWords st - positionCount st) (now (scratch .entry)) ⌝ }
+{
+    let rows = code::number::two_to(st.level);
+    let cols = range.cols;
+    let start = scratch.len() - 2 * rows * (cols + 1);
+    let part = &mut scratch[start..];
+    if !rows::decoding::decode_columns(st, bytes, marks, range.from, cols, part) {
+        return 9;
+    }
+    take_range(&scratch[start..], st, range, out)
+}
+
+// Decodes all columns, range by range, to rows that lack the first `skip` columns, in a scratch that ends in the weights. The numbers are those of a range.
+pub(crate) fn decode_ranges(
+    st: Stripe,
+    bytes: &[u8],
+    marks: &[bool],
+    skip: usize,
+    out: &mut [u32],
+    scratch: &mut [u32],
+) -> u32
+    requires { ⌜ Ready st (now marks) (rowsIn st (now marks) (now bytes)) ⌝ }
+    requires { ⌜ (length (now bytes) ≡ 4 * stripeWords st) × (skip ≤ 1) ⌝ }
+    requires { ⌜ blockCount st * (st .width - skip) ≤ length (now out) ⌝ }
+    requires { ⌜ length (now scratch) ≡ scratchWords st ⌝ }
+    requires { ⌜ drop (scratchWords st - positionCount st) (now scratch) ≡ weightsIn st (now marks) ⌝ }
+    ensures { λ r. ⌜ r ≡ allNumber st (now (marks .entry)) (rowsIn st (now (marks .entry)) (now (bytes .entry))) skip ⌝ }
+    ensures { λ _. ⌜ (isConsistent st (now (marks .entry)) (rowsIn st (now (marks .entry)) (now (bytes .entry))) ≡ true →
+        now (out .exit) ≡
+        withoutFirst st (now (marks .entry)) (rowsIn st (now (marks .entry)) (now (bytes .entry))) skip ++
+        drop (blockCount st * (st .width - skip)) (now (out .entry))) ⌝ }
+{
+    let width = st.width;
+    let mut number: u32 = 0;
+    let mut from = 0;
+    while from < width {
+        let cols = range_columns(st, from);
+        let range = Range {
+            from: from,
+            cols: cols,
+            skip: skip,
+        };
+        let found = decode_range(st, bytes, marks, range, out, scratch);
+        if found == 9 {
+            return 9;
+        }
+        if from == 0 {
+            number = found;
+        }
+        from += cols;
+    }
+    number
+}

@@ -1,0 +1,129 @@
+-- What the decoder's loops write, word by word, is what the steps of specs/Decoder do to each column. Assumes nothing.
+use mathlib.Core.Path.{_≡_, refl, sym, ap, ap₂, _∙_}
+use mathlib.Core.Bool.{Bool, true, false}
+use mathlib.Core.List.{List, _++_}
+use Prim.Native.Nat.{ℕ, suc, _+_, _*_, _-_, _/_, _^_, _≤_, _<_}
+use native.Mathlib.Nat.{zero-add}
+use native.Mathlib.Decide.{decLt}
+use native.Mathlib.Omega.{arith}
+use lib.Arith.{digits-lt, digits-div}
+use lib.ListN.{length, getD, take, drop, take-append-drop}
+use lib.Seq.{getD-take, length-take-le}
+use Rattle.field.specs.Residue.{plus, minus, times}
+use Rattle.field.specs.Power.{inverse}
+use Rattle.field.specs.Words.{Words}
+use Rattle.field.proofs.Laws.{times-comm, times-zero}
+use Rattle.code.specs.Transform.{reversed}
+use Rattle.code.specs.Rows.{column, lifted}
+use Rattle.decoder.specs.Decoder.{halfOf, derivedAt, derived, divisorAt, chosenAt, chosen, weighedAt, weighed}
+use Rattle.code.specs.RowTrace.{stored}
+use Rattle.decoder.proofs.Tests.{choice-lt}
+use Rattle.code.proofs.Lifting.{length-column, column-at, is-lifted, lifted-append, table-lifted, two-halves}
+use Rattle.decoder.proofs.DecoderShapes.{derived-low, derived-high, chosen-at, weighed-at}
+use Rattle.code.proofs.RowLaws.{length-stored, stored-before, stored-at, stored-is, scaledRowsWord}
+
+-- STEP 3, word q of the second half
+unfoldable pub deriveWord : (p level width : ℕ) → (rows : List ℕ) → (q : ℕ) → ℕ
+deriveWord p l width r q = minus p (times p (plus p (reversed l (q / width)) (halfOf p l)) (getD r q 0)) (times p (halfOf p l) (getD r (2 ^ l * width + q) 0))
+
+-- row 2 ^ l + a
+high-row : (l a width j : ℕ) → (2 ^ l + a) * width + j ≡ 2 ^ l * width + (a * width + j)
+high-row l a width j = omega arith
+
+module _ (p l width : ℕ) (r : List ℕ) (long : length r ≡ 2 ^ suc l * width) where
+  derive-word : (a j : ℕ) → a < 2 ^ l → j < width → deriveWord p l width r (a * width + j) ≡ derivedAt p l (column width (2 ^ suc l) j r) a
+  unfolding deriveWord derivedAt
+  derive-word a j h b =
+      let x : getD (column width (2 ^ suc l) j r) a 0 ≡ getD r (a * width + j) 0 = column-at width (2 ^ suc l) j r a (omega arith) in
+      let y : getD (column width (2 ^ suc l) j r) (2 ^ l + a) 0 ≡ getD r ((2 ^ l + a) * width + j) 0 = column-at width (2 ^ suc l) j r (2 ^ l + a) (omega arith) in
+      rw (digits-div a b, x, y, high-row)
+
+  pub derive-rows : stored (2 ^ l * width) (deriveWord p l width r) (2 ^ l * width) r ≡ lifted width (2 ^ suc l) (2 ^ suc l) (derived p l) r
+  derive-rows =
+      let f = deriveWord p l width r in
+      is-lifted width (2 ^ suc l) (2 ^ suc l) (derived p l) r (stored (2 ^ l * width) f (2 ^ l * width) r) (length-stored (2 ^ l * width) f (2 ^ l * width) r ∙ long)
+      (λ i j h b. word i j h b (decLt i (2 ^ l)))
+    where
+      word : (i j : ℕ) → i < 2 ^ suc l → j < width → Dec (i < 2 ^ l)
+          → getD (stored (2 ^ l * width) (deriveWord p l width r) (2 ^ l * width) r) (i * width + j) 0 ≡ getD (derived p l (column width (2 ^ suc l) j r)) i 0
+      word i j h b (yes t) =
+          stored-before (2 ^ l * width) (deriveWord p l width r) (2 ^ l * width) r (i * width + j) (digits-lt t b) ∙ sym (column-at width (2 ^ suc l) j r i h)
+          ∙ sym (derived-low p l (column width (2 ^ suc l) j r) i (length-column width (2 ^ suc l) j r) t)
+      word i j h b (no t) =
+          let a : ℕ = i - 2 ^ l in
+          let e : 2 ^ l + a ≡ i = omega arith in
+          rw (← e, high-row)
+          (stored-at (2 ^ l * width) (deriveWord p l width r) (2 ^ l * width) r (a * width + j) (omega (arith, long, two-halves l width)) (digits-lt (omega arith) b)
+          ∙ derive-word a j (omega arith) b ∙ sym (derived-high p l (column width (2 ^ suc l) j r) a (length-column width (2 ^ suc l) j r) (omega arith)))
+
+-- STEP 5, word q of the first half; the weights stand behind the rows
+unfoldable pub chooseWord : (p w k level width : ℕ) → (marks : List Bool) → (part : List ℕ) → (q : ℕ) → ℕ
+chooseWord p w k l width ms part q =
+    times p (inverse p (divisorAt p w k l ms (drop (2 ^ suc l * width) part) (q / width)))
+    (elim (getD ms (q / width) false) [ true ↦ getD part (2 ^ l * width + q) 0 | false ↦ getD part q 0 ])
+
+-- a word of a column of the first n rows
+column-take : (width n i j : ℕ) (l : List ℕ) → i < n → j < width → getD (column width n j (take (n * width) l)) i 0 ≡ getD l (i * width + j) 0
+column-take width n i j l h b = column-at width n j (take (n * width) l) i h ∙ getD-take (n * width) l (i * width + j) 0 (digits-lt h b)
+
+module _ (p w k l width : ℕ) (ms : List Bool) (part : List ℕ) (long : 2 ^ suc l * width ≤ length part) where
+  choose-word : (i j : ℕ) → i < 2 ^ l → j < width
+      → chooseWord p w k l width ms part (i * width + j)
+      ≡ getD (chosen p w k l ms (drop (2 ^ suc l * width) part) (column width (2 ^ suc l) j (take (2 ^ suc l * width) part))) i 0
+  unfolding chooseWord chosenAt
+  choose-word i j h b =
+      let c = column width (2 ^ suc l) j (take (2 ^ suc l * width) part) in
+      let x : getD c i 0 ≡ getD part (i * width + j) 0 = column-take width (2 ^ suc l) i j part (omega arith) b in
+      let y : getD c (2 ^ l + i) 0 ≡ getD part (2 ^ l * width + (i * width + j)) 0 =
+      column-take width (2 ^ suc l) (2 ^ l + i) j part (omega arith) b ∙ ap (λ (q : ℕ). getD part q 0) (high-row l i width j) in
+      rw (digits-div i b)
+      (ap₂ (λ (a e : ℕ). times p (inverse p (divisorAt p w k l ms (drop (2 ^ suc l * width) part) i)) (elim (getD ms i false) [ true ↦ e | false ↦ a ])) (sym x) (sym y)
+      ∙ sym (chosen-at p l w k ms (drop (2 ^ suc l * width) part) c i h))
+
+  pub choose-rows : stored 0 (chooseWord p w k l width ms part) (2 ^ l * width) part
+      ≡ lifted width (2 ^ suc l) (2 ^ l) (chosen p w k l ms (drop (2 ^ suc l * width) part)) (take (2 ^ suc l * width) part) ++ drop (2 ^ l * width) part
+  choose-rows =
+      let f = chooseWord p w k l width ms part in
+      stored-is 0 f (2 ^ l * width) part (omega (arith, two-halves l width))
+      ∙ rw (zero-add, table-lifted width (2 ^ suc l) (2 ^ l) (chosen p w k l ms (drop (2 ^ suc l * width) part)) f (take (2 ^ suc l * width) part) choose-word)
+
+-- STEP 1: the factor of row i, whose weight stands behind the rows
+unfoldable pub weightOr : (marks : List Bool) → (ws : List ℕ) → (i : ℕ) → ℕ
+weightOr ms ws i = elim (getD ms i false) [ true ↦ 0 | false ↦ getD ws i 0 ]
+
+pub weightOr-lt : (p : ℕ) → 0 < p → (ms : List Bool) {ws : List ℕ} → Words p ws → (i : ℕ) → weightOr ms ws i < p
+unfolding weightOr
+weightOr-lt p z ms w i = choice-lt (getD ms i false) z (w .word i)
+
+module _ (p : ℕ) (z : 0 < p) (l width : ℕ) (ms : List Bool) (part : List ℕ) (long : 2 ^ suc l * width ≤ length part) where
+  weigh-word : (i j : ℕ) → i < 2 ^ suc l → j < width
+      → scaledRowsWord p width (weightOr ms (drop (2 ^ suc l * width) part)) part (i * width + j)
+      ≡ getD (weighed p l ms (drop (2 ^ suc l * width) part) (column width (2 ^ suc l) j (take (2 ^ suc l * width) part))) i 0
+  unfolding scaledRowsWord weightOr weighedAt
+  weigh-word i j h b =
+      let ws = drop (2 ^ suc l * width) part in
+      let c = column width (2 ^ suc l) j (take (2 ^ suc l * width) part) in
+      let x : getD c i 0 ≡ getD part (i * width + j) 0 = column-take width (2 ^ suc l) i j part h b in
+      rw (digits-div i b, ← x) (marked (getD ms i false) (getD ws i 0) (getD c i 0)) ∙ sym (weighed-at p l ms ws c i h)
+    where
+      marked : (m : Bool) (a b : ℕ) → times p (elim m [ true ↦ 0 | false ↦ a ]) b ≡ elim m [ true ↦ 0 | false ↦ times p a b ]
+      marked true a b = times-comm p z 0 b ∙ times-zero p z b
+      marked false a b = refl
+
+  pub weigh-rows : stored 0 (scaledRowsWord p width (weightOr ms (drop (2 ^ suc l * width) part)) part) (2 ^ suc l * width) part
+      ≡ lifted width (2 ^ suc l) (2 ^ suc l) (weighed p l ms (drop (2 ^ suc l * width) part)) (take (2 ^ suc l * width) part) ++ drop (2 ^ suc l * width) part
+  weigh-rows =
+      let ws = drop (2 ^ suc l * width) part in
+      let f = scaledRowsWord p width (weightOr ms ws) part in
+      stored-is 0 f (2 ^ suc l * width) part (omega arith)
+      ∙ rw (zero-add, table-lifted width (2 ^ suc l) (2 ^ suc l) (weighed p l ms ws) f (take (2 ^ suc l * width) part) weigh-word)
+
+-- STEPS 2 AND 4: what is done to each half of the rows
+pub lifted-halves : (width l : ℕ) (f g : List ℕ → List ℕ) (r : List ℕ) → length r ≡ 2 ^ suc l * width → ((c : List ℕ) → length c ≡ 2 ^ l → length (f c) ≡ 2 ^ l)
+    → lifted width (2 ^ l) (2 ^ l) f (take (2 ^ l * width) r) ++ lifted width (2 ^ l) (2 ^ l) g (drop (2 ^ l * width) r)
+    ≡ lifted width (2 ^ suc l) (2 ^ suc l) (λ c. f (take (2 ^ l) c) ++ g (drop (2 ^ l) c)) r
+lifted-halves width l f g r e keeps =
+    let n = 2 ^ l in
+    let d : n + n ≡ 2 ^ suc l = omega arith in
+    lifted-append width n n n n f g (take (n * width) r) (drop (n * width) r) (length-take-le (n * width) r (omega (arith, two-halves l width))) keeps
+    ∙ rw (take-append-drop, d)

@@ -1,0 +1,53 @@
+-- The promises of specs/Promises and those of the decoder's steps (proofs/Decoder), each proved, under one roof. Assumes nothing.
+use Rattle.code.specs.declared.Stripe as Struct
+use Rattle.code.specs.Stripe.{Numbers, modulusOf}
+use Rattle.field.proofs.Primes.{fermat-prime}
+use Rattle.decoder.specs.Promises.{Stripe, FindsBlocks, FoundBlocks, FindsStripe, FoundStripe, Promises}
+use Rattle.decoder.proofs.Points.{points-distinct}
+use Rattle.decoder.proofs.Values.{valuesX, valuesY}
+use Rattle.decoder.proofs.Inverse.{untransforms, transforms, unscales}
+use Rattle.decoder.proofs.Half.{halfFixes}
+use Rattle.decoder.proofs.Columns.{findsColumn, foundColumn}
+use Rattle.decoder.proofs.BlockDecoding.{findsBlocks, foundBlocks}
+use Rattle.decoder.proofs.Decoder.{Solves, Low, solves, low}
+
+-- a stripe's numbers are what the promises for any prime ask
+numbered : {st : Struct.Stripe} → Numbers st → Stripe (modulusOf st) (st .root) (st .k) (st .level) (st .first)
+numbered n = record { prime = fermat-prime; root = n .rooted; within = n .within; aligned = n .aligned }
+
+findsStripe : FindsStripe
+findsStripe st ms rows bs n = findsBlocks (modulusOf st) (st .root) (st .k) (st .level) (st .first) (st .width) ms rows bs (numbered n)
+
+foundStripe : FoundStripe
+foundStripe st ms rows n = foundBlocks (modulusOf st) (st .root) (st .k) (st .level) (st .first) (st .width) ms rows (numbered n)
+
+pub proved : Promises
+proved = record {
+  values-x = valuesX;
+  values-y = valuesY;
+  distinct-points = points-distinct;
+  untransforms-back = untransforms;
+  transforms-back = transforms;
+  unscales-back = unscales;
+  half-fixes = halfFixes;
+  finds-column = findsColumn;
+  found-column = foundColumn;
+  finds-blocks = findsBlocks;
+  found-blocks = foundBlocks;
+  finds-stripe = findsStripe;
+  found-stripe = foundStripe;
+}
+
+-- those that other crates use
+pub finds-blocks : FindsBlocks
+finds-blocks = findsBlocks
+
+pub found-blocks : FoundBlocks
+found-blocks = foundBlocks
+
+-- the decoder's steps
+pub solves-column : Solves
+solves-column = solves
+
+pub low-column : Low
+low-column = low

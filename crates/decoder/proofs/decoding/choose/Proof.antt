@@ -1,0 +1,278 @@
+-- `decoder::decoding::choose` meets its contract. The invariant: the first i rows are written. Assumes nothing.
+use mathlib.Core.Path.{_≡_, sym, ap, _∙_}
+use mathlib.Core.Bool.{Bool, true, false}
+use mathlib.Core.List.{List}
+use mathlib.Core.Logic.{⊎-elim}
+use Prim.Native.Nat.{ℕ, suc, _+_, _*_, _-_, _/_, _^_, _≤_, _<_}
+use native.Mathlib.Omega.{arith}
+use lib.Arith.{digits-div}
+use lib.Dec.{lit<}
+use lib.ListN.{length, getD, drop}
+use lib.Pow.{pow-mono}
+use lib.Seq.{getD-drop}
+use Rattle.field.specs.Residue.{times}
+use Rattle.field.specs.Power.{power, inverse}
+use Rattle.field.specs.Words.{Words}
+use Rattle.field.proofs.Unity.{two-div}
+use Rattle.field.proofs.Powers.{power-lt, inverse-lt}
+use Rattle.decoder.specs.Decoding.{pointAt}
+use Rattle.decoder.specs.Decoder.{divisorAt}
+use Rattle.code.specs.RowTrace.{stored, scaledWord}
+use Rattle.field.proofs.Laws.{times-lt}
+use Rattle.code.proofs.Lifting.{two-halves}
+use Rattle.code.proofs.RowLaws.{StoringRows, storing-rows-start, storing-rows-room, storing-rows-rest, storing-rows-words, storing-rows-turn, storing-rows-done}
+use Rattle.decoder.proofs.Points.{point-low}
+use Rattle.decoder.proofs.DecodeSteps.{chooseWord, choose-rows}
+use Rattle.decoder.proofs.decoding.choose.Statement.{statement}
+use Rattle.decoder.proofs.decoding.choose.Tie as tie
+
+record Inv (part₀ : List ℕ) (marks : List Bool) (level k width root rows square u : ℕ) (part : List ℕ) (at i : ℕ) : Type 0 where
+  rows-is : rows ≡ 2 ^ level
+  long : length part₀ ≡ rows * width + rows * width + (rows + rows)
+  square-is : square ≡ times 65537 (2 ^ level) (2 ^ level)
+  u-is : u ≡ power 65537 root (2 ^ k / 2 ^ level)
+  words₀ : Words 65537 part₀
+  storing : StoringRows 0 (chooseWord 65537 root k level width marks part₀) rows width part₀ part at i
+
+-- what the marks choose: the word to divide by, and the row to take
+record Picked (part₀ : List ℕ) (marks : List Bool) (level k width root rows square : ℕ) (part : List ℕ) (at i d from : ℕ) : Type 0 where
+  small : d < 65537
+  low : at ≤ from
+  within : from + width ≤ rows * width + rows * width
+  divisor : times 65537 square d ≡ divisorAt 65537 root k level marks (drop (2 ^ suc level * width) part₀) i
+  read : (c : ℕ) → c < width
+      → getD part (from + c) 0 ≡ elim (getD marks i false) [ true ↦ getD part₀ (2 ^ level * width + (i * width + c)) 0 | false ↦ getD part₀ (i * width + c) 0 ]
+
+module _ {part₀ : List ℕ} {marks : List Bool} {level k width root rows square u : ℕ} {part : List ℕ} {at i : ℕ} (h : Inv part₀ marks level k width root rows square u part at i) (l : i < rows) where
+  room : at + width ≤ rows * width
+  room = omega (arith, storing-rows-room (h .storing) l)
+
+  words : Words 65537 part
+  unfolding chooseWord
+  words = storing-rows-words (h .storing) (lit< tt) (h .words₀) (λ q. times-lt 65537 (lit< tt) _ _)
+
+  -- the position's weight
+  weight : getD part (rows * width + rows * width + i) 0 ≡ getD (drop (2 ^ suc level * width) part₀) i 0
+  weight =
+      storing-rows-rest (h .storing) (rows * width + rows * width + i) (omega (arith, room)) ∙ sym (getD-drop (2 ^ suc level * width) part₀ i 0 ∙ rw (two-halves, h .rows-is))
+
+  -- a word of the row at `at`, or at the same place of the second half
+  word : (a b : ℕ) → at ≤ a → a ≡ b → getD part a 0 ≡ getD part₀ b 0
+  word a b le e = storing-rows-rest (h .storing) a le ∙ ap (λ (q : ℕ). getD part₀ q 0) e
+
+  erased : {e d from : ℕ} → getD marks i false ≡ true → e ≡ power 65537 u (2 * i) → d ≡ times 65537 e (getD part (rows * width + rows * width + i) 0) → from ≡ rows * width + at
+      → Picked part₀ marks level k width root rows square part at i d from
+  unfolding divisorAt
+  erased {e} {from} m ee ed ef =
+      let point : pointAt 65537 root k level i ≡ power 65537 u (2 * i) = point-low 65537 root k level i (rw (← h .rows-is) l) ∙ ap (λ (v : ℕ). power 65537 v (2 * i)) (sym (h .u-is)) in
+      record {
+        small = rw ed (times-lt 65537 (lit< tt) e (getD part (rows * width + rows * width + i) 0));
+        low = omega arith;
+        within = omega (arith, room);
+        divisor = rw (m, h .square-is, ed, weight, ee, point);
+        read = λ c t. rw m (word (from + c) (2 ^ level * width + (i * width + c)) (omega arith) (omega (arith, h .storing .at-is, ap (λ (n : ℕ). n * width) (h .rows-is))));
+      }
+
+  survives : {d from : ℕ} → getD marks i false ≡ false → d ≡ getD part (rows * width + rows * width + i) 0 → from ≡ at → Picked part₀ marks level k width root rows square part at i d from
+  unfolding divisorAt
+  survives {from} m ed ef = record {
+    small = rw ed (words .word (rows * width + rows * width + i));
+    low = omega arith;
+    within = omega (arith, room);
+    divisor = rw (m, h .square-is, ed, weight);
+    read = λ c t. rw m (word (from + c) (i * width + c) (omega arith) (omega (arith, h .storing .at-is)));
+  }
+
+  turn : {d from g : ℕ} {part′ : List ℕ} → Picked part₀ marks level k width root rows square part at i d from → g ≡ inverse 65537 (times 65537 square d)
+      → part′ ≡ stored at (scaledWord 65537 from g part) width part → Inv part₀ marks level k width root rows square u part′ (at + width) (i + 1)
+  unfolding scaledWord chooseWord
+  turn p eg e = record {
+    rows-is = h .rows-is;
+    long = h .long;
+    square-is = h .square-is;
+    u-is = h .u-is;
+    words₀ = h .words₀;
+    storing = storing-rows-turn (h .storing) _ l e
+        (λ c t. rw (digits-div i t, eg, p .divisor) (ap (times 65537 (inverse 65537 (divisorAt 65537 root k level marks (drop (2 ^ suc level * width) part₀) i))) (p .read c t)));
+  }
+
+abbrev Inv-loop : tie.InvT-loop
+Inv-loop part₀ marks level k width root rows half base square u at₀ i₀ part at i = Inv part₀ marks level k width root rows square u part at i
+
+abbrev μ-loop : tie.MeasureT-loop
+μ-loop part₀ marks level k width root rows half base square u at₀ i₀ part at i = rows - i
+
+-- the count of rows, and the length
+small : (c : tie.After-two-to Inv-loop μ-loop) → c .two-to .result ≤ 32768
+small c = omega (arith, c .two-to .ensures, pow-mono {i = c .before .before .before .args .level} {j = 15} (omega arith))
+
+long : (c : tie.After-two-to Inv-loop μ-loop) → let n = c .two-to .result in
+    let a = c .before .before .before .args in length (a .part .now) ≡ n * a .width + n * a .width + (n + n)
+long c =
+    let a = c .before .before .before .args in
+    c .before .before .before .pre .1 .1 .0 ∙ rw (c .two-to .ensures) (omega (arith, two-halves (a .level) (a .width)))
+
+picked : (c : tie.Joined1 Inv-loop μ-loop) → let loop = c .before .before .before .before in
+    let mul = loop .before .before .before in
+    let a = mul .before .before .before .before .args in
+    Picked (a .part .now) (a .marks .now) (a .level) (a .k) (a .width) (a .root) (mul .before .two-to .result) (mul .mul .result) (loop .loop .part) (loop .loop .at) (loop .loop .i) (c .if1 .d) (c .if1 .from)
+picked c =
+    let at = c .before .before .before in
+    let h = at .before .loop .inv in
+    let l = at .loop-test .taken in
+    ⊎-elim (λ w. erased h l (w .0 .taken) (w .1 .ensures) (w .3 ∙ w .2 .ensures) (w .4)) (λ w. survives h l (w .0 .left) (w .1) (w .2)) (c .if1 .came)
+
+two-to-requires : tie.Need-two-to-requires Inv-loop μ-loop
+two-to-requires c κs = omega arith
+
+mul-half : tie.Need-mul-half Inv-loop μ-loop
+mul-half c = omega (arith, long c)
+
+add-base : tie.Need-add-base Inv-loop μ-loop
+add-base c = omega (arith, long c)
+
+cast-mul : tie.Need-cast-mul Inv-loop μ-loop
+cast-mul c = omega (arith, small c)
+
+cast-mul-2 : tie.Need-cast-mul-2 Inv-loop μ-loop
+cast-mul-2 c = omega (arith, small c)
+
+mul-requires : tie.Need-mul-requires Inv-loop μ-loop
+mul-requires c κs = (omega (arith, small c), omega (arith, small c))
+
+sub-two-to : tie.Need-sub-two-to Inv-loop μ-loop
+sub-two-to c = omega arith
+
+two-to-requires-2 : tie.Need-two-to-requires-2 Inv-loop μ-loop
+two-to-requires-2 c κs = omega arith
+
+cast-power : tie.Need-cast-power Inv-loop μ-loop
+cast-power c = let a = c .before .before .before .before .before .args in omega (arith, c .two-to2 .ensures, pow-mono {i = a .k - a .level} {j = 15} (omega arith))
+
+power-requires : tie.Need-power-requires Inv-loop μ-loop
+power-requires c κs = omega arith
+
+loop-holds : tie.Need-loop-holds Inv-loop μ-loop
+loop-holds c =
+    let two = c .before .before .before in
+    let s = two .before .before .before in
+    let a = s .args in
+    record {
+      rows-is = two .two-to .ensures;
+      long = long two;
+      square-is = c .before .before .mul .ensures ∙ rw (two .two-to .ensures);
+      u-is = c .power .ensures ∙ ap (power 65537 (a .root)) (c .before .two-to2 .ensures ∙ sym (two-div (a .k) (a .level) (s .pre .0 .0)));
+      words₀ = s .pre .1 .1 .1 .1;
+      storing = storing-rows-start 0 (chooseWord 65537 (a .root) (a .k) (a .level) (a .width) (a .marks .now) (a .part .now)) (two .two-to .result) (a .width) (a .part .now);
+    }
+
+add-x : tie.Need-add-x Inv-loop μ-loop
+add-x c = omega (arith, c .before .loop .inv .long)
+
+mul-d : tie.Need-mul-d Inv-loop μ-loop
+mul-d c = omega (arith, c .before .loop .inv .long)
+
+slice-read-d : tie.Need-slice-read-d Inv-loop μ-loop
+slice-read-d c = let h = c .before .before .loop .inv in omega (arith, h .long, h .storing .same)
+
+shared-slice-read-if1 : tie.Need-shared-slice-read-if1 Inv-loop μ-loop
+shared-slice-read-if1 c = omega (arith, c .before .before .before .loop .inv .rows-is)
+
+mul-power : tie.Need-mul-power Inv-loop μ-loop
+mul-power c = omega (arith, small (c .before .before .before .before .before .before .before .before))
+
+cast-power-2 : tie.Need-cast-power-2 Inv-loop μ-loop
+cast-power-2 c = omega (arith, small (c .before .before .before .before .before .before .before .before))
+
+power-requires-2 : tie.Need-power-requires-2 Inv-loop μ-loop
+power-requires-2 c κs = rw (c .before .before .before .before .before .power .ensures) (power-lt 65537 (lit< tt) _ _)
+
+mul-requires-2 : tie.Need-mul-requires-2 Inv-loop μ-loop
+mul-requires-2 c κs =
+    let at = c .before .before .before .before in
+    (rw (c .power2 .ensures) (power-lt 65537 (lit< tt) _ _), words (at .before .loop .inv) (at .loop-test .taken) .word _)
+
+add-from : tie.Need-add-from Inv-loop μ-loop
+add-from c =
+    let at = c .before .before .before .before .before in
+    let h = at .before .loop .inv in
+    omega (arith, room h (at .loop-test .taken), h .long)
+
+mul-requires-3 : tie.Need-mul-requires-3 Inv-loop μ-loop
+mul-requires-3 c κs = (rw (c .before .before .before .before .before .before .before .before .mul .ensures) (times-lt 65537 (lit< tt) _ _), picked (c .before) .small)
+
+inverse-requires : tie.Need-inverse-requires Inv-loop μ-loop
+inverse-requires c κs = rw (c .mul3 .ensures) (times-lt 65537 (lit< tt) _ _)
+
+choose-row-requires : tie.Need-choose-row-requires Inv-loop μ-loop
+choose-row-requires c κs =
+    let join = c .before .before .before in
+    let h = join .before .before .before .before .loop .inv in
+    let p = picked join in
+    ((p .low, omega (arith, p .within, h .long, h .storing .same)), (rw (c .inverse .ensures) (inverse-lt 65537 (lit< tt) _), words h (join .before .before .before .loop-test .taken)))
+
+add-at : tie.Need-add-at Inv-loop μ-loop
+add-at c =
+    let at = c .before .before .before .before .before .before .before .before .before in
+    let h = at .before .loop .inv in
+    omega (arith, room h (at .loop-test .taken), h .long)
+
+add-i : tie.Need-add-i Inv-loop μ-loop
+add-i c = omega arith
+
+loop-less : tie.Need-loop-less Inv-loop μ-loop
+loop-less c = omega arith
+
+loop-again : tie.Need-loop-again Inv-loop μ-loop
+loop-again c =
+    let row = c .before .before in
+    let join = row .before .before .before .before in
+    let at = join .before .before .before in
+    turn (at .before .loop .inv) (at .loop-test .taken) (picked join) (row .before .inverse .ensures ∙ ap (inverse 65537) (row .before .before .mul3 .ensures)) (row .choose-row .ensures)
+
+same-length : tie.Need-same-length Inv-loop μ-loop
+same-length c = c .before .loop .inv .storing .same
+
+returns : tie.Need-returns Inv-loop μ-loop
+returns c =
+    let h = c .before .loop .inv in
+    let s = c .before .before .before .before .before .before .before .before in
+    let a = s .args in
+    storing-rows-done (h .storing) (c .loop-test .left)
+    ∙ rw (h .rows-is) (choose-rows 65537 (a .root) (a .k) (a .level) (a .width) (a .marks .now) (a .part .now) (omega (arith, s .pre .1 .1 .0)))
+
+pub choose-spec : {M : Type 1} → statement M
+choose-spec =
+    tie.close
+    (tie.spec
+    Inv-loop
+    μ-loop
+    two-to-requires
+    mul-half
+    add-base
+    cast-mul
+    cast-mul-2
+    mul-requires
+    sub-two-to
+    two-to-requires-2
+    cast-power
+    power-requires
+    loop-holds
+    add-x
+    mul-d
+    slice-read-d
+    shared-slice-read-if1
+    mul-power
+    cast-power-2
+    power-requires-2
+    mul-requires-2
+    add-from
+    mul-requires-3
+    inverse-requires
+    choose-row-requires
+    add-at
+    add-i
+    loop-less
+    loop-again
+    same-length
+    returns)

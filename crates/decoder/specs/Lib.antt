@@ -1,0 +1,4 @@
+pub mod DecodeTrace
+pub mod Decoder
+pub mod Decoding
+pub mod Promises

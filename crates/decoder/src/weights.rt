@@ -1,0 +1,86 @@
+// The points of a stripe's positions, and the decoder's weights.
+use code::Stripe;
+ghost use mathlib.Core.Path.{_≡_};
+ghost use mathlib.Core.List.{_++_};
+ghost use Prim.Native.Nat.{_+_, _-_, _^_, _≤_, _<_, suc};
+ghost use lib.ListN.{length, take, drop, replicate};
+ghost use Rattle.field.specs.Field.{fermat};
+ghost use Rattle.field.specs.Words.{Words, table};
+ghost use Rattle.decoder.specs.Decoding.{pointAt};
+ghost use Rattle.decoder.specs.Decoder.{weightsIn};
+ghost use Rattle.code.specs.Stripe.{Numbers, modulusOf, positionCount};
+ghost use Rattle.code.specs.RowTrace.{weighedBy};
+
+// Stores the points of all positions at the start: those of X, then those of Y.
+fn points(part: &mut [u32], level: usize, k: usize, root: u32)
+    requires { ⌜ (level ≤ k) × (k ≤ 15) ⌝ }
+    requires { ⌜ 2 ^ suc level ≤ length (now part) ⌝ }
+    requires { ⌜ root < fermat .modulus ⌝ }
+    ensures { λ _. ⌜ now (part .exit) ≡ table (2 ^ suc level) (pointAt (fermat .modulus) root k level) ++ drop (2 ^ suc level) (now (part .entry)) ⌝ }
+{
+    let half = code::number::two_to(level);
+    let u = field::power(root, code::number::two_to(k - level) as u32);
+    let v = field::mul(u, u);
+    let mut x: u32 = 1;
+    for i in 0..half {
+        let to = half + i;
+        part[i] = x;
+        part[to] = field::mul(u, x);
+        x = field::mul(v, x);
+    }
+}
+
+// Multiplies the weight of each of `count` positions but j, from index `base` on, by the difference of its point and that of j. The points stand
+// at the start.
+fn weigh_by(part: &mut [u32], base: usize, count: usize, j: usize)
+    requires { ⌜ length (now part) ≡ base + count ⌝ }
+    requires { ⌜ (count ≤ base) × (j < count) ⌝ }
+    requires { ⌜ Words (fermat .modulus) (take count (now part)) ⌝ }
+    requires { ⌜ Words (fermat .modulus) (drop base (now part)) ⌝ }
+    ensures { λ _. ⌜ now (part .exit) ≡ take base (now (part .entry)) ++ table count (weighedBy (fermat .modulus) base j (now (part .entry))) ⌝ }
+{
+    let x = part[j];
+    let own = base + j;
+    let kept = part[own];
+    for i in 0..count {
+        let at = base + i;
+        part[at] = field::mul(part[at], field::sub(part[i], x));
+    }
+    part[own] = kept;
+}
+
+// Stores 1 at each of the last `count` words, from index `base` on.
+fn ones(part: &mut [u32], base: usize, count: usize)
+    requires { ⌜ length (now part) ≡ base + count ⌝ }
+    ensures { λ _. ⌜ now (part .exit) ≡ take base (now (part .entry)) ++ replicate count 1 ⌝ }
+{
+    for i in 0..count {
+        let at = base + i;
+        part[at] = 1;
+    }
+}
+
+// Stores the weights of all positions in the last words of the part; the points of the positions are left in its first words.
+pub fn weights(part: &mut [u32], marks: &[bool], st: Stripe)
+    requires { ⌜ Numbers st ⌝ }
+    requires { ⌜ positionCount st ≤ length (now marks) ⌝ }
+    requires { ⌜ positionCount st + positionCount st ≤ length (now part) ⌝ }
+    ensures { λ _. ⌜ now (part .exit) ≡
+        table (positionCount st) (pointAt (modulusOf st) (st .root) (st .k) (st .level)) ++
+        take (length (now (part .entry)) - (positionCount st + positionCount st)) (drop (positionCount st) (now (part .entry))) ++
+        weightsIn st (now (marks .entry)) ⌝ }
+{
+    // locals of their own, since the loop's invariant speaks of them
+    let level = st.level;
+    let k = st.k;
+    let root = st.root;
+    let count = code::number::two_to(level + 1);
+    let base = part.len() - count;
+    points(part, level, k, root);
+    ones(part, base, count);
+    for j in 0..count {
+        if marks[j] {
+            weigh_by(part, base, count, j);
+        }
+    }
+}

@@ -1,0 +1,275 @@
+-- The words of a stripe out of an image: the loops that load them and test them, and what the loaded words are to the decoder. Assumes nothing.
+use mathlib.Core.Path.{_≡_, refl, sym, ap, ap₂, _∙_}
+use mathlib.Core.Bool.{Bool, true, false, _&&_, and-true, and-false, and-assoc}
+use mathlib.Core.List.{List, [], _∷_, _++_, append-assoc}
+use Prim.Native.Nat.{ℕ, zero, suc, _+_, _*_, _-_, _/_, _%_, _^_, _≤_, _<_}
+use native.Mathlib.Nat.{suc-mul, mul-le-mul-right, pow-succ', add-zero, zero-mul, add-mul}
+use native.Mathlib.Decide.{decLt}
+use native.Mathlib.Numerals.{add-one}
+use native.Mathlib.Omega.{arith}
+use lib.Arith.{digits-lt, digits-div, digits-mod}
+use lib.Pow.{pow-mono}
+use lib.Dec.{ltb}
+use borrow.Author.Tests.{ltb-true, lt-ltb, le-ltb, eq-eqb, ne-eqb}
+use lib.ListN.{length, getD, set, take, drop, length-append, length-set, length-take, length-drop, take-append-drop, drop-of-length-le}
+use lib.Seq.{length-take-le, take-take, take-at, set-at, drop-drop, drop-cons, getD-take, getD-drop, drop-append-add}
+use Rattle.field.specs.Words.{Words, table}
+use Rattle.field.proofs.WordLists.{words-nil, words-cons, words-table, length-table, getD-table, is-table, two-tables}
+use Rattle.layout.specs.declared.Header.{Header}
+use Rattle.layout.specs.Header.{width, fullSize, logSize, levelAt, stripeSize, stripeAt}
+use Rattle.image.specs.Image.{numberOf, numberAt, wordAt, wordsOf}
+use Rattle.image.specs.Loading.{stripeIn, survivingAt, surviving, areBelow, columnsWord, columnsOf}
+use Rattle.image.specs.LoadTrace.{rowWord, laid}
+
+-- ROWS LAID OVER A LIST
+laid-none : (to : ℕ) (f : ℕ → ℕ) (l : List ℕ) → laid to 0 f l ≡ l
+unfolding laid table
+laid-none to f l = ap (λ (n : ℕ). take to l ++ drop n l) (add-zero to) ∙ take-append-drop to l
+
+table-more : (n : ℕ) (f : ℕ → ℕ) → table n f ++ (f n ∷ []) ≡ table (suc n) f
+unfolding table
+table-more zero f = refl
+table-more (suc n) f = ap (λ (l : List ℕ). f 0 ∷ l) (table-more n (λ k. f (suc k)))
+
+laid-more : (to n : ℕ) (f : ℕ → ℕ) (l : List ℕ) → to + n < length l → set (laid to n f l) (to + n) (f n) ≡ laid to (n + 1) f l
+unfolding laid
+laid-more to n f l h =
+    let long : length (take to l ++ table n f) ≡ to + n = simp (length-append, length-table, length-take) (omega arith) in
+    let e : suc (to + n) ≡ to + suc n = omega arith in
+    rw (
+      drop-cons l (to + n) 0 h,
+      ← append-assoc,
+      set-at (take to l ++ table n f) (getD l (to + n) 0) (drop (suc (to + n)) l) (f n) (to + n) long,
+      append-assoc,
+      add-one n,
+      ← table-more n f,
+      append-assoc (table n f),
+    ) (ap (λ (m : ℕ). take to l ++ (table n f ++ (f n ∷ drop m l))) e)
+
+pub record LaidLoop (to n : ℕ) (f : ℕ → ℕ) (entry part : List ℕ) (j : ℕ) : Type 0 where
+  pub within : j ≤ n
+  pub same : length part ≡ length entry
+  pub laid-so : part ≡ laid to j f entry
+
+pub laid-start : (to n : ℕ) (f : ℕ → ℕ) (entry : List ℕ) → LaidLoop to n f entry entry 0
+laid-start to n f entry = record { within = omega arith; same = refl; laid-so = sym (laid-none to f entry) }
+
+pub laid-turn : {to n : ℕ} {f : ℕ → ℕ} {entry part : List ℕ} {j x : ℕ} → LaidLoop to n f entry part j → j < n → to + n ≤ length entry → x ≡ f j
+    → LaidLoop to n f entry (set part (to + j) x) (j + 1)
+laid-turn {to} {n} {f} {entry} {part} {j} {x} r h fit e =
+    record { within = omega arith; same = length-set part (to + j) x ∙ r .same; laid-so = rw (e, r .laid-so) (laid-more to j f entry (omega arith)) }
+
+pub laid-end : {to n : ℕ} {f : ℕ → ℕ} {entry part : List ℕ} {j : ℕ} → LaidLoop to n f entry part j → n ≤ j → part ≡ laid to n f entry
+laid-end {to} {n} {f} {entry} {part} {j} r h =
+    let e : j ≡ n = omega (arith, r .within) in
+    rw (← e) (r .laid-so)
+
+-- WORDS BELOW p
+below-append : (p : ℕ) (a b : List ℕ) → areBelow p (a ++ b) ≡ (areBelow p a && areBelow p b)
+unfolding areBelow
+below-append p [] b = refl
+below-append p (x ∷ a) b = rw (below-append p a b) (sym (and-assoc (ltb x p) (areBelow p a) (areBelow p b)))
+
+pub below-zeros : (p n : ℕ) → 0 < p → areBelow p (table n (λ k. 0)) ≡ true
+unfolding areBelow table
+below-zeros p zero h = refl
+below-zeros p (suc n) h = rw (lt-ltb 0 p h) (below-zeros p n h)
+
+both : (t u : Bool) → (t && u) ≡ true → (t ≡ true) × (u ≡ true)
+both true u e = (refl, e)
+both false u e = (e, cc)
+
+pub below-words : (p : ℕ) → 0 < p → (l : List ℕ) → areBelow p l ≡ true → Words p l
+unfolding areBelow
+below-words p h [] e = words-nil p h
+below-words p h (x ∷ l) e = let t = both (ltb x p) (areBelow p l) e in words-cons p h (ltb-true x p (t .0)) (below-words p h l (t .1))
+
+-- the loop over the words of a row: before word j, all words passed were fine, and the rest have to be below p
+pub record BelowLoop (p n : ℕ) (f : ℕ → ℕ) (fine : Bool) (j : ℕ) : Type 0 where
+  pub within : j ≤ n
+  pub left : (fine && areBelow p (drop j (table n f))) ≡ areBelow p (table n f)
+
+below-next : (p n : ℕ) (f : ℕ → ℕ) (j : ℕ) → j < n → areBelow p (drop j (table n f)) ≡ (ltb (f j) p && areBelow p (drop (j + 1) (table n f)))
+unfolding areBelow
+below-next p n f j h =
+    let b : j < length (table n f) = rw length-table h in
+    rw (add-one j, drop-cons (table n f) j 0 b, getD-table n j f h)
+
+module _ {p n : ℕ} {f : ℕ → ℕ} where
+  pub below-start : BelowLoop p n f true 0
+  below-start = record { within = omega arith; left = refl }
+
+  module _ {fine : Bool} {j x : ℕ} (r : BelowLoop p n f fine j) (h : j < n) (e : x ≡ f j) where
+    pub below-fine : x < p → BelowLoop p n f fine (j + 1)
+    below-fine b = record { within = omega arith; left = rw (below-next p n f j h, ← e, lt-ltb x p b) at (r .left) }
+
+    pub below-over : p ≤ x → BelowLoop p n f false (j + 1)
+    below-over b = record { within = omega arith; left = sym (and-false fine) ∙ (rw (below-next p n f j h, ← e, le-ltb x p b) at (r .left)) }
+
+  pub below-end : {fine : Bool} {j : ℕ} → BelowLoop p n f fine j → n ≤ j → fine ≡ areBelow p (table n f)
+  unfolding areBelow
+  below-end {fine} {j} r h =
+      let e : drop j (table n f) ≡ [] = drop-of-length-le (table n f) {i = j} (rw length-table h) in
+      sym (and-true fine) ∙ (rw e at (r .left))
+
+-- ROWS OF A TABLE. The m words from k on are a table of their own
+row-of : (n k m : ℕ) (f g : ℕ → ℕ) → k + m ≤ n → ((j : ℕ) → j < m → f (k + j) ≡ g j) → drop k (table n f) ≡ table m g ++ drop (k + m) (table n f)
+row-of n k m f g h e =
+    sym (take-append-drop m (drop k (table n f))) ∙ rw (drop-drop m k (table n f), is-table (take m (drop k (table n f))) m g long at)
+  where
+    long : length (take m (drop k (table n f))) ≡ m
+    long = simp (length-take, length-drop, length-table) (omega arith)
+
+    at : (j : ℕ) → j < m → getD (take m (drop k (table n f))) j 0 ≡ g j
+    at j b = getD-take m (drop k (table n f)) j 0 b ∙ getD-drop k (table n f) j 0 ∙ getD-table n (k + j) f (omega arith) ∙ e j b
+
+table-and : (k m : ℕ) (f g : ℕ → ℕ) → ((j : ℕ) → j < m → f (k + j) ≡ g j) → table (k + m) f ≡ table k f ++ table m g
+table-and k m f g e =
+    two-tables (table (k + m) f) k m f g (length-table (k + m) f) (λ j b. getD-table (k + m) j f (omega arith)) (λ j b. getD-table (k + m) (k + j) f (omega arith) ∙ e j b)
+
+pub row-in : {i rows : ℕ} (width : ℕ) → i < rows → i * width + width ≤ rows * width
+row-in {i} {rows} width h = omega (arith, suc-mul i width, mul-le-mul-right {m = suc i} {n = rows} width (omega arith))
+
+row-next : (i width : ℕ) → i * width + width ≡ (i + 1) * width
+row-next i width = omega (arith, suc-mul i width)
+
+-- a marked row is zeros, and a row that is kept is the stripe's words
+module _ (w : ℕ) (ms : List Bool) (r : List ℕ) (i j : ℕ) (h : j < w) where
+  pub surviving-marked : getD ms i false ≡ true → survivingAt w ms r (i * w + j) ≡ 0
+  unfolding survivingAt
+  surviving-marked e = ap (λ (x : ℕ). elim (getD ms x false) [ true ↦ 0 | false ↦ getD r (i * w + j) 0 ]) (digits-div i h) ∙ rw e
+
+  pub surviving-kept : getD ms i false ≡ false → survivingAt w ms r (i * w + j) ≡ getD r (i * w + j) 0
+  unfolding survivingAt
+  surviving-kept e = ap (λ (x : ℕ). elim (getD ms x false) [ true ↦ 0 | false ↦ getD r (i * w + j) 0 ]) (digits-div i h) ∙ rw e
+
+-- the words of 4 n bytes
+pub words-at : (bs : List ℕ) (n q : ℕ) → length bs ≡ 4 * n → q < n → getD (wordsOf bs) q 0 ≡ wordAt bs q
+words-at bs n q e h = getD-table (length bs / 4) q (wordAt bs) (omega (arith, e, h))
+
+-- the rows of a stripe's bytes
+module _ (w n : ℕ) (ms : List Bool) (bs : List ℕ) (e : length bs ≡ 4 * (n * w)) where
+  pub kept-word : (i j byte : ℕ) → i < n → j < w → getD ms i false ≡ false → byte ≡ 4 * (i * w) → survivingAt w ms (wordsOf bs) (i * w + j) ≡ rowWord bs byte j
+  unfolding rowWord
+  kept-word i j byte a b m o =
+      surviving-kept w ms (wordsOf bs) i j b m ∙ words-at bs (n * w) (i * w + j) e (digits-lt a b)
+      ∙ ap (λ (x : ℕ). numberAt bs x) {x = 4 * (i * w + j)} {y = byte + 4 * j} (omega arith)
+
+  module _ (from cols : ℕ) (fit : from + cols ≤ w) (i j : ℕ) (a : i < n) (b : j < cols) where
+    range-word : columnsWord w from cols (surviving w n ms (wordsOf bs)) (i * cols + j) ≡ survivingAt w ms (wordsOf bs) (i * w + (from + j))
+    unfolding columnsWord
+    range-word =
+        ap₂ (λ (x y : ℕ). getD (surviving w n ms (wordsOf bs)) (x * w + (from + y)) 0) (digits-div i b) (digits-mod i b)
+        ∙ getD-table (n * w) (i * w + (from + j)) (survivingAt w ms (wordsOf bs)) (digits-lt a (omega arith))
+
+    pub range-marked : getD ms i false ≡ true → columnsWord w from cols (surviving w n ms (wordsOf bs)) (i * cols + j) ≡ 0
+    range-marked m = range-word ∙ surviving-marked w ms (wordsOf bs) i (from + j) (omega arith) m
+
+    pub range-kept : getD ms i false ≡ false → (byte : ℕ) → byte ≡ 4 * (i * w + from) → columnsWord w from cols (surviving w n ms (wordsOf bs)) (i * cols + j) ≡ rowWord bs byte j
+    unfolding rowWord
+    range-kept m byte o =
+        range-word ∙ kept-word i (from + j) (4 * (i * w)) a (omega arith) m refl
+        ∙ ap (λ (x : ℕ). numberAt bs x) {x = 4 * (i * w) + 4 * (from + j)} {y = byte + 4 * j} (omega arith)
+
+-- THE LOOP over the rows of a stripe whose words are tested: before row i, the rest have to be below p
+pub record RowsLoop (p rows width : ℕ) (f : ℕ → ℕ) (i : ℕ) : Type 0 where
+  pub within : i ≤ rows
+  pub left : areBelow p (drop (i * width) (table (rows * width) f)) ≡ areBelow p (table (rows * width) f)
+
+pub rows-start : (p rows width : ℕ) (f : ℕ → ℕ) → RowsLoop p rows width f 0
+rows-start p rows width f = record { within = omega arith; left = ap (λ (n : ℕ). areBelow p (drop n (table (rows * width) f))) (zero-mul width) }
+
+module _ {p rows width : ℕ} {f : ℕ → ℕ} {i : ℕ} (r : RowsLoop p rows width f i) (h : i < rows) (g : ℕ → ℕ) (e : (j : ℕ) → j < width → f (i * width + j) ≡ g j) where
+  rows-next : (areBelow p (table width g) && areBelow p (drop ((i + 1) * width) (table (rows * width) f))) ≡ areBelow p (table (rows * width) f)
+  rows-next = rw (← row-next i width, ← below-append, ← row-of (rows * width) (i * width) width f g (row-in width h) e) (r .left)
+
+  pub rows-turn : areBelow p (table width g) ≡ true → RowsLoop p rows width f (i + 1)
+  rows-turn t = record { within = omega arith; left = rw t at rows-next }
+
+  pub rows-over : areBelow p (table width g) ≡ false → false ≡ areBelow p (table (rows * width) f)
+  rows-over t = rw t at rows-next
+
+pub rows-end : {p rows width : ℕ} {f : ℕ → ℕ} {i : ℕ} → RowsLoop p rows width f i → rows ≤ i → true ≡ areBelow p (table (rows * width) f)
+unfolding areBelow
+rows-end {p} {rows} {width} {f} {i} r h =
+    let e : i ≡ rows = omega (arith, r .within) in
+    let d : drop (i * width) (table (rows * width) f) ≡ [] = drop-of-length-le (table (rows * width) f) {i = i * width} (rw (e, length-table) (omega arith)) in
+    rw d at (r .left)
+
+-- THE LOOP over the rows of a stripe that are loaded
+pub record LoadLoop (rows cols : ℕ) (f : ℕ → ℕ) (entry part : List ℕ) (i : ℕ) : Type 0 where
+  pub within : i ≤ rows
+  pub same : length part ≡ length entry
+  pub loaded-so : part ≡ table (i * cols) f ++ drop (i * cols) entry
+
+pub load-start : (rows cols : ℕ) (f : ℕ → ℕ) (entry : List ℕ) → LoadLoop rows cols f entry entry 0
+unfolding table
+load-start rows cols f entry = record { within = omega arith; same = refl; loaded-so = sym (rw (zero-mul cols)) }
+
+laid-next : (k m : ℕ) (f g : ℕ → ℕ) (entry : List ℕ) → ((j : ℕ) → j < m → f (k + j) ≡ g j) → laid k m g (table k f ++ drop k entry) ≡ table (k + m) f ++ drop (k + m) entry
+unfolding laid
+laid-next k m f g entry e = rw (take-at (table k f) (drop k entry) k (length-table k f), table-and k m f g e, append-assoc (table k f), behind)
+  where
+    behind : drop (k + m) (table k f ++ drop k entry) ≡ drop (k + m) entry
+    behind = ap (λ (n : ℕ). drop (n + m) (table k f ++ drop k entry)) (sym (length-table k f)) ∙ drop-append-add (table k f) (drop k entry) m ∙ drop-drop m k entry
+
+pub load-turn : {rows cols : ℕ} {f : ℕ → ℕ} {entry part after : List ℕ} {i : ℕ} → LoadLoop rows cols f entry part i → i < rows → rows * cols ≤ length entry
+    → (g : ℕ → ℕ) → ((j : ℕ) → j < cols → f (i * cols + j) ≡ g j) → after ≡ laid (i * cols) cols g part → LoadLoop rows cols f entry after (i + 1)
+load-turn {rows} {cols} {f} {entry} {part} {after} {i} r h fit g e a =
+    let b : i * cols + cols ≤ length entry = omega (arith, row-in cols h) in
+    let t : after ≡ table ((i + 1) * cols) f ++ drop ((i + 1) * cols) entry = rw (a, r .loaded-so, ← row-next i cols) (laid-next (i * cols) cols f g entry e) in
+    let q : (i + 1) * cols ≤ length entry = omega (arith, row-next i cols) in
+    record { within = omega arith; same = ap length t ∙ simp (length-append, length-table, length-drop) (omega arith); loaded-so = t }
+
+pub load-end : {rows cols : ℕ} {f : ℕ → ℕ} {entry part : List ℕ} {i : ℕ} → LoadLoop rows cols f entry part i → rows ≤ i → part ≡ table (rows * cols) f ++ drop (rows * cols) entry
+load-end {rows} {cols} {f} {entry} {part} {i} r h =
+    let e : i ≡ rows = omega (arith, r .within) in
+    rw (← e) (r .loaded-so)
+
+-- WORDS OF THE FIELD, in all rows and in a range of columns
+pub columns-words : (p width from cols n : ℕ) (r : List ℕ) → 0 < p → areBelow p r ≡ true → Words p (columnsOf width from cols n r)
+unfolding columnsOf columnsWord
+columns-words p width from cols n r h e =
+    let w = below-words p h r e in words-table p h (n * cols) (columnsWord width from cols r) (λ q b. w .word (q / cols * width + (from + q % cols)))
+
+-- a part that stands in the first m words
+part-inside : (from n m : ℕ) (l : List ℕ) → from + n ≤ m → take n (drop from (take m l)) ≡ take n (drop from l)
+part-inside zero n m l h = take-take n m l (omega arith)
+part-inside (suc from) n zero l h = absurd (omega arith)
+part-inside (suc from) n (suc m) [] h = refl
+part-inside (suc from) n (suc m) (x ∷ l) h = part-inside from n m l (omega arith)
+
+pub stripe-long : (h : Header) (m : List ℕ) (l : ℕ) → 4 * stripeAt h l + 4 * stripeSize h l ≤ length m → length (stripeIn h m l) ≡ 4 * stripeSize h l
+stripe-long h m l fit = length-take-le (4 * stripeSize h l) (drop (4 * stripeAt h l) m) (rw length-drop (omega arith))
+
+-- A STRIPE OF AN IMAGE: word q of its bytes is word q from its place on
+pub stripe-word : (h : Header) (m : List ℕ) (l q : ℕ) → 4 * stripeAt h l + 4 * stripeSize h l ≤ length m → q < stripeSize h l
+    → getD (wordsOf (stripeIn h m l)) q 0 ≡ wordAt m (stripeAt h l + q)
+stripe-word h m l q fit b =
+    words-at (stripeIn h m l) (stripeSize h l) q (stripe-long h m l fit) b
+    ∙ ap numberOf (part-inside (4 * q) 4 (4 * stripeSize h l) (drop (4 * stripeAt h l) m) (omega arith) ∙ ap (take 4) (drop-drop (4 * q) (4 * stripeAt h l) m ∙ ap (λ (x : ℕ). drop x m) {x = 4 * stripeAt h l + 4 * q} {y = 4 * (stripeAt h l + q)} (omega arith)))
+
+-- a stripe lies within the image
+level-in : (a b w : ℕ) → 2 ≤ a → 2 * a ≤ b → (a - 2) * w + a * w ≤ (b - 2) * w
+level-in a b w h e = rw (← add-mul (a - 2) a w) (mul-le-mul-right w (omega arith))
+
+pub stripe-in : (h : Header) (l : ℕ) → l ≤ h .k → stripeAt h l + stripeSize h l ≤ fullSize h + logSize h
+stripe-in h l b = at (decLt l (h .k))
+  where
+    level : l < h .k → levelAt h l + stripeSize h l ≤ logSize h
+    level a =
+        level-in (2 ^ suc l) (2 ^ suc (h .k)) (width h) (omega (arith, pow-mono {i = 1} {j = suc l} (omega arith)))
+        (omega (arith, pow-succ' 2 (suc l), pow-mono {i = suc (suc l)} {j = suc (h .k)} (omega arith)))
+
+    at : Dec (l < h .k) → stripeAt h l + stripeSize h l ≤ fullSize h + logSize h
+    at (yes a) = rw (ne-eqb l (h .k) (λ e. omega arith), stripeAt) (omega (arith, level a))
+    at (no a) =
+        let e : l ≡ h .k = omega arith in
+        rw (e, eq-eqb (h .k) (h .k) refl, stripeAt) (omega arith)
+
+-- the same in bytes, as the calls ask it
+pub stripe-bytes : (h : Header) (l : ℕ) → l ≤ h .k → 4 * stripeAt h l + 4 * (2 ^ suc l * width h) ≤ 4 * (fullSize h + logSize h)
+stripe-bytes h l b = omega (arith, stripe-in h l b)
+
+pub stripe-steps : (h : Header) (l : ℕ) → l ≤ h .k → 4 * stripeAt h l + 2 ^ suc l * (4 * width h) ≤ 4 * (fullSize h + logSize h)
+stripe-steps h l b = omega (arith, stripe-in h l b)

@@ -1,0 +1,118 @@
+-- `image::loading::load` meets its contract, by the loop over rows of proofs/StripeLoads. Assumes nothing.
+use mathlib.Core.Path.{_≡_, refl, ap, _∙_}
+use mathlib.Core.List.{_++_}
+use mathlib.Core.Logic.{⊎-elim}
+use Prim.Native.Nat.{ℕ, _+_, _*_, _-_, _≤_}
+use native.Mathlib.Omega.{arith}
+use borrow.Author.Needs.{needs}
+use lib.ListN.{length, drop}
+use Rattle.field.specs.Words.{table}
+use Rattle.code.proofs.Shapes.{positions}
+use Rattle.code.specs.Stripe.{positionCount}
+use Rattle.image.specs.Image.{wordsOf}
+use Rattle.image.specs.Loading.{surviving, columnsWord, columnsOf}
+use Rattle.image.proofs.StripeLoads.{LoadLoop, load-start, load-turn, load-end, row-in, range-marked, range-kept}
+use Rattle.image.proofs.loading.load.Statement.{statement}
+use Rattle.image.proofs.loading.load.Tie as tie
+
+abbrev Inv-loop : tie.InvT-loop
+Inv-loop part₀ bytes marks from cols rows width i₀ part i = LoadLoop rows cols (columnsWord width from cols (surviving width rows marks (wordsOf bytes))) part₀ part i
+
+abbrev μ-loop : tie.MeasureT-loop
+μ-loop part₀ bytes marks from cols rows width i₀ part i = rows - i
+
+-- the rows are the positions; row i lies inside the bytes and inside the part
+pos : (d : tie.In-loop Inv-loop μ-loop) → d .before .before .two-to .result ≡ positionCount (d .before .before .before .before .before .before .before .args .st)
+pos d = positions (d .before .before .before .before .before .before .before .args .st .level) (d .before .before .two-to .ensures)
+
+sized : (d : tie.In-loop Inv-loop μ-loop) → length (d .before .before .before .before .before .before .before .args .bytes .now) ≡ 4 * (d .before .before .two-to .result * d .before .before .before .before .before .before .before .args .st .width)
+sized d = rw (pos d) (d .before .before .before .before .before .before .before .pre .0 .1)
+
+room : (d : tie.In-loop Inv-loop μ-loop) → d .before .before .two-to .result * d .before .before .before .before .before .before .before .args .cols ≤ length (d .before .before .before .before .before .before .before .args .part .now)
+room d = rw (pos d) (d .before .before .before .before .before .before .before .pre .1 .1)
+
+fit : (d : tie.In-loop Inv-loop μ-loop) → d .before .loop .i * d .before .before .before .before .before .before .before .args .st .width + d .before .before .before .before .before .before .before .args .st .width ≤ d .before .before .two-to .result * d .before .before .before .before .before .before .before .args .st .width
+fit d = row-in (d .before .before .before .before .before .before .before .args .st .width) (d .loop-test .taken)
+
+fit-part : (d : tie.In-loop Inv-loop μ-loop) → d .before .loop .i * d .before .before .before .before .before .before .before .args .cols + d .before .before .before .before .before .before .before .args .cols ≤ d .before .before .two-to .result * d .before .before .before .before .before .before .before .args .cols
+fit-part d = row-in (d .before .before .before .before .before .before .before .args .cols) (d .loop-test .taken)
+
+add-two-to : tie.Need-add-two-to Inv-loop μ-loop
+add-two-to c = search needs
+
+two-to-requires : tie.Need-two-to-requires Inv-loop μ-loop
+two-to-requires c κs = omega (arith, c .before .before .before .before .pre .0 .0)
+
+loop-holds : tie.Need-loop-holds Inv-loop μ-loop
+loop-holds c = load-start _ _ _ _
+
+mul-to : tie.Need-mul-to Inv-loop μ-loop
+mul-to c = omega (arith, fit-part c, room c)
+
+shared-slice-read-if1 : tie.Need-shared-slice-read-if1 Inv-loop μ-loop
+shared-slice-read-if1 c = omega (arith, c .before .loop-test .taken, pos (c .before), c .before .before .before .before .before .before .before .before .pre .0 .2)
+
+clear-row-requires : tie.Need-clear-row-requires Inv-loop μ-loop
+clear-row-requires c κs = omega (arith, fit-part (c .before .before .before), room (c .before .before .before), c .before .before .before .before .loop .inv .same)
+
+mul-load-row : tie.Need-mul-load-row Inv-loop μ-loop
+mul-load-row c = omega (arith, fit (c .before .before .before), sized (c .before .before .before), c .before .before .before .before .before .before .before .before .before .before .pre .1 .0)
+
+add-load-row : tie.Need-add-load-row Inv-loop μ-loop
+add-load-row c = omega (arith, fit (c .before .before .before), sized (c .before .before .before), c .before .before .before .before .before .before .before .before .before .before .pre .1 .0)
+
+mul-load-row-2 : tie.Need-mul-load-row-2 Inv-loop μ-loop
+mul-load-row-2 c = omega (arith, fit (c .before .before .before), sized (c .before .before .before), c .before .before .before .before .before .before .before .before .before .before .pre .1 .0)
+
+load-row-requires : tie.Need-load-row-requires Inv-loop μ-loop
+load-row-requires c κs = (omega (arith, fit-part (c .before .before .before), room (c .before .before .before), c .before .before .before .before .loop .inv .same), omega (arith, fit (c .before .before .before), sized (c .before .before .before), c .before .before .before .before .before .before .before .before .before .before .pre .1 .0))
+
+add-i : tie.Need-add-i Inv-loop μ-loop
+add-i c = omega arith
+
+loop-less : tie.Need-loop-less Inv-loop μ-loop
+loop-less c = omega arith
+
+loop-again : tie.Need-loop-again Inv-loop μ-loop
+loop-again c =
+    let l = c .before .before in
+    let s = l .before .before .before .before .before .before .before in
+    let a = s .args in
+    ⊎-elim
+    (λ w. load-turn (l .before .loop .inv) (l .loop-test .taken) (room l) (λ k. 0)
+    (λ j b. range-marked (a .st .width) (l .before .before .two-to .result) (a .marks .now) (a .bytes .now) (sized l) (a .from) (a .cols) (s .pre .1 .0) (l .before .loop .i) j (l .loop-test .taken) b (w .0 .taken)) (w .5 ∙ w .2 .ensures))
+    (λ w. load-turn (l .before .loop .inv) (l .loop-test .taken) (room l) _
+    (λ j b. range-kept (a .st .width) (l .before .before .two-to .result) (a .marks .now) (a .bytes .now) (sized l) (a .from) (a .cols) (s .pre .1 .0) (l .before .loop .i) j (l .loop-test .taken) b (w .0 .left) _ refl) (w .5 ∙ w .2 .ensures))
+    (c .if1 .came)
+
+same-length : tie.Need-same-length Inv-loop μ-loop
+same-length c = c .before .loop .inv .same
+
+returns : tie.Need-returns Inv-loop μ-loop
+unfolding columnsOf
+returns c =
+    let a = c .before .before .before .before .before .before .before .args in
+    load-end (c .before .loop .inv) (c .loop-test .left)
+    ∙ ap (λ (n : ℕ). table (n * a .cols) (columnsWord (a .st .width) (a .from) (a .cols) (surviving (a .st .width) n (a .marks .now) (wordsOf (a .bytes .now)))) ++ drop (n * a .cols) (a .part .now)) (positions (a .st .level) (c .before .before .two-to .ensures))
+
+pub load-spec : {M : Type 1} → statement M
+load-spec =
+    tie.close
+    (tie.spec
+    Inv-loop
+    μ-loop
+    add-two-to
+    two-to-requires
+    loop-holds
+    mul-to
+    shared-slice-read-if1
+    clear-row-requires
+    mul-load-row
+    add-load-row
+    mul-load-row-2
+    load-row-requires
+    add-i
+    loop-less
+    loop-again
+    same-length
+    returns)

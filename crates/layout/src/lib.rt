@@ -1,0 +1,11 @@
+// What a header says: whether it fits, the sizes of the buffers, where stripes stand; and the loops over words that several calls share.
+pub mod places;
+pub mod sizes;
+pub mod words;
+
+// The header (document 01: plate).
+pub struct Header {
+    pub k: u32,
+    pub s: u32,
+    pub c: u32,
+}

@@ -1,0 +1,53 @@
+-- Blocks laid over records one after the other: the loop that lays them. Assumes nothing.
+use mathlib.Core.Path.{_≡_, refl, sym, ap, ap₂, _∙_}
+use mathlib.Core.List.{List, _++_, append-assoc}
+use Prim.Native.Nat.{ℕ, suc, _+_, _*_, _≤_, _<_}
+use native.Mathlib.Nat.{zero-mul, mul-le-mul-right}
+use native.Mathlib.Numerals.{add-one}
+use native.Mathlib.Omega.{arith}
+use lib.ListN.{length, getD, take, drop, length-drop}
+use lib.Seq.{length-take-le, getD-take, getD-drop}
+use Rattle.field.specs.Words.{table}
+use Rattle.field.proofs.WordLists.{is-table}
+use Rattle.code.specs.RowTrace.{stored, wordFrom}
+use Rattle.code.proofs.RowLaws.{length-stored, stored-is}
+use Rattle.layout.specs.Records.{replaced}
+use Rattle.recovery.specs.Recovery.{laid}
+
+-- a row that is copied to a record's place
+row-put : (s i from : ℕ) (bs r : List ℕ) → i * s + s ≤ length r → from + s ≤ length bs → stored (i * s) (wordFrom bs from) s r ≡ replaced s r i (take s (drop from bs))
+unfolding wordFrom
+row-put s i from bs r a b =
+    let t : take s (drop from bs) ≡ table s (wordFrom bs from) =
+    is-table (take s (drop from bs)) s (wordFrom bs from) (length-take-le s (drop from bs) (rw length-drop (omega arith))) (λ k c. getD-take s (drop from bs) k 0 c ∙ getD-drop from bs k 0) in
+    stored-is (i * s) (wordFrom bs from) s r a ∙ append-assoc (take (i * s) r) (table s (wordFrom bs from)) (drop (i * s + s) r)
+    ∙ ap₂ (λ (x : List ℕ) (n : ℕ). take (i * s) r ++ (x ++ drop n r)) {u = i * s + s} {v = suc i * s} (sym t) (omega arith)
+
+-- THE LOOP after j blocks of s data words
+pub record Laying (s : ℕ) (bs : List ℕ) (rows : ℕ) (r o : List ℕ) (at j : ℕ) : Type 0 where
+  pub turns : j ≤ rows
+  pub same : length o ≡ length r
+  pub stands : at ≡ j * suc s
+  pub now : o ≡ laid s bs j r
+
+pub laying-start : (s : ℕ) (bs : List ℕ) (rows : ℕ) (r : List ℕ) → Laying s bs rows r r 0 0
+unfolding laid
+laying-start s bs rows r = record { turns = omega arith; same = refl; stands = sym (zero-mul (suc s)); now = refl }
+
+module _ {s : ℕ} {bs : List ℕ} {rows : ℕ} {r o : List ℕ} {at j : ℕ} (L : Laying s bs rows r o at j) (b : j < rows) where
+  -- the block lies inside
+  pub laying-reads : rows * suc s ≤ length bs → at + 1 + s ≤ length bs
+  laying-reads e = omega (arith, L .stands, mul-le-mul-right (suc s) b)
+
+  pub laying-turn : {o′ : List ℕ} (i : ℕ) → i ≡ getD bs at 0 → i * s + s ≤ length o → rows * suc s ≤ length bs → o′ ≡ stored (i * s) (wordFrom bs (at + 1)) s o
+      → Laying s bs rows r o′ (at + 1 + s) (j + 1)
+  unfolding laid
+  laying-turn {o′} i n f e q = record {
+    turns = omega arith;
+    same = ap length q ∙ length-stored (i * s) (wordFrom bs (at + 1)) s o ∙ L .same;
+    stands = omega (arith, L .stands);
+    now = q ∙ row-put s i (at + 1) bs o f (laying-reads e) ∙ rw (add-one j, add-one at, n, L .stands, ← L .now);
+  }
+
+pub laying-done : {s : ℕ} {bs : List ℕ} {rows : ℕ} {r o : List ℕ} {at j : ℕ} → Laying s bs rows r o at j → rows ≤ j → o ≡ laid s bs rows r
+laying-done {rows} {j} L b = let e : j ≡ rows = omega (arith, L .turns) in rw e at (L .now)

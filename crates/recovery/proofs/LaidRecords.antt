@@ -1,0 +1,107 @@
+-- Blocks laid over raw records: those of a level, and those of the full stripe, whose data they come to since each number is its place. Assumes nothing.
+use mathlib.Core.Path.{_≡_, refl, sym, ap, _∙_}
+use mathlib.Core.Bool.{Bool, true, false}
+use mathlib.Core.List.{List, _++_, append-assoc, append-nil}
+use Prim.Native.Nat.{ℕ, zero, suc, pred, _+_, _*_, _-_, _^_, _≤_, _<_}
+use native.Mathlib.Nat.{zero-mul, mul-le-mul-right}
+use native.Mathlib.Omega.{arith}
+use borrow.Author.Tests.{eqb-true}
+use lib.Dec.{eqb}
+use lib.ListN.{length, take, drop, replicate, length-replicate, drop-of-length-le}
+use lib.Seq.{take-at, drop-drop, drop-append-add}
+use Rattle.code.specs.declared.Stripe.{Stripe}
+use Rattle.code.specs.Stripe.{blockCount, positionCount, blockWords, stripeWords}
+use Rattle.decoder.specs.Decoding.{isConsistent, blocksIn}
+use Rattle.layout.proofs.Bounds.{first, second}
+use Rattle.layout.specs.Records.{areData}
+use Rattle.image.specs.Loading.{columnsOf}
+use Rattle.rows.specs.Decoding.{Decoded, failed, decoded, blockNumber, blockData, areRecords, decodedNumber, decodedWords, solved}
+use Rattle.rows.proofs.BlockRecords.{record-at, number-low}
+use Rattle.rows.proofs.ColumnRanges.{columns-none, length-columns}
+use Rattle.rows.proofs.RowParts.{length-blocks}
+use Rattle.rows.proofs.StripeTests.{solved-nine, solved-ten, solved-blocks}
+use Rattle.columns.specs.Ranges.{placesTo}
+use Rattle.columns.specs.Full.{dataOf, decodedData}
+use Rattle.stripe.proofs.LevelParts.{lent-front}
+use Rattle.columns.proofs.FullTests.{data-row, records-full}
+use Rattle.recovery.specs.Recovery.{laid, laidFrom}
+
+-- WHAT A STRIPE THAT GIVES 0 CAME TO: blocks that are records
+pub solved-zero : (st : Stripe) (ms : List Bool) (r : List ℕ) → decodedNumber (solved st ms r) ≡ 0
+    → (solved st ms r ≡ decoded (blocksIn st ms r)) × (areRecords st (blocksIn st ms r) (blockCount st) ≡ true)
+solved-zero st ms r z = by (isConsistent st ms r) refl (areRecords st (blocksIn st ms r) (blockCount st)) refl
+  where
+    by : (c : Bool) → isConsistent st ms r ≡ c → (b : Bool) → areRecords st (blocksIn st ms r) (blockCount st) ≡ b
+        → (solved st ms r ≡ decoded (blocksIn st ms r)) × (areRecords st (blocksIn st ms r) (blockCount st) ≡ true)
+    by false c b a = absurd (omega (arith, sym z ∙ ap decodedNumber (solved-nine st ms r c)))
+    by true c false a = absurd (omega (arith, sym z ∙ ap decodedNumber (solved-ten st ms r c a)))
+    by true c true a = (solved-blocks st ms r c a, a)
+
+-- ON A LEVEL the blocks stand in the first words of the part that it was decoded in
+pub level-front : (st : Stripe) (ms : List Bool) (r : List ℕ) {x : List ℕ} (rest : List ℕ) → x ≡ decodedWords (solved st ms r) (stripeWords st + positionCount st)
+    → decodedNumber (solved st ms r) ≡ 0 → {n : ℕ} → n ≡ blockWords st → take n (x ++ rest) ≡ blocksIn st ms r
+level-front st ms r {x} rest q z e =
+    let bs = blocksIn st ms r in
+    let size = stripeWords st + positionCount st in
+    ap (λ (n : ℕ). take n (x ++ rest)) e ∙ lent-front st ms r rest q ∙ ap (λ (d : Decoded). take (blockWords st) (decodedWords d size)) (solved-zero st ms r z .0)
+    ∙ take-at bs (replicate (size - length bs) 0) (blockWords st) (length-blocks st ms r)
+
+-- and are laid: the loop is handed the blocks bs, s data words each, and how many they are
+module _ (st : Stripe) (ms : List Bool) (r : List ℕ) (z : decodedNumber (solved st ms r) ≡ 0) {bs : List ℕ} {s n : ℕ} (a : bs ≡ blocksIn st ms r) (b : suc s ≡ st .width) (c : n ≡ blockCount st) where
+  -- each block's record lies inside
+  pub level-inside : st .level < st .k → {size : ℕ} → size ≡ 2 ^ st .k * pred (st .width) → (j : ℕ) → j < n → suc (blockNumber (suc s) bs j) * s ≤ size
+  level-inside w e j i =
+      let t : j < blockCount st = omega (arith, c, i) in
+      let p : pred (st .width) ≡ s = omega (arith, b) in
+      rw (a, b, e, p) (mul-le-mul-right s (number-low st (blocksIn st ms r) j w (record-at st (blocksIn st ms r) (blockCount st) (solved-zero st ms r z .1) j t)))
+
+  pub level-laid : (o : List ℕ) {o′ : List ℕ} → o′ ≡ laid s bs n o → o′ ≡ laidFrom (pred (st .width)) (solved st ms r) (blockCount st) o
+  level-laid o q =
+      let p : s ≡ pred (st .width) = omega (arith, b) in
+      q ∙ rw (a, c, p) (sym (ap (λ (x : Decoded). laidFrom (pred (st .width)) x (blockCount st) o) (solved-zero st ms r z .0)))
+
+pub level-kept : (st : Stripe) (ms : List Bool) (r o : List ℕ) → (decodedNumber (solved st ms r) ≡ 0 → ⊥) → o ≡ laidFrom (pred (st .width)) (solved st ms r) (blockCount st) o
+level-kept st ms r o d = by (solved st ms r) d
+  where
+    by : (x : Decoded) → (decodedNumber x ≡ 0 → ⊥) → o ≡ laidFrom (pred (st .width)) x (blockCount st) o
+    by (failed n) d = refl
+    by (decoded bs) d = absurd (d refl)
+
+-- ON THE FULL STRIPE the blocks laid over any records are their data
+module _ (st : Stripe) (full : st .level ≡ st .k) (thick : 0 < st .width) (bs : List ℕ) where
+  abbrev w : ℕ
+  w = st .width
+
+  abbrev s : ℕ
+  s = pred (st .width)
+
+  wide : suc (pred (st .width)) ≡ st .width
+  wide = omega (arith, thick)
+
+  laid-full : (n : ℕ) (r : List ℕ) → n * w ≤ length bs → n * s ≤ length r → placesTo w bs n ≡ true → laid s bs n r ≡ columnsOf w 1 s n bs ++ drop (n * s) r
+  unfolding laid placesTo
+  laid-full zero r b c e = rw (columns-none, zero-mul)
+  laid-full (suc n) r b c e =
+      let p : blockNumber w bs n ≡ n = eqb-true (blockNumber w bs n) n (first (eqb (blockNumber w bs n) n) (placesTo w bs n) e) in
+      let x = columnsOf w 1 s n bs in
+      let t : length x ≡ n * s = length-columns w 1 s n bs in
+      let i : laid s bs n r ≡ x ++ drop (n * s) r = laid-full n r (omega arith) (omega arith) (second (eqb (blockNumber w bs n) n) (placesTo w bs n) e) in
+      let d : drop (suc n * s) (x ++ drop (n * s) r) ≡ drop (suc n * s) r =
+      ap (λ (m : ℕ). drop m (x ++ drop (n * s) r)) {x = suc n * s} {y = length x + s} (omega arith) ∙ drop-append-add x (drop (n * s) r) s
+      ∙ drop-drop s (n * s) r ∙ ap (λ (m : ℕ). drop m r) {x = n * s + s} {y = suc n * s} (omega arith) in
+      rw (wide, i, p, take-at x (drop (n * s) r) (n * s) t, d, data-row st full thick bs n b) (sym (append-assoc x (blockData w bs n) (drop (suc n * s) r)))
+
+  full-laid : blockCount st * w ≤ length bs → areRecords st bs (blockCount st) ≡ true → dataOf st bs ≡ laid s bs (blockCount st) (replicate (blockCount st * s) 0)
+  full-laid b a =
+      let n = blockCount st in
+      let p : placesTo w bs n ≡ true = first (placesTo w bs n) (areData (dataOf st bs)) (sym (records-full st full thick bs n b) ∙ a) in
+      let z : length {A = ℕ} (replicate (n * s) 0) ≡ n * s = length-replicate (n * s) 0 in
+      sym (laid-full n (replicate (n * s) 0) b (omega arith) p
+      ∙ ap (λ (y : List ℕ). columnsOf w 1 s n bs ++ y) (drop-of-length-le (replicate (n * s) 0) {i = n * s} (omega arith)) ∙ append-nil (columnsOf w 1 s n bs))
+
+pub data-laid : (st : Stripe) (ms : List Bool) (r : List ℕ) → st .level ≡ st .k → 0 < st .width → {o : List ℕ} → o ≡ decodedData st (solved st ms r) → decodedNumber (solved st ms r) ≡ 0
+    → o ≡ laidFrom (pred (st .width)) (solved st ms r) (blockCount st) (replicate (blockCount st * pred (st .width)) 0)
+data-laid st ms r full thick q z =
+    let e = solved-zero st ms r z in
+    q ∙ ap (decodedData st) (e .0) ∙ full-laid st full thick (blocksIn st ms r) (omega (arith, length-blocks st ms r)) (e .1)
+    ∙ sym (ap (λ (x : Decoded). laidFrom (pred (st .width)) x (blockCount st) (replicate (blockCount st * pred (st .width)) 0)) (e .0))

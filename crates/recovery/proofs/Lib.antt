@@ -1,0 +1,5 @@
+pub mod BlockLaying
+pub mod LaidRecords
+pub mod LevelsRecovery
+pub mod RecoverCall
+pub mod StripeRecords

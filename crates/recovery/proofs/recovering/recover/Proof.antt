@@ -1,0 +1,79 @@
+-- `recovery::recovering::recover` meets its contract. Assumes nothing.
+use mathlib.Core.Path.{_≡_, sym, ap, _∙_}
+use Prim.Native.Nat.{ℕ}
+use borrow.Author.Needs.{needs}
+use lib.ListN.{length, replicate}
+use Rattle.image.proofs.ImageTests.{Lent, lent}
+use Rattle.recovery.proofs.RecoverCall.{answers-refused, answers-stopped, answers-recovered}
+use Rattle.recovery.proofs.recovering.recover.Statement.{statement}
+use Rattle.recovery.proofs.recovering.recover.Tie as tie
+
+cast-row : tie.Need-cast-row
+cast-row c = search needs
+
+image-number-requires : tie.Need-image-number-requires
+image-number-requires c κs = search needs
+
+returns : tie.Need-returns
+returns c =
+    let a = c .before .before .before .before .before .before .before .args in
+    answers-refused (a .header) (a .image .now) (a .erasures .now) (a .out .now) (a .scratch .now) (c .before .image-number .ensures) (c .if1 .taken)
+
+-- the sizes, where no test applies
+sizes : (c : tie.After-image-number) → c .image-number .result ≡ 0 → let a = c .before .before .before .before .before .before .args in
+    Lent (a .header) (a .image .now) (a .erasures .now) (a .header .s) (length (a .out .now)) (length (a .scratch .now))
+sizes c z = let a = c .before .before .before .before .before .before .args in lent (a .header) (a .image .now) (a .erasures .now) (a .header .s) (length (a .out .now)) (length (a .scratch .now)) (sym (c .image-number .ensures) ∙ z)
+
+recover-all-requires : tie.Need-recover-all-requires
+recover-all-requires c κs =
+    let L = sizes (c .before .before .before) (c .before .before .if1 .left) in
+    (L .fits, (L .image, L .output, L .room))
+
+clear-requires : tie.Need-clear-requires
+clear-requires c κs = search needs
+
+clear-requires-2 : tie.Need-clear-requires-2
+clear-requires-2 c κs = search needs
+
+same-length : tie.Need-same-length
+same-length c = search needs
+
+same-length-2 : tie.Need-same-length-2
+same-length-2 c = search needs
+
+returns-2 : tie.Need-returns-2
+returns-2 c =
+    let a = c .before .before .before .before .before .before .before .before .before .before .before .before .before .before .before .before .before .before .before .before .before .before .before .before .args in
+    let L = sizes (c .before .before .before .before .before .before .before .before .before .before .before .before .before .before .before .before .before .before) (c .before .before .before .before .before .before .before .before .before .before .before .before .before .before .before .before .before .if1 .left) in
+    let r = c .before .before .before .before .before .before .before .before .before .before .before .before .before .before .recover-all in
+    answers-stopped (a .header) (a .image .now) (a .erasures .now) (a .out .now) (a .scratch .now) (sym (c .before .before .before .before .before .before .before .before .before .before .before .before .before .before .before .before .before .before .image-number .ensures) ∙ c .before .before .before .before .before .before .before .before .before .before .before .before .before .before .before .before .before .if1 .left) (r .ensures .0) (c .before .before .before .before .before .before .before .before .clear .ensures ∙ ap (λ (n : ℕ). replicate n 0) (r .kept .1 .1 .1 .1 .0 ∙ L .room)) (c .before .before .before .before .if2 .taken) (c .before .before .clear2 .ensures ∙ ap (λ (n : ℕ). replicate n 0) (r .kept .1 .1 .1 .0 ∙ L .output))
+
+same-length-3 : tie.Need-same-length-3
+same-length-3 c = search needs
+
+same-length-4 : tie.Need-same-length-4
+same-length-4 c = search needs
+
+returns-3 : tie.Need-returns-3
+returns-3 c =
+    let a = c .before .before .before .before .before .before .before .before .before .before .before .before .before .before .before .before .before .before .before .before .args in
+    let L = sizes (c .before .before .before .before .before .before .before .before .before .before .before .before .before .before) (c .before .before .before .before .before .before .before .before .before .before .before .before .before .if1 .left) in
+    let r = c .before .before .before .before .before .before .before .before .before .before .recover-all in
+    answers-recovered (a .header) (a .image .now) (a .erasures .now) (a .out .now) (a .scratch .now) (sym (c .before .before .before .before .before .before .before .before .before .before .before .before .before .before .image-number .ensures) ∙ c .before .before .before .before .before .before .before .before .before .before .before .before .before .if1 .left) (r .ensures .0) (c .before .before .before .before .clear .ensures ∙ ap (λ (n : ℕ). replicate n 0) (r .kept .1 .1 .1 .1 .0 ∙ L .room)) (c .if2 .left) (r .ensures .1)
+
+pub recover-spec : {M : Type 1} → statement M
+recover-spec =
+    tie.close
+    (tie.spec
+    cast-row
+    image-number-requires
+    returns
+    recover-all-requires
+    clear-requires
+    clear-requires-2
+    same-length
+    same-length-2
+    returns-2
+    same-length-3
+    same-length-4
+    returns-3)

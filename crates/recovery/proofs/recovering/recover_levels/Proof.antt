@@ -1,0 +1,108 @@
+-- `recovery::recovering::recover_levels` meets its contract. The invariant: what is left to lay comes to all there was to lay. Assumes nothing.
+use mathlib.Core.Path.{_≡_, refl, sym, ap, _∙_}
+use native.Mathlib.Omega.{arith}
+use borrow.Author.Needs.{needs}
+use lib.ListN.{length}
+use Rattle.layout.specs.Header.{rawSize}
+use Rattle.image.specs.Erasures.{erasuresIn}
+use Rattle.stripe.specs.Decoding.{decodeStripe}
+use Rattle.recovery.specs.Recovery.{Recovered}
+use Rattle.recovery.specs.RecoveryCall.{answerOf, wordsOf}
+use Rattle.layout.proofs.Bounds.{fits}
+use Rattle.recovery.proofs.StripeRecords.{sound}
+use Rattle.recovery.proofs.LevelsRecovery.{Levels, levels-start, levels-skip, levels-lay, levels-stop, levels-done}
+use Rattle.recovery.proofs.recovering.recover_levels.Statement.{statement}
+use Rattle.recovery.proofs.recovering.recover_levels.Tie as tie
+
+abbrev Inv-loop : tie.InvT-loop
+Inv-loop header image erasures out₀ scratch₀ level₀ out scratch level = (length out ≡ length out₀) × (length scratch ≡ length scratch₀) × Levels header (decodeStripe header image (erasuresIn erasures)) out₀ out level
+
+abbrev μ-loop : tie.MeasureT-loop
+μ-loop header image erasures out₀ scratch₀ level₀ out scratch level = level
+
+cast-level : tie.Need-cast-level Inv-loop μ-loop
+cast-level c = search needs
+
+loop-holds : tie.Need-loop-holds Inv-loop μ-loop
+loop-holds c = let a = c .before .before .before .before .before .args in (refl, refl, levels-start (a .header) (decodeStripe (a .header) (a .image .now) (erasuresIn (a .erasures .now))) (a .out .now))
+
+sub-level : tie.Need-sub-level Inv-loop μ-loop
+sub-level c = omega arith
+
+is-filled-requires : tie.Need-is-filled-requires Inv-loop μ-loop
+is-filled-requires c κs = let s = c .before .before .before .before .before .before .before in omega (arith, c .before .loop .inv .2 .within, fits (s .args .header) (s .pre .0) .k-high)
+
+recover-level-requires : tie.Need-recover-level-requires Inv-loop μ-loop
+recover-level-requires c κs =
+    let s = c .before .before .before .before .before .before .before .before .before .before .before in
+    let i = c .before .before .before .before .before .loop .inv in
+    ((s .pre .0, omega (arith, i .2 .within, c .before .before .before .before .loop-test .taken), s .pre .1 .0), (i .0 ∙ s .pre .1 .1, i .1 ∙ s .pre .1 .2))
+
+cast-t15 : tie.Need-cast-t15 Inv-loop μ-loop
+cast-t15 c = let s = c .before .before .before .before .before .before .before .before .before .before .before .before .before .before .before .before .before in omega (arith, c .before .before .before .before .before .before .before .before .before .before .before .loop .inv .2 .within, fits (s .args .header) (s .pre .0) .k-high)
+
+same-length : tie.Need-same-length Inv-loop μ-loop
+same-length c = c .before .before .before .before .before .recover-level .kept .1 .1 .1 .1 .0 ∙ c .before .before .before .before .before .before .before .before .before .before .before .loop .inv .0
+
+same-length-2 : tie.Need-same-length-2 Inv-loop μ-loop
+same-length-2 c = c .before .before .before .before .before .recover-level .kept .1 .1 .1 .1 .1 .0 ∙ c .before .before .before .before .before .before .before .before .before .before .before .loop .inv .1
+
+returns : tie.Need-returns Inv-loop μ-loop
+returns c =
+    let e = levels-stop (c .before .before .before .before .before .before .before .before .before .before .before .loop .inv .2) (c .before .before .before .before .before .before .before .before .before .before .loop-test .taken) (sym (c .before .before .before .before .before .before .before .before .before .is-filled .ensures) ∙ c .before .before .before .before .before .before .before .before .if1 .taken) (c .before .before .before .before .before .recover-level .ensures .0) (c .if2 .taken) in
+    (sym (ap answerOf e), λ z. absurd (c .if2 .taken z))
+
+loop-less : tie.Need-loop-less Inv-loop μ-loop
+loop-less c = omega arith
+
+loop-again : tie.Need-loop-again Inv-loop μ-loop
+loop-again c =
+    let i = c .before .before .before .before .before .before .before .before .before .before .before .loop .inv in
+    let a = c .before .before .before .before .before .before .before .before .before .before .before .before .before .before .before .before .before .args in
+    let d = c .before .before .before .before .before .recover-level in (
+      d .kept .1 .1 .1 .1 .0 ∙ i .0,
+      d .kept .1 .1 .1 .1 .1 .0 ∙ i .1,
+      levels-lay (i .2) (c .before .before .before .before .before .before .before .before .before .before .loop-test .taken) (sym (c .before .before .before .before .before .before .before .before .before .is-filled .ensures) ∙ c .before .before .before .before .before .before .before .before .if1 .taken) (d .ensures .0) (sound (a .header) (a .image .now) (erasuresIn (a .erasures .now)) _) (c .if2 .left) (d .ensures .1),
+    )
+
+loop-less-2 : tie.Need-loop-less-2 Inv-loop μ-loop
+loop-less-2 c = omega arith
+
+loop-again-2 : tie.Need-loop-again-2 Inv-loop μ-loop
+loop-again-2 c =
+    let i = c .before .before .before .loop .inv in
+    (i .0, i .1, levels-skip (i .2) (c .before .before .loop-test .taken) (sym (c .before .is-filled .ensures) ∙ c .if1 .left))
+
+same-length-3 : tie.Need-same-length-3 Inv-loop μ-loop
+same-length-3 c = c .before .loop .inv .0
+
+same-length-4 : tie.Need-same-length-4 Inv-loop μ-loop
+same-length-4 c = c .before .loop .inv .1
+
+returns-2 : tie.Need-returns-2 Inv-loop μ-loop
+returns-2 c =
+    let e = levels-done (c .before .loop .inv .2) (c .loop-test .left) in
+    (sym (ap answerOf e), λ _. sym (ap (λ (x : Recovered). wordsOf x (rawSize (c .before .before .before .before .before .before .before .args .header))) e))
+
+pub recover-levels-spec : {M : Type 1} → statement M
+recover-levels-spec =
+    tie.close
+    (tie.spec
+    Inv-loop
+    μ-loop
+    cast-level
+    loop-holds
+    sub-level
+    is-filled-requires
+    recover-level-requires
+    cast-t15
+    same-length
+    same-length-2
+    returns
+    loop-less
+    loop-again
+    loop-less-2
+    loop-again-2
+    same-length-3
+    same-length-4
+    returns-2)

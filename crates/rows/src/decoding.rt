@@ -1,0 +1,85 @@
+// Decoding of a stripe's rows, all of them or some columns, in a part that the caller lends.
+use code::Stripe;
+ghost use mathlib.Core.Path.{_≡_};
+ghost use mathlib.Core.List.{_++_};
+ghost use Prim.Native.Nat.{_+_, _*_, _≤_};
+ghost use lib.ListN.{length, drop};
+ghost use Rattle.code.specs.Stripe.{positionCount, stripeWords};
+ghost use Rattle.decoder.specs.Decoding.{isConsistent, leftOf};
+ghost use Rattle.decoder.specs.Decoder.{weightsIn};
+ghost use Rattle.image.specs.Loading.{rowsIn, columnsOf};
+ghost use Rattle.rows.specs.Decoding.{decodedNumber, decodedWords, readyNumber, solved};
+ghost use Rattle.rows.specs.Ready.{StripeFits, Ready, narrow};
+
+// Tests 7 and 8.
+pub fn ready_number(st: Stripe, bytes: &[u8], marks: &[bool]) -> u32
+    requires { ⌜ StripeFits st ⌝ }
+    requires { ⌜ (length (now bytes) ≡ 4 * stripeWords st) × (positionCount st ≤ length (now marks)) ⌝ }
+    ensures { λ r. ⌜ r ≡ readyNumber st (now (marks .entry)) (rowsIn st (now (marks .entry)) (now (bytes .entry))) ⌝ }
+{
+    let level = st.level;
+    if code::number::two_to(level) < decoder::decoding::count_erased(marks, level) {
+        return 7;
+    }
+    if image::loading::in_field(bytes, marks, st) {
+        return 0;
+    }
+    8
+}
+
+// Decodes the columns `from` up to `from + cols` in a part that ends in the weights: whether some blocks have the surviving words of those columns. The
+// part then holds the blocks' columns and zeros after them, or zeros; the weights stay.
+pub fn decode_columns(
+    st: Stripe,
+    bytes: &[u8],
+    marks: &[bool],
+    from: usize,
+    cols: usize,
+    part: &mut [u32],
+) -> bool
+    requires { ⌜ Ready st (now marks) (rowsIn st (now marks) (now bytes)) ⌝ }
+    requires { ⌜ (length (now bytes) ≡ 4 * stripeWords st) × (from + cols ≤ st .width) ⌝ }
+    requires { ⌜ length (now part) ≡ positionCount st * cols + positionCount st ⌝ }
+    requires { ⌜ drop (positionCount st * cols) (now part) ≡ weightsIn st (now marks) ⌝ }
+    ensures { λ r. ⌜ r ≡
+        isConsistent (narrow st cols) (now (marks .entry))
+        (columnsOf (st .width) from cols (positionCount st) (rowsIn st (now (marks .entry)) (now (bytes .entry)))) ⌝ }
+    ensures { λ _. ⌜ now (part .exit) ≡
+        leftOf (narrow st cols) (now (marks .entry))
+        (columnsOf (st .width) from cols (positionCount st) (rowsIn st (now (marks .entry)) (now (bytes .entry)))) ++
+        weightsIn st (now (marks .entry)) ⌝ }
+{
+    image::loading::load(part, bytes, marks, st, from, cols);
+    let range = Stripe {
+        level: st.level,
+        k: st.k,
+        first: st.first,
+        root: st.root,
+        width: cols,
+    };
+    decoder::decoding::decode(part, marks, range)
+}
+
+// Decodes all columns at once in a part with room for the rows and a weight for each position: 9 or 10, or 0. The part then holds the blocks and zeros after
+// them, or zeros.
+pub fn decode_rows(st: Stripe, bytes: &[u8], marks: &[bool], part: &mut [u32]) -> u32
+    requires { ⌜ Ready st (now marks) (rowsIn st (now marks) (now bytes)) ⌝ }
+    requires { ⌜ (length (now bytes) ≡ 4 * stripeWords st) × (length (now part) ≡ stripeWords st + positionCount st) ⌝ }
+    ensures { λ r. ⌜ r ≡ decodedNumber (solved st (now (marks .entry)) (rowsIn st (now (marks .entry)) (now (bytes .entry)))) ⌝ }
+    ensures { λ _. ⌜ now (part .exit) ≡
+        decodedWords (solved st (now (marks .entry)) (rowsIn st (now (marks .entry)) (now (bytes .entry)))) (stripeWords st + positionCount st) ⌝ }
+{
+    let size = code::number::two_to(st.level) * st.width;
+    let rows = size + size;
+    decoder::weights::weights(part, marks, st);
+    let found = decode_columns(st, bytes, marks, 0, st.width, part);
+    layout::words::clear(&mut part[rows..]);
+    if !found {
+        return 9;
+    }
+    if crate::records::are_records(st, &part[..size]) {
+        return 0;
+    }
+    layout::words::clear(part);
+    10
+}

@@ -1,0 +1,54 @@
+-- Laws of stores: a loop that stores the words of a list, what stands before them, records replaced, words copied modulo p. Assumes nothing.
+use mathlib.Core.Path.{_≡_, refl, sym, ap, _∙_}
+use mathlib.Core.List.{List, [], _∷_, _++_, append-assoc}
+use Prim.Native.Nat.{ℕ, zero, suc, _+_, _*_, _%_, _≤_, _<_}
+use native.Mathlib.Omega.{arith}
+use lib.ListN.{length, getD, set, take, drop, length-drop}
+use lib.Seq.{sets, sets-eq, length-take-le, getD-take, getD-drop, take-set-le, take-take}
+use Rattle.field.proofs.WordLists.{is-table}
+use Rattle.code.specs.RowTrace.{stored}
+use Rattle.code.proofs.RowLaws.{stored-is}
+use Rattle.layout.specs.Records.{replaced}
+use Rattle.store.specs.Buffers.{reduced}
+use Rattle.store.proofs.StoredRecords.{length-reduced}
+
+-- a loop that stores the words of a list
+pub stored-list : (at : ℕ) (f : ℕ → ℕ) (n : ℕ) (new l : List ℕ) → at + n ≤ length l → length new ≡ n → ((i : ℕ) → i < n → getD new i 0 ≡ f i) → stored at f n l ≡ sets l at new
+stored-list at f n new l h e g =
+    stored-is at f n l h ∙ rw (← is-table new n f e g, ← e) (sym (sets-eq new l at (omega arith)))
+
+-- what stands before is as it was
+pub take-sets : (n : ℕ) (l : List ℕ) (at : ℕ) (ws : List ℕ) → n ≤ at → take n (sets l at ws) ≡ take n l
+take-sets n l at [] h = refl
+take-sets n l at (w ∷ ws) h = take-sets n (set l at w) (suc at) ws (omega arith) ∙ take-set-le n l at w h
+
+-- a part that stands in the first m words
+pub part-inside : (from n m : ℕ) (l : List ℕ) → from + n ≤ m → take n (drop from (take m l)) ≡ take n (drop from l)
+part-inside zero n m l h = take-take n m l (omega arith)
+part-inside (suc from) n zero l h = absurd (omega arith)
+part-inside (suc from) n (suc m) [] h = refl
+part-inside (suc from) n (suc m) (x ∷ l) h = part-inside from n m l (omega arith)
+
+-- a block that is stored in the place of a record
+pub record-put : (s i : ℕ) (b r : List ℕ) → length b ≡ s → suc i * s ≤ length r → sets r (i * s) b ≡ replaced s r i b
+record-put s i b r e h =
+    sets-eq b r (i * s) (omega arith) ∙ append-assoc (take (i * s) r) b (drop (i * s + length b) r)
+    ∙ ap (λ (n : ℕ). take (i * s) r ++ (b ++ drop n r)) {x = i * s + length b} {y = suc i * s} (omega arith)
+
+-- words that are copied modulo p
+module _ (p from n : ℕ) (l : List ℕ) (h : from + n ≤ length l) where
+  part-long : length (take n (drop from l)) ≡ n
+  part-long = length-take-le n (drop from l) (rw length-drop (omega arith))
+
+  pub length-copy : length (reduced p (take n (drop from l))) ≡ n
+  length-copy = length-reduced p (take n (drop from l)) ∙ part-long
+
+reduced-at : (p : ℕ) (l : List ℕ) (i : ℕ) → i < length l → getD (reduced p l) i 0 ≡ getD l i 0 % p
+unfolding reduced
+reduced-at p [] i h = absurd (omega arith)
+reduced-at p (x ∷ l) zero h = refl
+reduced-at p (x ∷ l) (suc i) h = reduced-at p l i (omega arith)
+
+pub copy-at : (p from n : ℕ) (l : List ℕ) → from + n ≤ length l → (i : ℕ) → i < n → getD (reduced p (take n (drop from l))) i 0 ≡ getD l (from + i) 0 % p
+copy-at p from n l h i b =
+    reduced-at p (take n (drop from l)) i (omega (arith, part-long p from n l h)) ∙ rw (getD-take n (drop from l) i 0 b, getD-drop)

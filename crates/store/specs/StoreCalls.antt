@@ -1,0 +1,52 @@
+-- What opening, writing and reading answer, and what they leave in each lent buffer, for every input. Assumes nothing: these are definitions.
+use mathlib.Core.Bool.{_&&_}
+use mathlib.Core.List.{List, []}
+use Prim.Native.Nat.{ℕ}
+use lib.Dec.{ltb, eqb}
+use lib.ListN.{length}
+use Rattle.layout.specs.declared.Header.{Header}
+use Rattle.store.specs.declared.Opened.{Opened}
+use Rattle.store.specs.declared.Written.{Written}
+use Rattle.layout.specs.Header.{headerOf, count, headerFits, rawSize, fullSize, logSize}
+use Rattle.layout.specs.Records.{areData, recordIn, recordsFit}
+use Rattle.store.specs.Buffers.{Buffers, buffers, opened}
+use Rattle.store.specs.Writing.{nextHeader, written}
+use Rattle.layout.specs.Refusals.{done, test, refusal, ifTaken}
+
+-- OPENING
+abbrev pub openNumber : (k s : ℕ) → (raw full log : List ℕ) → ℕ
+openNumber k s r f g =
+    let h = headerOf k s 0 in
+    refusal
+    (test (headerFits h) 1
+    (test (eqb (length r) (rawSize h) && (eqb (length f) (fullSize h) && eqb (length g) (logSize h))) 2
+    (test (recordsFit s r (count h)) 5 done)))
+
+abbrev pub openAnswer : (k s : ℕ) → (raw full log : List ℕ) → Opened
+openAnswer k s r f g =
+    record { number = openNumber k s r f g; header = ifTaken (openNumber k s r f g) (headerOf k s 0) (headerOf 0 0 0) }
+
+abbrev pub openLeaves : (k s : ℕ) → (raw full log : List ℕ) → Buffers
+openLeaves k s r f g = ifTaken (openNumber k s r f g) (opened (headerOf k s 0) r) (buffers r f g)
+
+-- WRITING
+abbrev pub writeNumber : Header → Buffers → (number : ℕ) → (block : List ℕ) → ℕ
+writeNumber h u i b =
+    refusal
+    (test (headerFits h) 1
+    (test (eqb (length (u .raw)) (rawSize h) && (eqb (length (u .full)) (fullSize h) && (eqb (length (u .log)) (logSize h) && eqb (length b) (h .s)))) 2
+    (test (ltb i (count h)) 4
+    (test (areData b) 5 done))))
+
+abbrev pub writeAnswer : Header → Buffers → (number : ℕ) → (block : List ℕ) → Written
+writeAnswer h u i b = record { number = writeNumber h u i b; header = ifTaken (writeNumber h u i b) (nextHeader h) h }
+
+abbrev pub writeLeaves : Header → Buffers → (number : ℕ) → (block : List ℕ) → Buffers
+writeLeaves h u i b = ifTaken (writeNumber h u i b) (written h u i b) u
+
+-- READING gives a part of the raw buffer; a refused one an empty part
+abbrev pub readNumber : Header → (raw : List ℕ) → (number : ℕ) → ℕ
+readNumber h r i = refusal (test (headerFits h) 1 (test (eqb (length r) (rawSize h)) 2 (test (ltb i (count h)) 4 done)))
+
+abbrev pub readGives : Header → (raw : List ℕ) → (number : ℕ) → List ℕ
+readGives h r i = ifTaken (readNumber h r i) (recordIn (h .s) r i) []

@@ -1,0 +1,214 @@
+// Writing: the raw record replaced, and the first empty level, or the full stripe, built anew.
+use crate::Written;
+use layout::Header;
+ghost use mathlib.Core.Path.{_≡_};
+ghost use mathlib.Core.Bool.{true};
+ghost use mathlib.Core.List.{_∷_};
+ghost use Prim.Native.Nat.{suc, _+_, _*_, _-_, _^_, _≤_, _<_};
+ghost use lib.ListN.{length, take, drop};
+ghost use lib.Seq.{sets};
+ghost use Rattle.field.specs.Field.{fermat};
+ghost use Rattle.field.specs.Words.{Words};
+ghost use Rattle.code.specs.Transform.{scaled};
+ghost use Rattle.layout.specs.Header.{headerOf, primeOf, headerFits, logSize};
+ghost use Rattle.layout.specs.Records.{replaced};
+ghost use Rattle.store.specs.Buffers.{reduced, buffers};
+ghost use Rattle.store.specs.Writing.{logWith};
+ghost use Rattle.store.specs.WriteTrace.{halfStart, gathered, folded};
+ghost use Rattle.store.specs.StoreCalls.{writeNumber, writeAnswer, writeLeaves};
+
+// Replaces raw record i, of s words, by a block.
+fn put_record(raw: &mut [u32], i: usize, s: usize, block: &[u32])
+    requires { ⌜ length (now block) ≡ s ⌝ }
+    requires { ⌜ suc i * s ≤ length (now raw) ⌝ }
+    ensures { λ _. ⌜ now (raw .exit) ≡ replaced s (now (raw .entry)) i (now (block .entry)) ⌝ }
+{
+    let at = i * s;
+    for j in 0..s {
+        let to = at + j;
+        raw[to] = block[j];
+    }
+}
+
+// Copies `count` words from index `from` on to index `to` on, each modulo p.
+fn copy_reduced(log: &mut [u32], from: usize, to: usize, count: usize)
+    requires { ⌜ from + count ≤ to ⌝ }
+    requires { ⌜ to + count ≤ length (now log) ⌝ }
+    ensures { λ _. ⌜ now (log .exit) ≡ sets (now (log .entry)) to (reduced (fermat .modulus) (take count (drop from (now (log .entry))))) ⌝ }
+{
+    for j in 0..count {
+        let x = from + j;
+        let y = to + j;
+        log[y] = log[x] % 65537;
+    }
+}
+
+// Puts a block as a row from index `at` on: its number and its data, each times g.
+fn put_row(log: &mut [u32], at: usize, number: u32, block: &[u32], g: u32)
+    requires { ⌜ at + suc (length (now block)) ≤ length (now log) ⌝ }
+    requires { ⌜ g < fermat .modulus ⌝ }
+    requires { ⌜ Words (fermat .modulus) (number ∷ now block) ⌝ }
+    ensures { λ _. ⌜ now (log .exit) ≡ sets (now (log .entry)) at (scaled (fermat .modulus) g (number ∷ now (block .entry))) ⌝ }
+{
+    log[at] = field::mul(g, number);
+    let first = at + 1;
+    for j in 0..block.len() {
+        let to = first + j;
+        log[to] = field::mul(g, block[j]);
+    }
+}
+
+// Where X (half 0) or Y (half 1) of a level begins in the log.
+fn half_at(level: usize, half: usize, width: usize) -> usize
+    requires { ⌜ (level ≤ 10) × (half ≤ 1) × (width ≤ 129) ⌝ }
+    ensures { λ r. ⌜ r ≡ halfStart width level half ⌝ }
+{
+    let rows = code::number::two_to(level);
+    (rows + rows - 2) * width + half * (rows * width)
+}
+
+// Copies X (half 0) or Y (half 1) of all levels below to that half of a level, the oldest first, each word modulo p, and puts the block's row times g after them.
+fn gather(log: &mut [u32], level: usize, half: usize, number: u32, block: &[u32], g: u32)
+    requires { ⌜ (level ≤ 9) × (half ≤ 1) × (length (now block) ≤ 128) ⌝ }
+    requires { ⌜ halfStart (suc (length (now block))) (suc level) 0 ≤ length (now log) ⌝ }
+    requires { ⌜ g < fermat .modulus ⌝ }
+    requires { ⌜ Words (fermat .modulus) (number ∷ now block) ⌝ }
+    ensures { λ _. ⌜ now (log .exit) ≡
+        sets (now (log .entry)) (halfStart (suc (length (now (block .entry)))) level half)
+        (gathered (fermat .modulus) (suc (length (now (block .entry)))) (now (log .entry)) half (scaled (fermat .modulus) g (number ∷ now (block .entry))) level) ⌝ }
+{
+    let width = block.len() + 1;
+    let mut at = half_at(level, half, width);
+    let mut l = level;
+    while 0 < l {
+        l = l - 1;
+        let size = code::number::two_to(l) * width;
+        copy_reduced(log, half_at(l, half, width), at, size);
+        at += size;
+    }
+    put_row(log, at, number, block, g);
+}
+
+// Mixes the last row of 2^level rows with the one before it, those two with the two before them, and so on.
+fn fold(half: &mut [u32], level: usize, k: usize, width: usize, root: u32)
+    requires { ⌜ (level ≤ k) × (k ≤ 15) ⌝ }
+    requires { ⌜ length (now half) ≡ 2 ^ level * width ⌝ }
+    requires { ⌜ root < fermat .modulus ⌝ }
+    requires { ⌜ Words (fermat .modulus) (now half) ⌝ }
+    ensures { λ _. ⌜ now (half .exit) ≡ folded (fermat .modulus) root k width level (now (half .entry)) ⌝ }
+{
+    let mut exponent = code::number::two_to(k);
+    let mut m: usize = 1;
+    let mut from = half.len() - width;
+    for l in 0..level {
+        let v = field::power(root, exponent as u32);
+        from = from - m * width;
+        code::mixing::mix(&mut half[from..], m, width, v);
+        exponent = exponent / 2;
+        m = m * 2;
+    }
+}
+
+// Rebuilds a level from all levels below it and the block, and empties those. The level is lent on as two parts from the middle of the log; what follows it stays.
+fn rebuild(header: Header, log: &mut [u32], level: usize, number: u32, block: &[u32])
+    requires { ⌜ (headerFits header ≡ true) × (level < header .k) ⌝ }
+    requires { ⌜ (length (now log) ≡ logSize header) × (length (now block) ≡ header .s) ⌝ }
+    requires { ⌜ Words (primeOf header) (number ∷ now block) ⌝ }
+    ensures { λ _. ⌜ now (log .exit) ≡ logWith header (now (log .entry)) (number ∷ now (block .entry)) level ⌝ }
+{
+    let k = header.k as usize;
+    let width = header.s as usize + 1;
+    let root = code::number::root(k);
+    let turn = field::power(root, code::number::reversed(k, header.c as usize));
+    gather(log, level, 0, number, block, 1);
+    gather(log, level, 1, number, block, turn);
+    let start = half_at(level, 0, width);
+    let middle = half_at(level, 1, width);
+    let end = half_at(level + 1, 0, width);
+    fold(&mut log[start..middle], level, k, width, root);
+    fold(&mut log[middle..end], level, k, width, root);
+    layout::words::clear(&mut log[..start]);
+}
+
+// The number that writing gives: tests 1, 2, 4, 5.
+fn write_number(
+    header: Header,
+    raw: &[u32],
+    full: &[u32],
+    log: &[u32],
+    number: u32,
+    block: &[u32],
+) -> u32
+    ensures { λ r. ⌜ r ≡ writeNumber header (buffers (now (raw .entry)) (now (full .entry)) (now (log .entry))) number (now (block .entry)) ⌝ }
+{
+    if !layout::sizes::header_fits(header) {
+        return 1;
+    }
+    if raw.len() != layout::sizes::raw_size(header) {
+        return 2;
+    }
+    if full.len() != layout::sizes::full_size(header) {
+        return 2;
+    }
+    if log.len() != layout::sizes::log_size(header) {
+        return 2;
+    }
+    if block.len() != header.s as usize {
+        return 2;
+    }
+    if code::number::two_to(header.k as usize) <= number as usize {
+        return 4;
+    }
+    if !layout::words::all_data(block) {
+        return 5;
+    }
+    0
+}
+
+// What a write that is taken answers: 0, and the header with c as it is then.
+fn taken(header: Header, c: u32) -> Written
+    ensures { λ r. ⌜ (r .number ≡ 0) × (r .header ≡ headerOf (header .k) (header .s) c) ⌝ }
+{
+    Written {
+        number: 0,
+        header: Header {
+            k: header.k,
+            s: header.s,
+            c: c,
+        },
+    }
+}
+
+// Writes a block to a record. Tests 1, 2 (the three buffers and the block), 4, 5; a refusal changes nothing. Words that it reads from the buffers count modulo p.
+pub fn write(
+    header: Header,
+    raw: &mut [u32],
+    full: &mut [u32],
+    log: &mut [u32],
+    number: u32,
+    block: &[u32],
+) -> Written
+    ensures { λ r. ⌜ r ≡ writeAnswer header (buffers (now (raw .entry)) (now (full .entry)) (now (log .entry))) number (now (block .entry)) ⌝ }
+    ensures { λ _. ⌜ now (raw .exit) ≡ writeLeaves header (buffers (now (raw .entry)) (now (full .entry)) (now (log .entry))) number (now (block .entry)) .raw ⌝ }
+    ensures { λ _. ⌜ now (full .exit) ≡ writeLeaves header (buffers (now (raw .entry)) (now (full .entry)) (now (log .entry))) number (now (block .entry)) .full ⌝ }
+    ensures { λ _. ⌜ now (log .exit) ≡ writeLeaves header (buffers (now (raw .entry)) (now (full .entry)) (now (log .entry))) number (now (block .entry)) .log ⌝ }
+{
+    let refusal = write_number(header, raw, full, log, number, block);
+    if refusal != 0 {
+        return Written {
+            number: refusal,
+            header: header,
+        };
+    }
+    let k = header.k as usize;
+    let s = header.s as usize;
+    let c = header.c;
+    put_record(raw, number as usize, s, block);
+    if c as usize + 1 == code::number::two_to(k) {
+        crate::opening::build(raw, full, k, s);
+        layout::words::clear(log);
+        return taken(header, 0);
+    }
+    rebuild(header, log, layout::places::first_empty(c), number, block);
+    taken(header, c + 1)
+}

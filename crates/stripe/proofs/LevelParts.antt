@@ -1,0 +1,98 @@
+-- A level decoded in the first words of the scratch, and its blocks copied to an output of zeros. Assumes nothing.
+use mathlib.Core.Path.{_≡_, refl, sym, ap, ap₂, _∙_}
+use mathlib.Core.Bool.{Bool, true, false}
+use mathlib.Core.List.{List, _++_, append-assoc}
+use Prim.Native.Nat.{ℕ, suc, _+_, _*_, _-_, _^_, _≤_, _<_}
+use native.Mathlib.Nat.{mul-le-mul-right, mul-le-mul}
+use native.Mathlib.Omega.{arith}
+use lib.ListN.{length, take, drop, replicate, length-replicate, replicate-append-replicate, getD, length-append, take-append-drop}
+use lib.Seq.{take-at, drop-at, length-take-le, getD-take}
+use lib.Pow.{pow-mono}
+use Rattle.field.specs.Words.{table}
+use Rattle.field.proofs.WordLists.{is-table}
+use Rattle.code.specs.declared.Stripe.{Stripe}
+use Rattle.code.specs.Stripe.{blockCount, positionCount, blockWords, stripeWords}
+use Rattle.code.specs.RowTrace.{stored, wordFrom}
+use Rattle.code.proofs.RowLaws.{stored-is}
+use Rattle.decoder.specs.Decoding.{isConsistent, blocksIn}
+use Rattle.rows.specs.Decoding.{Decoded, failed, decoded, areRecords, decodedWords, solved}
+use Rattle.rows.specs.Ready.{StripeFits}
+use Rattle.rows.proofs.RowParts.{length-blocks, twice}
+use Rattle.rows.proofs.StripeTests.{solved-nine, solved-ten, solved-blocks}
+
+-- THE ROOM: the rows of a level and a weight for each position fit into the scratch
+pub level-room : (st : Stripe) → st .level < st .k → stripeWords st + positionCount st ≤ 2 ^ st .k * st .width + 4 * 2 ^ st .k
+level-room st b =
+    let e : 2 ^ suc (st .level) ≤ 2 ^ st .k = pow-mono {i = suc (st .level)} {j = st .k} b in
+    omega (arith, mul-le-mul-right (st .width) e)
+
+pub room-is : (st : Stripe) {rows : ℕ} → rows ≡ blockCount st → 2 * (rows * st .width + rows) ≡ stripeWords st + positionCount st
+room-is st e = let d : 2 ^ suc (st .level) ≡ 2 ^ st .level + 2 ^ st .level = omega arith in rw (e, d) (omega arith)
+
+pub scratch-low : (st : Stripe) → StripeFits st → 2 ^ st .k * st .width + 4 * 2 ^ st .k ≤ 136192
+scratch-low st f =
+    let b : 2 ^ st .k ≤ 1024 = pow-mono {i = st .k} {j = 10} (f .low) in
+    omega (arith, mul-le-mul {n₂ = 1024} {m₂ = 129} b (f .thin))
+
+pub blocks-in : (st : Stripe) → st .level < st .k → blockWords st ≤ 2 ^ st .k * st .width
+blocks-in st b = mul-le-mul-right (st .width) (pow-mono {i = st .level} {j = st .k} (omega arith))
+
+-- what a stripe that is decoded has as its blocks
+data Comes (st : Stripe) (d : Decoded) : Type 0 where
+  fails : (n : ℕ) → d ≡ failed n → Comes st d
+  gives : (bs : List ℕ) → d ≡ decoded bs → length bs ≡ blockWords st → Comes st d
+
+comes : (st : Stripe) (ms : List Bool) (r : List ℕ) → Comes st (solved st ms r)
+comes st ms r = by (isConsistent st ms r) refl (areRecords st (blocksIn st ms r) (blockCount st)) refl
+  where
+    by : (c : Bool) → isConsistent st ms r ≡ c → (b : Bool) → areRecords st (blocksIn st ms r) (blockCount st) ≡ b → Comes st (solved st ms r)
+    by false c b a = fails 9 (solved-nine st ms r c)
+    by true c false a = fails 10 (solved-ten st ms r c a)
+    by true c true a = gives (blocksIn st ms r) (solved-blocks st ms r c a) (length-blocks st ms r)
+
+replicate-front : (n m : ℕ) → n ≤ m → take {A = ℕ} n (replicate m 0) ≡ replicate n 0
+replicate-front n m b =
+    let e : m ≡ n + (m - n) = omega arith in
+    ap (λ (x : ℕ). take n (replicate x 0)) e ∙ ap (take n) (sym (replicate-append-replicate n (m - n) 0)) ∙ take-at (replicate n 0) (replicate (m - n) 0) n (length-replicate n 0)
+
+-- the blocks' words, or as many zeros, in front of a larger buffer
+pub front : (st : Stripe) (ms : List Bool) (r : List ℕ) (n m : ℕ) → blockWords st ≤ n → blockWords st ≤ m
+    → take (blockWords st) (decodedWords (solved st ms r) n) ++ replicate (m - blockWords st) 0 ≡ decodedWords (solved st ms r) m
+front st ms r n m a b = by (comes st ms r)
+  where
+    by : {d : Decoded} → Comes st d → take (blockWords st) (decodedWords d n) ++ replicate (m - blockWords st) 0 ≡ decodedWords d m
+    by {d} (fails x e) =
+        rw (e, decodedWords, replicate-front (blockWords st) n a)
+        (replicate-append-replicate (blockWords st) (m - blockWords st) 0 ∙ ap (λ (x : ℕ). replicate x 0) {x = blockWords st + (m - blockWords st)} {y = m} (omega arith))
+    by {d} (gives bs e l) = rw (e, decodedWords, take-at bs (replicate (n - length bs) 0) (blockWords st) l, l)
+
+-- the copy
+pub copied-front : (n : ℕ) (l o : List ℕ) (m : ℕ) → n ≤ length l → n ≤ m → o ≡ replicate m 0 → stored 0 (wordFrom l 0) n o ≡ take n l ++ replicate (m - n) 0
+unfolding wordFrom
+copied-front n l o m a b e =
+    let t : take n l ≡ table n (wordFrom l 0) = is-table (take n l) n (wordFrom l 0) (length-take-le n l a) (λ i c. getD-take n l i 0 c ∙ ap (λ (x : ℕ). getD l x 0) {x = i} {y = 0 + i} (omega arith)) in
+    let len : length o ≡ m = ap length e ∙ length-replicate m 0 in
+    stored-is 0 (wordFrom l 0) n o (omega arith) ∙ ap (λ (k : ℕ). table n (wordFrom l 0) ++ drop k o) {x = 0 + n} {y = n} (omega arith)
+    ∙ ap₂ _++_ (sym t) (ap (drop n) e ∙ zeros)
+  where
+    zeros : drop {A = ℕ} n (replicate m 0) ≡ replicate (m - n) 0
+    zeros =
+        let e : m ≡ n + (m - n) = omega arith in
+        ap (λ (x : ℕ). drop n (replicate x 0)) e ∙ ap (drop n) (sym (replicate-append-replicate n (m - n) 0)) ∙ drop-at (replicate n 0) (replicate (m - n) 0) n (length-replicate n 0)
+
+pub blocks-room : (st : Stripe) → blockWords st ≤ stripeWords st + positionCount st
+blocks-room st = omega (arith, twice st)
+
+-- the blocks' words in the scratch, whose first words came back decoded
+pub lent-front : (st : Stripe) (ms : List Bool) (r : List ℕ) {x : List ℕ} (rest : List ℕ) → x ≡ decodedWords (solved st ms r) (stripeWords st + positionCount st)
+    → take (blockWords st) (x ++ rest) ≡ take (blockWords st) (decodedWords (solved st ms r) (stripeWords st + positionCount st))
+lent-front st ms r {x} rest q =
+    rw q (take-before (blockWords st) (decodedWords (solved st ms r) (stripeWords st + positionCount st)) rest (rw (words-long (comes st ms r)) (blocks-room st)))
+  where
+    words-long : {d : Decoded} → Comes st d → length (decodedWords d (stripeWords st + positionCount st)) ≡ stripeWords st + positionCount st
+    words-long {d} (fails n e) = rw (e, decodedWords) (length-replicate (stripeWords st + positionCount st) 0)
+    words-long {d} (gives bs e l) =
+        rw (e, decodedWords) (length-append bs (replicate (stripeWords st + positionCount st - length bs) 0) ∙ omega (arith, length-replicate {A = ℕ} (stripeWords st + positionCount st - length bs) 0, l, blocks-room st))
+
+    take-before : (n : ℕ) (a b : List ℕ) → n ≤ length a → take n (a ++ b) ≡ take n a
+    take-before n a b h = ap (λ (y : List ℕ). take n (y ++ b)) (sym (take-append-drop n a)) ∙ ap (take n) (append-assoc (take n a) (drop n a) b) ∙ take-at (take n a) (drop n a ++ b) n (length-take-le n a h)

@@ -1,0 +1,3 @@
+pub mod DecodeCall
+pub mod LevelParts
+pub mod StripeAnswers

@@ -1,0 +1,40 @@
+-- ALL PROMISES of specs/Promises, each proved. Assumes nothing.
+use Rattle.vault.specs.Promises.{Promises}
+use Rattle.vault.proofs.Histories.{headerIs, sizesStay, recordsLong, numbersAre, wordsAre, rawIs, modelIs, beforeIs}
+use Rattle.vault.proofs.StripeDecoding.{wordsStand, decodesIff, nineIff, tenIff, oneList}
+use Rattle.vault.proofs.StripeCall.{givesSeven, givesEight, givesNine, givesTen, givesZero, leavesBlocks, leavesZeros}
+use Rattle.vault.proofs.Demand3.{imageLong, recoversAll, noOther, levelsDecode, fullDecodes}
+use Rattle.vault.proofs.Boundary.{partIs, noneNamed}
+use Rattle.vault.proofs.Worked.{worked}
+
+pub proved : Promises
+proved = record {
+  header-is = headerIs;
+  sizes-stay = sizesStay;
+  records-long = recordsLong;
+  numbers-are = numbersAre;
+  words-are = wordsAre;
+  raw-is = rawIs;
+  model-is = modelIs;
+  before-is = beforeIs;
+  words-stand = wordsStand;
+  decodes-iff = decodesIff;
+  nine-iff = nineIff;
+  ten-iff = tenIff;
+  one-list = oneList;
+  gives-seven = givesSeven;
+  gives-eight = givesEight;
+  gives-nine = givesNine;
+  gives-ten = givesTen;
+  gives-zero = givesZero;
+  leaves-blocks = leavesBlocks;
+  leaves-zeros = leavesZeros;
+  image-long = imageLong;
+  recovers-all = recoversAll;
+  no-other = noOther;
+  levels-decode = levelsDecode;
+  full-decodes = fullDecodes;
+  part-is = partIs;
+  none-named = noneNamed;
+  worked = worked;
+}
