@@ -11,7 +11,7 @@ use lib.Arith.{digits-lt, digits-div, digits-mod}
 use lib.Pow.{pow-mono}
 use lib.Dec.{ltb}
 use borrow.Author.Tests.{ltb-true, lt-ltb, le-ltb, eq-eqb, ne-eqb}
-use lib.ListN.{length, getD, set, take, drop, length-append, length-set, length-take, length-drop, take-append-drop, drop-of-length-le}
+use lib.ListN.{length, getD, set, take, drop, length-append, length-set, length-take, length-drop, take-append-drop, drop-of-length-le, List·getD-eq-default}
 use lib.Seq.{length-take-le, take-take, take-at, set-at, drop-drop, drop-cons, getD-take, getD-drop, drop-append-add}
 use Rattle.field.specs.Words.{Words, table}
 use Rattle.field.proofs.WordLists.{words-nil, words-cons, words-table, length-table, getD-table, is-table, two-tables}
@@ -143,16 +143,23 @@ module _ (w : ℕ) (ms : List Bool) (r : List ℕ) (i j : ℕ) (h : j < w) where
   unfolding survivingAt
   surviving-kept e = ap (λ (x : ℕ). elim (getD ms x false) [ true ↦ 0 | false ↦ getD r (i * w + j) 0 ]) (digits-div i h) ∙ rw e
 
--- the words of 4 n bytes
-pub words-at : (bs : List ℕ) (n q : ℕ) → length bs ≡ 4 * n → q < n → getD (wordsOf bs) q 0 ≡ wordAt bs q
-words-at bs n q e h = getD-table (length bs / 4) q (wordAt bs) (omega (arith, e, h))
+-- word q of some bytes, past their end too
+pub words-at : (bs : List ℕ) (q : ℕ) → getD (wordsOf bs) q 0 ≡ wordAt bs q
+unfolding numberOf
+words-at bs q = by (decLt q ((length bs + 3) / 4))
+  where
+    by : Dec (q < (length bs + 3) / 4) → getD (wordsOf bs) q 0 ≡ wordAt bs q
+    by (yes b) = getD-table ((length bs + 3) / 4) q (wordAt bs) b
+    by (no b) =
+        List·getD-eq-default (wordsOf bs) 0 {n = q} (rw length-table (omega arith))
+        ∙ sym (ap (λ (l : List ℕ). numberOf (take 4 l)) (drop-of-length-le bs {i = 4 * q} (omega arith)))
 
 -- the rows of a stripe's bytes
-module _ (w n : ℕ) (ms : List Bool) (bs : List ℕ) (e : length bs ≡ 4 * (n * w)) where
-  pub kept-word : (i j byte : ℕ) → i < n → j < w → getD ms i false ≡ false → byte ≡ 4 * (i * w) → survivingAt w ms (wordsOf bs) (i * w + j) ≡ rowWord bs byte j
+module _ (w n : ℕ) (ms : List Bool) (bs : List ℕ) where
+  pub kept-word : (i j byte : ℕ) → j < w → getD ms i false ≡ false → byte ≡ 4 * (i * w) → survivingAt w ms (wordsOf bs) (i * w + j) ≡ rowWord bs byte j
   unfolding rowWord
-  kept-word i j byte a b m o =
-      surviving-kept w ms (wordsOf bs) i j b m ∙ words-at bs (n * w) (i * w + j) e (digits-lt a b)
+  kept-word i j byte b m o =
+      surviving-kept w ms (wordsOf bs) i j b m ∙ words-at bs (i * w + j)
       ∙ ap (λ (x : ℕ). numberAt bs x) {x = 4 * (i * w + j)} {y = byte + 4 * j} (omega arith)
 
   module _ (from cols : ℕ) (fit : from + cols ≤ w) (i j : ℕ) (a : i < n) (b : j < cols) where
@@ -168,7 +175,7 @@ module _ (w n : ℕ) (ms : List Bool) (bs : List ℕ) (e : length bs ≡ 4 * (n 
     pub range-kept : getD ms i false ≡ false → (byte : ℕ) → byte ≡ 4 * (i * w + from) → columnsWord w from cols (surviving w n ms (wordsOf bs)) (i * cols + j) ≡ rowWord bs byte j
     unfolding rowWord
     range-kept m byte o =
-        range-word ∙ kept-word i (from + j) (4 * (i * w)) a (omega arith) m refl
+        range-word ∙ kept-word i (from + j) (4 * (i * w)) (omega arith) m refl
         ∙ ap (λ (x : ℕ). numberAt bs x) {x = 4 * (i * w) + 4 * (from + j)} {y = byte + 4 * j} (omega arith)
 
 -- THE LOOP over the rows of a stripe whose words are tested: before row i, the rest have to be below p
@@ -243,10 +250,9 @@ pub stripe-long : (h : Header) (m : List ℕ) (l : ℕ) → 4 * stripeAt h l + 4
 stripe-long h m l fit = length-take-le (4 * stripeSize h l) (drop (4 * stripeAt h l) m) (rw length-drop (omega arith))
 
 -- A STRIPE OF AN IMAGE: word q of its bytes is word q from its place on
-pub stripe-word : (h : Header) (m : List ℕ) (l q : ℕ) → 4 * stripeAt h l + 4 * stripeSize h l ≤ length m → q < stripeSize h l
-    → getD (wordsOf (stripeIn h m l)) q 0 ≡ wordAt m (stripeAt h l + q)
-stripe-word h m l q fit b =
-    words-at (stripeIn h m l) (stripeSize h l) q (stripe-long h m l fit) b
+pub stripe-word : (h : Header) (m : List ℕ) (l q : ℕ) → q < stripeSize h l → getD (wordsOf (stripeIn h m l)) q 0 ≡ wordAt m (stripeAt h l + q)
+stripe-word h m l q b =
+    words-at (stripeIn h m l) q
     ∙ ap numberOf (part-inside (4 * q) 4 (4 * stripeSize h l) (drop (4 * stripeAt h l) m) (omega arith) ∙ ap (take 4) (drop-drop (4 * q) (4 * stripeAt h l) m ∙ ap (λ (x : ℕ). drop x m) {x = 4 * stripeAt h l + 4 * q} {y = 4 * (stripeAt h l + q)} (omega arith)))
 
 -- a stripe lies within the image

@@ -27,6 +27,6 @@ imageOf f g = bytesOf (f ++ g)
 abbrev pub wordAt : (image : List ℕ) → (i : ℕ) → ℕ
 wordAt m i = numberAt m (4 * i)
 
--- the words of some bytes
+-- the words of some bytes; bytes that the last one lacks count as 0
 abbrev pub wordsOf : (bytes : List ℕ) → List ℕ
-wordsOf bs = table (length bs / 4) (wordAt bs)
+wordsOf bs = table ((length bs + 3) / 4) (wordAt bs)

@@ -6,6 +6,7 @@ ghost use mathlib.Core.Bool.{true};
 ghost use mathlib.Core.List.{_++_};
 ghost use Prim.Native.Nat.{_+_, _*_, _≤_};
 ghost use lib.ListN.{length, drop};
+ghost use Rattle.field.specs.Field.{fermat};
 ghost use Rattle.field.specs.Words.{table};
 ghost use Rattle.code.specs.Stripe.{modulusOf, positionCount, stripeWords};
 ghost use Rattle.layout.specs.Header.{headerFits, imageSize};
@@ -23,15 +24,15 @@ pub fn stripe_bytes<'a>(header: Header, image: &'a [u8], level: usize) -> &'a [u
     &image[start..end]
 }
 
-// Whether the `width` words from the byte `from` on are below 65537.
+// Whether the `width` words from the byte `from` on are words of the field.
 fn row_in_field(bytes: &[u8], from: usize, width: usize) -> bool
     requires { ⌜ from + 4 * width ≤ length (now bytes) ⌝ }
-    ensures { λ r. ⌜ r ≡ areBelow 65537 (table width (rowWord (now (bytes .entry)) from)) ⌝ }
+    ensures { λ r. ⌜ r ≡ areBelow (fermat .modulus) (table width (rowWord (now (bytes .entry)) from)) ⌝ }
 {
     let mut fine = true;
     let mut j = 0;
     while j < width {
-        if 65536 < crate::bytes::number_at(bytes, from + 4 * j) {
+        if field::MODULUS <= crate::bytes::number_at(bytes, from + 4 * j) {
             fine = false;
         }
         j += 1;

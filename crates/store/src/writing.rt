@@ -39,7 +39,7 @@ fn copy_reduced(log: &mut [u32], from: usize, to: usize, count: usize)
     for j in 0..count {
         let x = from + j;
         let y = to + j;
-        log[y] = log[x] % 65537;
+        log[y] = log[x] % field::MODULUS;
     }
 }
 

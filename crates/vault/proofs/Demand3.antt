@@ -61,17 +61,17 @@ levelsDecode o es e m l O =
     let t = histories o es O in
     let a = roundOf o es in
     let h = roundHeader a in
-    rw (headerAfter, imageAfter, vaultAfter, t .vault-is) (λ L long S b filled.
-    call-gives h m e l (rowsOf (levelEntries h (a .since) l)) (header-fits (t .good)) (L .wellFormed) long (inr (b, filled))
-    (level-decodes (t .good) e m L long S l b filled))
+    rw (headerAfter, imageAfter, vaultAfter, t .vault-is) (λ L S b filled.
+    call-gives h m e l (rowsOf (levelEntries h (a .since) l)) (header-fits (t .good)) (L .wellFormed) (inr (b, filled))
+    (level-decodes (t .good) e m L S l b filled))
 
 pub fullDecodes : FullDecodes
 fullDecodes o es e m O =
     let t = histories o es O in
     let a = roundOf o es in
-    rw (headerAfter, imageAfter, vaultAfter, t .vault-is) (λ L long S.
-    call-gives (roundHeader a) m e (a .k) (blocksOf (roundHeader a) (a .base)) (header-fits (t .good)) (L .wellFormed) long (inl (eq-eqb (a .k) (a .k) refl))
-    (full-decodes (t .good) e m L long S))
+    rw (headerAfter, imageAfter, vaultAfter, t .vault-is) (λ L S.
+    call-gives (roundHeader a) m e (a .k) (blocksOf (roundHeader a) (a .base)) (header-fits (t .good)) (L .wellFormed) (inl (eq-eqb (a .k) (a .k) refl))
+    (full-decodes (t .good) e m L S))
 
 pub recoversAll : RecoversAll
 recoversAll o es e m out scratch O =
@@ -79,26 +79,25 @@ recoversAll o es e m out scratch O =
     let a = roundOf o es in
     rw (headerAfter, imageAfter, vaultAfter, t .vault-is, t .model-is)
     (λ L long S outLong scratchLong.
-    found (roundHeader a) m e out scratch (header-fits (t .good)) (L .wellFormed) long outLong scratchLong (recordsIn a) (recover-round (t .good) e m L long S))
+    found (roundHeader a) m e out scratch (header-fits (t .good)) (L .wellFormed) long outLong scratchLong (recordsIn a) (recover-round (t .good) e m L S))
 
 pub imageLong : ImageLong
 imageLong o es O = rw (headerAfter, imageAfter, vaultAfter, histories o es O .vault-is) (length-image (roundOf o es))
 
 -- TWO HISTORIES with the same header and surviving words decode alike, and so are in one round
-decodes-history : (o : Opening) (es : List Event) (e m : List ℕ) → Opens o → LeavesHalf (headerAfter o es) e → length m ≡ imageSize (headerAfter o es)
+decodes-history : (o : Opening) (es : List Event) (e m : List ℕ) → Opens o → LeavesHalf (headerAfter o es) e
     → SameWords (headerAfter o es) e (imageAfter o es) m → Decodes (headerAfter o es) m e (roundOf o es)
-decodes-history o es e m O L long S = record {
+decodes-history o es e m O L S = record {
   good = histories o es O .good;
   header-is = ap (λ (v : Vault). v .header) (histories o es O .vault-is);
-  full = fullDecodes o es e m O L long S .stripe;
-  levels = λ l b filled. levelsDecode o es e m l O L long S b filled .stripe;
+  full = fullDecodes o es e m O L S .stripe;
+  levels = λ l b filled. levelsDecode o es e m l O L S b filled .stripe;
 }
 
 pub noOther : NoOther
 noOther o o′ es es′ e O O′ same L S =
     let m = imageAfter o′ es′ in
     let L′ : LeavesHalf (headerAfter o′ es′) e = subst (λ (h : Header). LeavesHalf h e) same L in
-    let long : length m ≡ imageSize (headerAfter o′ es′) = imageLong o′ es′ O′ in
     let self : SameWords (headerAfter o′ es′) e m m = record { same = λ l i j n hi hj free. refl } in
-    let other = subst (λ (h : Header). Decodes h m e (roundOf o′ es′)) (sym same) (decodes-history o′ es′ e m O′ L′ long self) in
-    modelIs o es O ∙ ap (λ (a : Round). modelIn a) (one-round (decodes-history o es e m O L (long ∙ ap (λ (h : Header). imageSize h) (sym same)) S) other) ∙ sym (modelIs o′ es′ O′)
+    let other = subst (λ (h : Header). Decodes h m e (roundOf o′ es′)) (sym same) (decodes-history o′ es′ e m O′ L′ self) in
+    modelIs o es O ∙ ap (λ (a : Round). modelIn a) (one-round (decodes-history o es e m O L S) other) ∙ sym (modelIs o′ es′ O′)

@@ -13,7 +13,7 @@ use Rattle.code.specs.Rows.{Column}
 use Rattle.code.proofs.Lifting.{words-column, words-lifted}
 use Rattle.code.proofs.Shapes.{words-coded}
 use Rattle.layout.specs.declared.Header.{Header}
-use Rattle.layout.specs.Header.{primeOf, vaultRoot, width, headerFits, imageSize, firstOf, stripeAt, stripeOf}
+use Rattle.layout.specs.Header.{primeOf, vaultRoot, width, headerFits, firstOf, stripeAt, stripeOf}
 use Rattle.image.specs.Image.{wordAt}
 use Rattle.image.specs.Erasures.{erasuresIn}
 use Rattle.rows.specs.Decoding.{decoded, areRecords}
@@ -36,10 +36,10 @@ module _ (h : Header) (m e : List ℕ) (l : ℕ) (bs : List ℕ) where
       (i j : ℕ) → i < 2 ^ suc l → j < width h → getD (marks h e l) i false ≡ false →
       wordAt m (stripeAt h l + (i * width h + j)) ≡ getD stripe (i * width h + j) 0
 
-  module _ (fit : headerFits h ≡ true) (long : length m ≡ imageSize h) (within : l ≤ h .k) (blocks : Column (primeOf h) (2 ^ l * width h) bs) (kept : Kept) where
+  module _ (fit : headerFits h ≡ true) (within : l ≤ h .k) (blocks : Column (primeOf h) (2 ^ l * width h) bs) (kept : Kept) where
     kept-word : (i j : ℕ) → i < 2 ^ suc l → j < width h → getD (marks h e l) i false ≡ false
         → getD (wordsIn h m l) (i * width h + j) 0 ≡ getD stripe (i * width h + j) 0
-    kept-word i j a b free = wordsStand h m l (i * width h + j) fit long within (digits-lt a b) ∙ kept i j a b free
+    kept-word i j a b free = wordsStand h m l (i * width h + j) (digits-lt a b) ∙ kept i j a b free
 
     pub decodes-kept : 2 ^ l ≤ length (survivors l (marks h e l)) → areRecords (stripeOf h l) bs (2 ^ l) ≡ true → decodeStripe h m (erasuresIn e) l ≡ decoded bs
     decodes-kept enough records =

@@ -17,7 +17,7 @@ use Rattle.field.proofs.WordLists.{words-nil, words-append, words-replicate}
 use Rattle.code.specs.Stripe.{codedRows, codedStripe}
 use Rattle.decoder.proofs.BlockDecoding.{both-true}
 use Rattle.layout.specs.declared.Header.{Header}
-use Rattle.layout.specs.Header.{vaultRoot, width, imageSize, fullSize, isFull, isFilled, firstOf, levelAt, stripeSize, stripeAt, stripeOf}
+use Rattle.layout.specs.Header.{vaultRoot, width, fullSize, isFull, isFilled, firstOf, levelAt, stripeSize, stripeAt, stripeOf}
 use Rattle.layout.specs.Records.{areData}
 use Rattle.store.specs.Buffers.{fullStripe, blocksOf}
 use Rattle.image.specs.Image.{imageOf, wordAt}
@@ -108,7 +108,7 @@ module _ {a : Round} (good : Good a) where
       ∙ sym (getD-take (stripeSize h l) (drop (levelAt h l) log) q 0 b) ∙ ap (λ (x : List ℕ). getD x q 0) (level-place h (a .since) l (a .k) lt))
 
   -- an image with the words that survive
-  module _ (e m : List ℕ) (L : LeavesHalf h e) (long : length m ≡ imageSize h) (S : SameWords h e (imageOf full log) m) where
+  module _ (e m : List ℕ) (L : LeavesHalf h e) (S : SameWords h e (imageOf full log) m) where
     kept-word : (l i j : ℕ) → Needed h l → i < 2 ^ suc l → j < width h → getD (marks h e l) i false ≡ false
         → wordAt m (stripeAt h l + (i * width h + j)) ≡ getD (full ++ log) (stripeAt h l + (i * width h + j)) 0
     kept-word l i j need b c free = sym (S .same l i j need b c free) ∙ word-back 65537 (lit< tt) (full ++ log) words-all (stripeAt h l + (i * width h + j))
@@ -119,7 +119,7 @@ module _ {a : Round} (good : Good a) where
         → ((q : ℕ) → q < 2 ^ suc l * width h → getD (full ++ log) (stripeAt h l + q) 0 ≡ getD (codedStripe (stripeOf h l) (rowsOf xs)) q 0)
         → decodeStripe h m (erasuresIn e) l ≡ decoded (rowsOf xs)
     rows-decode l within need xs E n fit at =
-        decodes-kept h m e l (rowsOf xs) (header-fits good) long within (rows-column (2 ^ l) (good .sizes .k-high) E n)
+        decodes-kept h m e l (rowsOf xs) (header-fits good) within (rows-column (2 ^ l) (good .sizes .k-high) E n)
         (λ i j b c free. kept-word l i j need b c free ∙ at (i * width h + j) (digits-lt b c)) (L .half l need) (are-records h E l fit (2 ^ l) (omega arith))
 
     pub level-decodes : (l : ℕ) → l < a .k → isFilled h l ≡ true → decodeStripe h m (erasuresIn e) l ≡ decoded (rowsOf (levelEntries h (a .since) l))

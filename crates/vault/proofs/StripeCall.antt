@@ -129,13 +129,13 @@ needed-passes h l (inr (lt, filled)) = second-of (isFull h l) (both (lt-ltb l (h
     second-of true q = refl
     second-of false q = q
 
--- BLOCKS that a stripe decodes to are given by the call, where the header fits, the image is as long as it says, the erasure list is well formed and the
+-- BLOCKS that a stripe decodes to are given by the call, where the header fits, the erasure list is well formed and the
 -- stripe is needed
-pub call-gives : (h : Header) (m e : List ℕ) (l : ℕ) (bs : List ℕ) → headerFits h ≡ true → erasuresFit h e ≡ true → length m ≡ imageSize h → Needed h l
+pub call-gives : (h : Header) (m e : List ℕ) (l : ℕ) (bs : List ℕ) → headerFits h ≡ true → erasuresFit h e ≡ true → Needed h l
     → decodeStripe h m (erasuresIn e) l ≡ decoded bs → Gives h m e l bs
-call-gives h m e l bs fits formed image needed is = record {
+call-gives h m e l bs fits formed needed is = record {
   stripe = is;
-  call = λ out scratch outLong scratchLong.
+  call = λ out scratch image outLong scratchLong.
       let A : Asked h m e l out scratch =
       test-holds 1 _ fits ∙ test-holds 2 _ (equal-three (length m) (imageSize h) (length out) (outSize h) (length scratch) (scratchSize h) image outLong scratchLong)
       ∙ test-holds 3 _ formed ∙ test-holds 6 done (needed-passes h l needed) ∙ none-fails in (

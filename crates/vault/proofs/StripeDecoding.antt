@@ -3,8 +3,6 @@ use mathlib.Core.List.{List}
 use Prim.Native.Nat.{ℕ}
 use Rattle.layout.specs.declared.Header.{Header}
 use Rattle.layout.specs.Header.{stripeOf}
-use Rattle.layout.proofs.Bounds.{fits}
-use Rattle.layout.proofs.StripePlaces.{inside}
 use Rattle.image.proofs.StripeLoads.{stripe-word}
 use Rattle.rows.specs.Promises as Rows
 use Rattle.rows.proofs.Proved as Decoding
@@ -12,7 +10,7 @@ use Rattle.rows.proofs.StripeTests.{stripe-fits}
 use Rattle.vault.specs.Promises.{marks, wordsIn, WordsStand, Readable, DecodesIff, NineIff, TenIff, OneList}
 
 pub wordsStand : WordsStand
-wordsStand h m l q fit long within b = stripe-word h m l q (rw long (inside h l (fits h fit) within)) b
+wordsStand = stripe-word
 
 pub readable-rows : {h : Header} {m e : List ℕ} {l : ℕ} → Readable h m e l → Rows.Readable (stripeOf h l) (marks h e l) (wordsIn h m l)
 readable-rows {h} {m} {e} {l} R = record { fits = stripe-fits h l (R .fits) (R .within); enough = R .enough; inField = R .inField }

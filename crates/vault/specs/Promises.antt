@@ -118,9 +118,7 @@ wordsIn h m l = wordsOf (stripeIn h m l)
 
 -- which are the image's words from the stripe's place on
 abbrev pub WordsStand : Type 0
-WordsStand =
-    (h : Header) (m : List ℕ) (l q : ℕ) → headerFits h ≡ true → length m ≡ imageSize h → l ≤ h .k → q < stripeSize h l →
-    getD (wordsIn h m l) q 0 ≡ wordAt m (stripeAt h l + q)
+WordsStand = (h : Header) (m : List ℕ) (l q : ℕ) → q < stripeSize h l → getD (wordsIn h m l) q 0 ≡ wordAt m (stripeAt h l + q)
 
 -- bs are 2^l blocks of words below p that code to all words that survive on stripe l of the image m under the erasures e
 abbrev pub Codes : Header → (image erasures : List ℕ) → (stripe : ℕ) → (blocks : List ℕ) → Type 0
@@ -235,11 +233,11 @@ NoOther =
     LeavesHalf h e → SameWords h e (imageAfter o es) (imageAfter o′ es′) →
     modelOf o es ≡ modelOf o′ es′
 
--- the blocks of a stripe are bs: its decoding gives them, and the call `decode`, whatever output and scratch it is lent, gives 0 and leaves them, zeros after them,
--- and a scratch of zeros
+-- the blocks of a stripe are bs: its decoding gives them, and the call `decode`, whatever the output and the scratch hold that it is lent, gives 0 and leaves
+-- them, zeros after them, and a scratch of zeros
 pub record Gives (h : Header) (m e : List ℕ) (l : ℕ) (bs : List ℕ) : Type 0 where
   pub stripe : decodeStripe h m (erasuresIn e) l ≡ decoded bs
-  pub call : (out scratch : List ℕ) → length out ≡ outSize h → length scratch ≡ scratchSize h →
+  pub call : (out scratch : List ℕ) → length m ≡ imageSize h → length out ≡ outSize h → length scratch ≡ scratchSize h →
       (decodeNumber h m e l out scratch ≡ 0) × (decodeLeaves h m e l out scratch ≡ bs ++ replicate (outSize h - length bs) 0) ×
       (decodeScratch h m e l out scratch ≡ replicate (scratchSize h) 0)
 
@@ -248,14 +246,14 @@ abbrev pub LevelsDecode : Type 0
 LevelsDecode =
     (o : Opening) (es : List Event) (e m : List ℕ) (l : ℕ) → Opens o →
     let h = headerAfter o es in
-    LeavesHalf h e → length m ≡ imageSize h → SameWords h e (imageAfter o es) m → l < h .k → isFilled h l ≡ true →
+    LeavesHalf h e → SameWords h e (imageAfter o es) m → l < h .k → isFilled h l ≡ true →
     Gives h m e l (rowsOf (levelEntries h (roundOf o es .since) l))
 
 abbrev pub FullDecodes : Type 0
 FullDecodes =
     (o : Opening) (es : List Event) (e m : List ℕ) → Opens o →
     let h = headerAfter o es in
-    LeavesHalf h e → length m ≡ imageSize h → SameWords h e (imageAfter o es) m →
+    LeavesHalf h e → SameWords h e (imageAfter o es) m →
     Gives h m e (h .k) (blocksOf h (roundOf o es .base))
 
 -- ALL OF THEM; the last are those of the C boundary (specs/Boundary), and the worked examples (specs/Worked)

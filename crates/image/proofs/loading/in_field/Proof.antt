@@ -37,7 +37,7 @@ fit d = row-in (d .before .before .before .before .before .before .args .st .wid
 -- a row that is kept is the words that row_in_field tests
 kept : (d : tie.In-loop Inv-loop μ-loop) → let a = d .before .before .before .before .before .before .args in getD (a .marks .now) (d .before .loop .i) false ≡ false → (j : ℕ) → j < a .st .width
     → survivingAt (a .st .width) (a .marks .now) (wordsOf (a .bytes .now)) (d .before .loop .i * a .st .width + j) ≡ rowWord (a .bytes .now) (4 * (d .before .loop .i * a .st .width)) j
-kept d m j b = let a = d .before .before .before .before .before .before .args in kept-word (a .st .width) (d .before .before .two-to .result) (a .marks .now) (a .bytes .now) (sized d) (d .before .loop .i) j _ (d .loop-test .taken) b m refl
+kept d m j b = let a = d .before .before .before .before .before .before .args in kept-word (a .st .width) (d .before .before .two-to .result) (a .marks .now) (a .bytes .now) (d .before .loop .i) j _ b m refl
 
 add-two-to : tie.Need-add-two-to Inv-loop μ-loop
 add-two-to c = search needs

@@ -80,9 +80,9 @@ loop-again c =
     let a = s .args in
     ⊎-elim
     (λ w. load-turn (l .before .loop .inv) (l .loop-test .taken) (room l) (λ k. 0)
-    (λ j b. range-marked (a .st .width) (l .before .before .two-to .result) (a .marks .now) (a .bytes .now) (sized l) (a .from) (a .cols) (s .pre .1 .0) (l .before .loop .i) j (l .loop-test .taken) b (w .0 .taken)) (w .5 ∙ w .2 .ensures))
+    (λ j b. range-marked (a .st .width) (l .before .before .two-to .result) (a .marks .now) (a .bytes .now) (a .from) (a .cols) (s .pre .1 .0) (l .before .loop .i) j (l .loop-test .taken) b (w .0 .taken)) (w .5 ∙ w .2 .ensures))
     (λ w. load-turn (l .before .loop .inv) (l .loop-test .taken) (room l) _
-    (λ j b. range-kept (a .st .width) (l .before .before .two-to .result) (a .marks .now) (a .bytes .now) (sized l) (a .from) (a .cols) (s .pre .1 .0) (l .before .loop .i) j (l .loop-test .taken) b (w .0 .left) _ refl) (w .5 ∙ w .2 .ensures))
+    (λ j b. range-kept (a .st .width) (l .before .before .two-to .result) (a .marks .now) (a .bytes .now) (a .from) (a .cols) (s .pre .1 .0) (l .before .loop .i) j (l .loop-test .taken) b (w .0 .left) _ refl) (w .5 ∙ w .2 .ensures))
     (c .if1 .came)
 
 same-length : tie.Need-same-length Inv-loop μ-loop
