@@ -33,34 +33,35 @@ fn load(block: &mut [u32], bytes: &[u8])
     }
 }
 
-// One write, from its bytes: the record number, then the block's words.
+// One write of s words, from its bytes: the record number, then the block's words.
 fn write(
     header: Header,
+    s: usize,
     raw: &mut [u32],
     full: &mut [u32],
     log: &mut [u32],
-    block: &mut [u32],
     bytes: &[u8],
 ) -> Written
-    requires { ⌜ 2 + 2 * length (now block) ≤ length (now bytes) ⌝ }
+    requires { ⌜ (s ≤ 16) × (2 + 2 * s ≤ length (now bytes)) ⌝ }
 {
+    let mut block = [0u32; 16];
+    load(&mut block[..s], &bytes[2..]);
     let number = pair(bytes, 0);
-    load(block, &bytes[2..]);
-    store::writing::write(header, raw, full, log, number, block)
+    store::writing::write(header, raw, full, log, number, &block[..s])
 }
 
 // At most 256 writes; what follows them is not read. The number is that of the first write that is refused, 2 where the bytes run out in one.
 fn writes(
     opened: Header,
+    s: usize,
     raw: &mut [u32],
     full: &mut [u32],
     log: &mut [u32],
-    block: &mut [u32],
     bytes: &[u8],
 ) -> Written
-    requires { ⌜ length (now block) ≤ 16 ⌝ }
+    requires { ⌜ s ≤ 16 ⌝ }
 {
-    let size = 2 + 2 * block.len();
+    let size = 2 + 2 * s;
     let mut header = opened;
     let mut from = 0;
     for i in 0..256u32 {
@@ -74,7 +75,7 @@ fn writes(
             };
         }
         let end = from + size;
-        let answer = write(header, raw, full, log, block, &bytes[from..end]);
+        let answer = write(header, s, raw, full, log, &bytes[from..end]);
         if answer.number != 0 {
             return answer;
         }
@@ -108,52 +109,6 @@ fn stripes(out: &mut [u8], full: &[u32], log: &[u32], k: u32, c: u32, width: usi
     lines::levels(out, at, log, k, c, width)
 }
 
-// Opens zero records in buffers of the right lengths, and writes.
-fn history(
-    k: u32,
-    raw: &mut [u32],
-    full: &mut [u32],
-    log: &mut [u32],
-    block: &mut [u32],
-    bytes: &[u8],
-) -> Written
-    requires { ⌜ length (now block) ≤ 16 ⌝ }
-{
-    let opened = store::opening::open(k, block.len() as u32, raw, full, log);
-    if opened.number != 0 {
-        let header = opened.header;
-        return Written {
-            number: opened.number,
-            header: header,
-        };
-    }
-    writes(opened.header, raw, full, log, block, bytes)
-}
-
-// The listing of a history, or its refusal.
-fn list_in(
-    k: u32,
-    raw: &mut [u32],
-    full: &mut [u32],
-    log: &mut [u32],
-    block: &mut [u32],
-    bytes: &[u8],
-    out: &mut [u8],
-) -> usize
-    requires { ⌜ (k ≤ 5) × (length (now block) ≤ 16) ⌝ }
-    requires { ⌜ (length (now full) ≤ 1088) × (length (now log) ≤ 1054) ⌝ }
-    ensures { λ r. ⌜ r ≤ length (now (out .entry)) ⌝ }
-    ensures { λ _. ⌜ length (now (out .exit)) ≡ length (now (out .entry)) ⌝ }
-{
-    let width = block.len() + 1;
-    let answer = history(k, raw, full, log, block, bytes);
-    if answer.number != 0 {
-        return refused(out, answer.number);
-    }
-    let header = answer.header;
-    stripes(out, full, log, k, header.c, width)
-}
-
 // 2^k x, for k from 1 to 5.
 fn scaled(k: u32, x: usize) -> usize
     requires { ⌜ x ≤ 17 ⌝ }
@@ -168,36 +123,57 @@ fn scaled(k: u32, x: usize) -> usize
     }
 }
 
-// Lists in parts of buffers that have room for k = 5 and s = 16.
-fn list_with(
+// Opens zero records, and writes: the number, and the header afterwards. The raw copy is not listed.
+fn history(k: u32, s: usize, full: &mut [u32], log: &mut [u32], bytes: &[u8]) -> Written
+    requires { ⌜ s ≤ 16 ⌝ }
+{
+    let mut raw = [0u32; 512];
+    let size = scaled(k, s);
+    let opened = store::opening::open(k, s as u32, &raw[..size], full, log);
+    if opened.number != 0 {
+        let header = opened.header;
+        return Written {
+            number: opened.number,
+            header: header,
+        };
+    }
+    writes(opened.header, s, &mut raw[..size], full, log, bytes)
+}
+
+// The listing of a history in a full stripe and a log of the right lengths, or its refusal.
+fn list_in(
     k: u32,
     s: usize,
-    raw: &mut [u32],
     full: &mut [u32],
     log: &mut [u32],
-    block: &mut [u32],
     bytes: &[u8],
     out: &mut [u8],
 ) -> usize
     requires { ⌜ (k ≤ 5) × (s ≤ 16) ⌝ }
-    requires { ⌜ (length (now raw) ≡ 512) × (length (now full) ≡ 1088) ⌝ }
-    requires { ⌜ (length (now log) ≡ 1054) × (length (now block) ≡ 16) ⌝ }
+    requires { ⌜ (length (now full) ≤ 1088) × (length (now log) ≤ 1054) ⌝ }
     ensures { λ r. ⌜ r ≤ length (now (out .entry)) ⌝ }
     ensures { λ _. ⌜ length (now (out .exit)) ≡ length (now (out .entry)) ⌝ }
 {
-    let size = scaled(k, s);
+    let answer = history(k, s, full, log, bytes);
+    if answer.number != 0 {
+        return refused(out, answer.number);
+    }
+    let header = answer.header;
+    stripes(out, full, log, k, header.c, s + 1)
+}
+
+// The same in buffers of its own, which have room for k = 5 and s = 16.
+fn list_history(k: u32, s: usize, bytes: &[u8], out: &mut [u8]) -> usize
+    requires { ⌜ (k ≤ 5) × (s ≤ 16) ⌝ }
+    ensures { λ r. ⌜ r ≤ length (now (out .entry)) ⌝ }
+    ensures { λ _. ⌜ length (now (out .exit)) ≡ length (now (out .entry)) ⌝ }
+{
+    let mut full = [0u32; 1088];
+    let mut log = [0u32; 1054];
     let half = scaled(k, s + 1);
     let stripe = half + half;
     let levels = stripe - 2 * (s + 1);
-    list_in(
-        k,
-        &mut raw[..size],
-        &mut full[..stripe],
-        &mut log[..levels],
-        &mut block[..s],
-        bytes,
-        out,
-    )
+    list_in(k, s, &mut full[..stripe], &mut log[..levels], bytes, out)
 }
 
 // Puts the listing of an input into a buffer, as far as it fits (13482 bytes are enough for every input), and gives its length.
@@ -205,10 +181,6 @@ pub fn list(input: &[u8], out: &mut [u8]) -> usize
     ensures { λ r. ⌜ r ≤ length (now (out .entry)) ⌝ }
     ensures { λ _. ⌜ length (now (out .exit)) ≡ length (now (out .entry)) ⌝ }
 {
-    let mut raw = [0u32; 512];
-    let mut full = [0u32; 1088];
-    let mut log = [0u32; 1054];
-    let mut block = [0u32; 16];
     if input.len() < 2 {
         return refused(out, 2);
     }
@@ -226,14 +198,5 @@ pub fn list(input: &[u8], out: &mut [u8]) -> usize
     if 16 < s {
         return refused(out, 1);
     }
-    list_with(
-        k,
-        s,
-        &mut raw,
-        &mut full,
-        &mut log,
-        &mut block,
-        &input[2..],
-        out,
-    )
+    list_history(k, s, &input[2..], out)
 }

@@ -7,10 +7,10 @@ use Rattle.listing.proofs.writes.Statement.{statement}
 use Rattle.listing.proofs.writes.Tie as tie
 
 abbrev Inv-loop : tie.InvT-loop
-Inv-loop raw₀ full₀ log₀ block₀ bytes size header₀ from₀ i₀ raw full log block header from i = (i ≤ 256) × (from ≤ length bytes) × (size ≡ 2 + 2 * length block₀) × (length raw ≡ length raw₀) × (length full ≡ length full₀) × (length log ≡ length log₀) × (length block ≡ length block₀)
+Inv-loop s raw₀ full₀ log₀ bytes size header₀ from₀ i₀ raw full log header from i = (i ≤ 256) × (from ≤ length bytes) × (size ≡ 2 + 2 * s) × (length raw ≡ length raw₀) × (length full ≡ length full₀) × (length log ≡ length log₀)
 
 abbrev μ-loop : tie.MeasureT-loop
-μ-loop raw₀ full₀ log₀ block₀ bytes size header₀ from₀ i₀ raw full log block header from i = 256 - i
+μ-loop s raw₀ full₀ log₀ bytes size header₀ from₀ i₀ raw full log header from i = 256 - i
 
 mul-size : tie.Need-mul-size Inv-loop μ-loop
 mul-size c = search needs
@@ -33,9 +33,6 @@ same-length-2 c = search needs
 same-length-3 : tie.Need-same-length-3 Inv-loop μ-loop
 same-length-3 c = search needs
 
-same-length-4 : tie.Need-same-length-4 Inv-loop μ-loop
-same-length-4 c = search needs
-
 returns : tie.Need-returns Inv-loop μ-loop
 returns c = search needs
 
@@ -54,17 +51,14 @@ part-write-end c = search needs
 write-requires : tie.Need-write-requires Inv-loop μ-loop
 write-requires c κs = search needs
 
+same-length-4 : tie.Need-same-length-4 Inv-loop μ-loop
+same-length-4 c = search needs
+
 same-length-5 : tie.Need-same-length-5 Inv-loop μ-loop
 same-length-5 c = search needs
 
 same-length-6 : tie.Need-same-length-6 Inv-loop μ-loop
 same-length-6 c = search needs
-
-same-length-7 : tie.Need-same-length-7 Inv-loop μ-loop
-same-length-7 c = search needs
-
-same-length-8 : tie.Need-same-length-8 Inv-loop μ-loop
-same-length-8 c = search needs
 
 returns-2 : tie.Need-returns-2 Inv-loop μ-loop
 returns-2 c = search needs
@@ -78,8 +72,17 @@ loop-less c = search needs
 loop-again : tie.Need-loop-again Inv-loop μ-loop
 loop-again c = search needs
 
+same-length-7 : tie.Need-same-length-7 Inv-loop μ-loop
+same-length-7 c = search needs
+
+same-length-8 : tie.Need-same-length-8 Inv-loop μ-loop
+same-length-8 c = search needs
+
 same-length-9 : tie.Need-same-length-9 Inv-loop μ-loop
 same-length-9 c = search needs
+
+returns-3 : tie.Need-returns-3 Inv-loop μ-loop
+returns-3 c = search needs
 
 same-length-10 : tie.Need-same-length-10 Inv-loop μ-loop
 same-length-10 c = search needs
@@ -89,21 +92,6 @@ same-length-11 c = search needs
 
 same-length-12 : tie.Need-same-length-12 Inv-loop μ-loop
 same-length-12 c = search needs
-
-returns-3 : tie.Need-returns-3 Inv-loop μ-loop
-returns-3 c = search needs
-
-same-length-13 : tie.Need-same-length-13 Inv-loop μ-loop
-same-length-13 c = search needs
-
-same-length-14 : tie.Need-same-length-14 Inv-loop μ-loop
-same-length-14 c = search needs
-
-same-length-15 : tie.Need-same-length-15 Inv-loop μ-loop
-same-length-15 c = search needs
-
-same-length-16 : tie.Need-same-length-16 Inv-loop μ-loop
-same-length-16 c = search needs
 
 returns-4 : tie.Need-returns-4 Inv-loop μ-loop
 returns-4 c = search needs
@@ -121,28 +109,24 @@ writes-spec =
     same-length
     same-length-2
     same-length-3
-    same-length-4
     returns
     add-end
     sub-write
     part-write-start
     part-write-end
     write-requires
+    same-length-4
     same-length-5
     same-length-6
-    same-length-7
-    same-length-8
     returns-2
     add-i
     loop-less
     loop-again
+    same-length-7
+    same-length-8
     same-length-9
+    returns-3
     same-length-10
     same-length-11
     same-length-12
-    returns-3
-    same-length-13
-    same-length-14
-    same-length-15
-    same-length-16
     returns-4)
