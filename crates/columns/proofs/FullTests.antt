@@ -3,21 +3,23 @@ use mathlib.Core.Path.{_≡_, refl, sym, ap, _∙_}
 use mathlib.Core.Bool.{Bool, true, false, _&&_, and-true, and-false}
 use mathlib.Core.List.{List, _++_, append-nil}
 use Prim.Native.Nat.{ℕ, zero, suc, pred, _+_, _*_, _-_, _≤_, _<_}
+use native.Mathlib.Nat.{mul-le-mul-right}
 use native.Mathlib.Numerals.{add-one}
 use native.Mathlib.Omega.{arith}
 use lib.Dec.{eqb}
-use lib.ListN.{length, drop, replicate, drop-of-length-le}
+use lib.ListN.{length, getD, take, drop, replicate, length-drop, drop-of-length-le}
+use lib.Seq.{ext-getD, getD-take, getD-drop, length-take-le}
 use Rattle.code.specs.declared.Stripe.{Stripe}
 use Rattle.code.specs.Stripe.{blockCount, blockWords}
 use Rattle.decoder.specs.Decoding.{isConsistent, blocksIn}
-use Rattle.layout.specs.Records.{areData}
+use Rattle.layout.specs.Records.{areData, recordIn, recordsFit}
 use Rattle.layout.specs.Refusals.{ifTaken}
 use Rattle.layout.proofs.Bounds.{if-taken, if-refused, both, not-first, not-second}
-use Rattle.layout.proofs.RecordWords.{data-none, data-append}
+use Rattle.layout.proofs.RecordWords.{length-record}
 use Rattle.image.specs.Loading.{columnsOf}
 use Rattle.rows.specs.Decoding.{Decoded, failed, decoded, blockNumber, blockData, areRecords, decodedNumber, decodedWords, solved}
 use Rattle.rows.proofs.BlockRecords.{number-full}
-use Rattle.rows.proofs.ColumnRanges.{columns-all, columns-none, columns-row}
+use Rattle.rows.proofs.ColumnRanges.{columns-all, columns-row, length-columns, columns-at}
 use Rattle.rows.proofs.RowParts.{length-blocks}
 use Rattle.rows.proofs.StripeTests.{solved-nine, solved-ten, solved-blocks}
 use Rattle.columns.specs.Ranges.{placesTo, placesNumber, columnsNumber, arePlaces, allNumber, withoutFirst}
@@ -78,7 +80,7 @@ module _ (st : Stripe) (ms : List Bool) (r : List ℕ) where
       let s = solved-ten st ms r c (ap (λ (x : List ℕ). areRecords st x (blockCount st)) (sym q) ∙ a) in
       (sym (ap decodedNumber s), e ∙ ap (λ (m : ℕ). replicate m 0) (ap length q ∙ length-blocks st ms r) ∙ sym (ap (λ (x : Decoded). decodedWords x (blockWords st)) s))
 
--- ON THE FULL STRIPE numbers are places, so that the data are enough
+-- ON THE FULL STRIPE numbers are places, so that the records are what is left to test
 shuffle : (a b c d : Bool) → ((a && b) && (c && d)) ≡ ((a && c) && (d && b))
 shuffle true true c d = rw and-true
 shuffle true false c d = rw (and-false d, and-false c)
@@ -88,13 +90,30 @@ module _ (st : Stripe) (full : st .level ≡ st .k) (thick : 0 < st .width) (bs 
   pub data-row : (n : ℕ) → suc n * st .width ≤ length bs → columnsOf (st .width) 1 (pred (st .width)) (suc n) bs ≡ columnsOf (st .width) 1 (pred (st .width)) n bs ++ blockData (st .width) bs n
   data-row n b = rw (← add-one (n * st .width)) (columns-row (st .width) 1 (pred (st .width)) n bs (omega arith))
 
-  pub records-full : (n : ℕ) → n * st .width ≤ length bs → areRecords st bs n ≡ (placesTo (st .width) bs n && areData (columnsOf (st .width) 1 (pred (st .width)) n bs))
-  unfolding areRecords placesTo
-  records-full zero b = sym (ap areData (columns-none (st .width) 1 (pred (st .width)) bs) ∙ data-none)
-  records-full (suc n) b =
-      let e : areRecords st bs n ≡ (placesTo (st .width) bs n && areData (columnsOf (st .width) 1 (pred (st .width)) n bs)) = records-full n (omega arith) in
-      rw (number-full st n (blockNumber (st .width) bs n) full, e, data-row n b, data-append)
-      (shuffle (eqb (blockNumber (st .width) bs n) n) (areData (blockData (st .width) bs n)) (placesTo (st .width) bs n) (areData (columnsOf (st .width) 1 (pred (st .width)) n bs)))
+  module _ (n : ℕ) (b : n * st .width ≤ length bs) where
+    abbrev records : List ℕ
+    records = columnsOf (st .width) 1 (pred (st .width)) n bs
+
+    -- record j is the data of block j
+    record-is : (j : ℕ) → j < n → recordIn (pred (st .width)) records j ≡ blockData (st .width) bs j
+    record-is j h =
+        let s = pred (st .width) in
+        let e : suc j * st .width ≤ length bs = omega (arith, mul-le-mul-right (st .width) h) in
+        let x : length (recordIn s records j) ≡ s = length-record n s records j (length-columns (st .width) 1 s n bs) h in
+        let y : length (blockData (st .width) bs j) ≡ s = length-take-le s (drop (suc (j * st .width)) bs) (rw length-drop (omega arith)) in
+        ext-getD 0 (recordIn s records j) (blockData (st .width) bs j) (x ∙ sym y)
+        (λ i c.
+        let c′ : i < s = omega arith in
+        getD-take s (drop (j * s) records) i 0 c′ ∙ getD-drop (j * s) records i 0 ∙ columns-at (st .width) 1 s n bs j i h c′
+        ∙ ap (λ (q : ℕ). getD bs q 0) {x = j * st .width + (1 + i)} {y = suc (j * st .width) + i} (omega arith)
+        ∙ sym (getD-take s (drop (suc (j * st .width)) bs) i 0 c′ ∙ getD-drop (suc (j * st .width)) bs i 0))
+
+    pub records-full : (m : ℕ) → m ≤ n → areRecords st bs m ≡ (placesTo (st .width) bs m && recordsFit (pred (st .width)) records m)
+    unfolding areRecords placesTo recordsFit
+    records-full zero h = refl
+    records-full (suc m) h =
+        rw (number-full st m (blockNumber (st .width) bs m) full, records-full m (omega arith), record-is m (omega arith))
+        (shuffle (eqb (blockNumber (st .width) bs m) m) (areData (blockData (st .width) bs m)) (placesTo (st .width) bs m) (recordsFit (pred (st .width)) records m))
 
 -- THE RECORDS: the first column skipped
 module _ (st : Stripe) (ms : List Bool) (r : List ℕ) (full : st .level ≡ st .k) (thick : 0 < st .width) where
@@ -110,8 +129,11 @@ module _ (st : Stripe) (ms : List Bool) (r : List ℕ) (full : st .level ≡ st 
   pub lent-data : {n : ℕ} → n ≡ blockCount st * pred (st .width) → n ≡ blockCount st * (st .width - 1)
   lent-data e = e ∙ ap (λ (w : ℕ). blockCount st * w) (sym less)
 
-  tests : areRecords st bs (blockCount st) ≡ (arePlaces st ms r && areData (dataOf st bs))
-  tests = records-full st full thick bs (blockCount st) (omega (arith, length-blocks st ms r))
+  abbrev fitting : List ℕ → Bool
+  fitting o = recordsFit (pred (st .width)) o (blockCount st)
+
+  tests : areRecords st bs (blockCount st) ≡ (arePlaces st ms r && fitting (dataOf st bs))
+  tests = records-full st full thick bs (blockCount st) (omega (arith, length-blocks st ms r)) (blockCount st) (omega arith)
 
   module _ {n : ℕ} {o : List ℕ} (e : n ≡ M) (q : o ≡ ifTaken M (withoutFirst st ms r 1) (replicate (blockCount st * (st .width - 1)) 0)) where
     pub data-refused : (n ≡ 0 → ⊥) → (n ≡ decodedNumber (solved st ms r)) × (o ≡ decodedData st (solved st ms r))
@@ -124,7 +146,7 @@ module _ (st : Stripe) (ms : List Bool) (r : List ℕ) (full : st .level ≡ st 
         by false c b p = let s = solved-nine st ms r c in (e ∙ columns-fail 1 (arePlaces st ms r) c ∙ sym (ap decodedNumber s), zeros ∙ sym (ap (decodedData st) s))
         by true c true p = absurd (d (e ∙ columns-agree 1 (arePlaces st ms r) c ∙ places-skipped 1 (arePlaces st ms r) (λ z. omega arith) ∙ ap (λ (x : Bool). elim x [ true ↦ 0 | false ↦ 10 ]) p))
         by true c false p =
-            let s = solved-ten st ms r c (tests ∙ not-first (areData (dataOf st bs)) p) in
+            let s = solved-ten st ms r c (tests ∙ not-first (fitting (dataOf st bs)) p) in
             (e ∙ columns-agree 1 (arePlaces st ms r) c ∙ places-skipped 1 (arePlaces st ms r) (λ z. omega arith) ∙ ap (λ (x : Bool). elim x [ true ↦ 0 | false ↦ 10 ]) p ∙ sym (ap decodedNumber s), zeros ∙ sym (ap (decodedData st) s))
 
     module _ (z : n ≡ 0) where
@@ -141,12 +163,12 @@ module _ (st : Stripe) (ms : List Bool) (r : List ℕ) (full : st .level ≡ st 
       data-are : o ≡ dataOf st bs
       data-are = q ∙ if-taken _ _ (sym e ∙ z) ∙ ap (λ (w : ℕ). columnsOf (st .width) 1 w (blockCount st) bs) less
 
-      pub data-given : areData o ≡ true → (0 ≡ decodedNumber (solved st ms r)) × (o ≡ decodedData st (solved st ms r))
+      pub data-given : fitting o ≡ true → (0 ≡ decodedNumber (solved st ms r)) × (o ≡ decodedData st (solved st ms r))
       data-given a =
-          let s = solved-blocks st ms r agrees (tests ∙ both places (ap areData (sym data-are) ∙ a)) in
+          let s = solved-blocks st ms r agrees (tests ∙ both places (ap fitting (sym data-are) ∙ a)) in
           (sym (ap decodedNumber s), data-are ∙ sym (ap (decodedData st) s))
 
-      pub data-wrong : areData o ≡ false → {y : List ℕ} → y ≡ replicate (length o) 0 → length o ≡ blockCount st * pred (st .width) → (10 ≡ decodedNumber (solved st ms r)) × (y ≡ decodedData st (solved st ms r))
+      pub data-wrong : fitting o ≡ false → {y : List ℕ} → y ≡ replicate (length o) 0 → length o ≡ blockCount st * pred (st .width) → (10 ≡ decodedNumber (solved st ms r)) × (y ≡ decodedData st (solved st ms r))
       data-wrong a t l =
-          let s = solved-ten st ms r agrees (tests ∙ not-second (arePlaces st ms r) (ap areData (sym data-are) ∙ a)) in
+          let s = solved-ten st ms r agrees (tests ∙ not-second (arePlaces st ms r) (ap fitting (sym data-are) ∙ a)) in
           (sym (ap decodedNumber s), t ∙ ap (λ (m : ℕ). replicate m 0) l ∙ sym (ap (decodedData st) s))

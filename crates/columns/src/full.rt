@@ -91,11 +91,12 @@ pub fn recover_full(
     ensures { λ _. ⌜ now (out .exit) ≡ decodedData st (solved st (now (marks .entry)) (rowsIn st (now (marks .entry)) (now (bytes .entry)))) ⌝ }
     ensures { λ _. ⌜ now (scratch .exit) ≡ replicate (scratchWords st) 0 ⌝ }
 {
+    let rows = code::number::two_to(st.level);
     let number = decode_all(st, bytes, marks, 1, out, scratch);
     if number != 0 {
         return number;
     }
-    if layout::words::all_data(out) {
+    if layout::words::records_fit(out, st.width - 1, rows) {
         return 0;
     }
     layout::words::clear(out);

@@ -46,12 +46,8 @@ pub words-replaced : (p s : ℕ) → 0 < p → (r : List ℕ) (i : ℕ) (b : Lis
 words-replaced p s h r i b u v =
     words-append p h {a = take (i * s) r} (words-take p h (i * s) u) (words-append p h {a = b} v (words-drop p h (suc i * s) u))
 
--- data words of no list, and of two
-pub data-none : areData [] ≡ true
-unfolding areData
-data-none = refl
-
-pub data-append : (a b : List ℕ) → areData (a ++ b) ≡ (areData a && areData b)
+-- data words of two lists
+data-append : (a b : List ℕ) → areData (a ++ b) ≡ (areData a && areData b)
 unfolding areData
 data-append [] b = refl
 data-append (x ∷ a) b = rw (data-append a b, and-assoc)

@@ -13,7 +13,7 @@ use Rattle.code.specs.declared.Stripe.{Stripe}
 use Rattle.code.specs.Stripe.{blockCount, positionCount, blockWords, stripeWords}
 use Rattle.decoder.specs.Decoding.{isConsistent, blocksIn}
 use Rattle.layout.proofs.Bounds.{first, second}
-use Rattle.layout.specs.Records.{areData}
+use Rattle.layout.specs.Records.{recordsFit}
 use Rattle.image.specs.Loading.{columnsOf}
 use Rattle.rows.specs.Decoding.{Decoded, failed, decoded, blockNumber, blockData, areRecords, decodedNumber, decodedWords, solved}
 use Rattle.rows.proofs.BlockRecords.{record-at, number-low}
@@ -94,7 +94,7 @@ module _ (st : Stripe) (full : st .level ≡ st .k) (thick : 0 < st .width) (bs 
   full-laid : blockCount st * w ≤ length bs → areRecords st bs (blockCount st) ≡ true → dataOf st bs ≡ laid s bs (blockCount st) (replicate (blockCount st * s) 0)
   full-laid b a =
       let n = blockCount st in
-      let p : placesTo w bs n ≡ true = first (placesTo w bs n) (areData (dataOf st bs)) (sym (records-full st full thick bs n b) ∙ a) in
+      let p : placesTo w bs n ≡ true = first (placesTo w bs n) (recordsFit s (dataOf st bs) n) (sym (records-full st full thick bs n b n (omega arith)) ∙ a) in
       let z : length {A = ℕ} (replicate (n * s) 0) ≡ n * s = length-replicate (n * s) 0 in
       sym (laid-full n (replicate (n * s) 0) b (omega arith) p
       ∙ ap (λ (y : List ℕ). columnsOf w 1 s n bs ++ y) (drop-of-length-le (replicate (n * s) 0) {i = n * s} (omega arith)) ∙ append-nil (columnsOf w 1 s n bs))
