@@ -8,7 +8,7 @@ ghost use Rattle.field.specs.Field.{fermat};
 ghost use Rattle.field.specs.Words.{Words};
 ghost use Rattle.code.specs.Rows.{lifted};
 ghost use Rattle.code.specs.Transform.{turned};
-ghost use Rattle.code.specs.Stripe.{Numbers, modulusOf, blockWords, codedStripe};
+ghost use Rattle.code.specs.Stripe.{Numbers, modulusOf, blockCount, blockWords, codedStripe};
 ghost use Rattle.code.specs.RowTrace.{scaleRow};
 
 // Multiplies `width` words from index `at` by `g`.
@@ -24,17 +24,22 @@ pub fn scale_row(part: &mut [u32], at: usize, width: usize, g: u32)
     }
 }
 
-// Turns the rows of writes first, first + 1, ..: the row of write t is multiplied by root^rev(t).
-pub fn turn(part: &mut [u32], rows: usize, first: usize, k: usize, width: usize, root: u32)
-    requires { ⌜ length (now part) ≡ rows * width ⌝ }
-    requires { ⌜ (k ≤ 15) × (first + rows ≤ 65536) ⌝ }
-    requires { ⌜ root < fermat .modulus ⌝ }
-    requires { ⌜ Words (fermat .modulus) (now part) ⌝ }
-    ensures { λ _. ⌜ now (part .exit) ≡ lifted width rows rows (turned (fermat .modulus) root k first) (now (part .entry)) ⌝ }
+// Turns a half of a stripe: the row of write t is multiplied by w^rev(t). `w` is the stripe's root, or its inverse to turn back.
+pub fn turn(part: &mut [u32], st: Stripe, w: u32)
+    requires { ⌜ Numbers st ⌝ }
+    requires { ⌜ length (now part) ≡ blockWords st ⌝ }
+    requires { ⌜ w < modulusOf st ⌝ }
+    requires { ⌜ Words (modulusOf st) (now part) ⌝ }
+    ensures { λ _. ⌜ now (part .exit) ≡ lifted (st .width) (blockCount st) (blockCount st) (turned (modulusOf st) w (st .k) (st .first)) (now (part .entry)) ⌝ }
 {
+    // locals of their own, since the loop's invariant speaks of them
+    let first = st.first;
+    let k = st.k;
+    let width = st.width;
+    let rows = crate::number::two_to(st.level);
     let mut at = 0;
     for j in 0..rows {
-        let g = field::power(root, crate::number::reversed(k, first + j));
+        let g = field::power(w, crate::number::reversed(k, first + j));
         scale_row(part, at, width, g);
         at += width;
     }
@@ -58,10 +63,9 @@ pub fn code(part: &mut [u32], st: Stripe)
     requires { ⌜ Words (modulusOf st) (take (blockWords st) (now part)) ⌝ }
     ensures { λ _. ⌜ now (part .exit) ≡ codedStripe st (take (blockWords st) (now (part .entry))) ⌝ }
 {
-    let rows = crate::number::two_to(st.level);
-    let half = rows * st.width;
+    let half = crate::number::two_to(st.level) * st.width;
     copy_half(part, half);
-    crate::mixing::mix_all(&mut part[..half], st.level, st.k, st.width, st.root);
-    turn(&mut part[half..], rows, st.first, st.k, st.width, st.root);
-    crate::mixing::mix_all(&mut part[half..], st.level, st.k, st.width, st.root);
+    crate::mixing::mix_all(&mut part[..half], st);
+    turn(&mut part[half..], st, st.root);
+    crate::mixing::mix_all(&mut part[half..], st);
 }

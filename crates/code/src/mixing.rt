@@ -1,4 +1,5 @@
 // Mixing in place. All mixing goes through `mix`.
+use crate::Stripe;
 ghost use mathlib.Core.Path.{_≡_};
 ghost use Prim.Native.Nat.{_+_, _*_, _^_, _≤_, _<_};
 ghost use lib.ListN.{length};
@@ -6,6 +7,7 @@ ghost use Rattle.field.specs.Field.{fermat};
 ghost use Rattle.field.specs.Words.{Words};
 ghost use Rattle.code.specs.Rows.{lifted};
 ghost use Rattle.code.specs.Transform.{mixedHalves, transform};
+ghost use Rattle.code.specs.Stripe.{Numbers, modulusOf, blockCount, blockWords};
 ghost use Rattle.code.specs.MixTrace.{mixRow, eachBlock};
 
 // Mixes `width` words from index `low` with as many from index `high`, under the factor `g`.
@@ -66,14 +68,19 @@ fn mix_each(half: &mut [u32], blocks: usize, m: usize, width: usize, v: u32)
     }
 }
 
-// All mixing of a half of a stripe of 2^level rows, from single rows up.
-pub fn mix_all(half: &mut [u32], level: usize, k: usize, width: usize, root: u32)
-    requires { ⌜ (level ≤ k) × (k ≤ 15) ⌝ }
-    requires { ⌜ length (now half) ≡ 2 ^ level * width ⌝ }
-    requires { ⌜ root < fermat .modulus ⌝ }
-    requires { ⌜ Words (fermat .modulus) (now half) ⌝ }
-    ensures { λ _. ⌜ now (half .exit) ≡ lifted width (2 ^ level) (2 ^ level) (transform (fermat .modulus) root k level) (now (half .entry)) ⌝ }
+// All mixing of a half of a stripe, from single rows up.
+pub fn mix_all(half: &mut [u32], st: Stripe)
+    requires { ⌜ Numbers st ⌝ }
+    requires { ⌜ length (now half) ≡ blockWords st ⌝ }
+    requires { ⌜ Words (modulusOf st) (now half) ⌝ }
+    ensures { λ _. ⌜ now (half .exit) ≡
+        lifted (st .width) (blockCount st) (blockCount st) (transform (modulusOf st) (st .root) (st .k) (st .level)) (now (half .entry)) ⌝ }
 {
+    // locals of their own, since the loop's invariant speaks of them
+    let level = st.level;
+    let k = st.k;
+    let width = st.width;
+    let root = st.root;
     let mut blocks = crate::number::two_to(level);
     let mut exponent = crate::number::two_to(k);
     let mut m: usize = 1;

@@ -1,4 +1,5 @@
 // The inverse of mixing in place, but for a factor 2 a level.
+use crate::Stripe;
 ghost use mathlib.Core.Path.{_≡_};
 ghost use Prim.Native.Nat.{_+_, _*_, _^_, _≤_, _<_};
 ghost use lib.ListN.{length};
@@ -6,6 +7,7 @@ ghost use Rattle.field.specs.Field.{fermat};
 ghost use Rattle.field.specs.Words.{Words};
 ghost use Rattle.code.specs.Rows.{lifted};
 ghost use Rattle.code.specs.Transform.{unmixed, untransform};
+ghost use Rattle.code.specs.Stripe.{Numbers, modulusOf, blockCount, blockWords};
 ghost use Rattle.code.specs.MixTrace.{unmixRow, eachBlock};
 
 // Unmixes `width` words from index `low` and as many from index `high`, under the factor `g`.
@@ -66,14 +68,19 @@ fn unmix_each(half: &mut [u32], blocks: usize, m: usize, width: usize, v: u32)
     }
 }
 
-// The inverse of all mixing of a half, but for the factor 2^level, from all rows down; `root` is the inverse of mixing's.
-pub fn unmix_all(half: &mut [u32], level: usize, k: usize, width: usize, root: u32)
-    requires { ⌜ (level ≤ k) × (k ≤ 15) ⌝ }
-    requires { ⌜ length (now half) ≡ 2 ^ level * width ⌝ }
-    requires { ⌜ root < fermat .modulus ⌝ }
-    requires { ⌜ Words (fermat .modulus) (now half) ⌝ }
-    ensures { λ _. ⌜ now (half .exit) ≡ lifted width (2 ^ level) (2 ^ level) (untransform (fermat .modulus) root k level) (now (half .entry)) ⌝ }
+// The inverse of all mixing of a half of a stripe, but for the factor 2^level, from all rows down; `back` is the inverse of the stripe's root.
+pub fn unmix_all(half: &mut [u32], st: Stripe, back: u32)
+    requires { ⌜ Numbers st ⌝ }
+    requires { ⌜ length (now half) ≡ blockWords st ⌝ }
+    requires { ⌜ back < modulusOf st ⌝ }
+    requires { ⌜ Words (modulusOf st) (now half) ⌝ }
+    ensures { λ _. ⌜ now (half .exit) ≡
+        lifted (st .width) (blockCount st) (blockCount st) (untransform (modulusOf st) back (st .k) (st .level)) (now (half .entry)) ⌝ }
 {
+    // locals of their own, since the loop's invariant speaks of them
+    let level = st.level;
+    let k = st.k;
+    let width = st.width;
     let mut blocks: usize = 1;
     let mut m = crate::number::two_to(level);
     let mut left = level;
@@ -81,7 +88,7 @@ pub fn unmix_all(half: &mut [u32], level: usize, k: usize, width: usize, root: u
         m = m / 2;
         left = left - 1;
         let exponent = crate::number::two_to(k - left);
-        let v = field::power(root, exponent as u32);
+        let v = field::power(back, exponent as u32);
         unmix_each(half, blocks, m, width, v);
         blocks = blocks * 2;
     }

@@ -7,7 +7,7 @@ use native.Mathlib.Nat.{mul-le-mul-right}
 use native.Mathlib.Numerals.{add-one}
 use native.Mathlib.Omega.{arith}
 use lib.Dec.{eqb}
-use lib.ListN.{length, getD, take, drop, replicate, length-drop, drop-of-length-le}
+use lib.ListN.{length, getD, drop, replicate, length-drop, drop-of-length-le}
 use lib.Seq.{ext-getD, getD-take, getD-drop, length-take-le}
 use Rattle.code.specs.declared.Stripe.{Stripe}
 use Rattle.code.specs.Stripe.{blockCount, blockWords}
@@ -17,12 +17,12 @@ use Rattle.layout.specs.Refusals.{ifTaken}
 use Rattle.layout.proofs.Bounds.{if-taken, if-refused, both, not-first, not-second}
 use Rattle.layout.proofs.RecordWords.{length-record}
 use Rattle.image.specs.Loading.{columnsOf}
-use Rattle.rows.specs.Decoding.{Decoded, failed, decoded, blockNumber, blockData, areRecords, decodedNumber, decodedWords, solved}
+use Rattle.rows.specs.Decoding.{Decoded, blockNumber, blockData, areRecords, decodedNumber, decodedWords, solved}
 use Rattle.rows.proofs.BlockRecords.{number-full}
 use Rattle.rows.proofs.ColumnRanges.{columns-all, columns-row, length-columns, columns-at}
 use Rattle.rows.proofs.RowParts.{length-blocks}
 use Rattle.rows.proofs.StripeTests.{solved-nine, solved-ten, solved-blocks}
-use Rattle.columns.specs.Ranges.{placesTo, placesNumber, columnsNumber, arePlaces, allNumber, withoutFirst}
+use Rattle.columns.specs.Ranges.{placesTo, columnsNumber, arePlaces, allNumber, withoutFirst}
 use Rattle.columns.specs.Full.{dataOf, decodedData}
 use Rattle.columns.proofs.RangeCopies.{places-kept, places-skipped}
 use Rattle.columns.proofs.RangeLoop.{columns-fail, columns-agree}

@@ -5,7 +5,7 @@ use code::Stripe;
 ghost use mathlib.Core.Path.{_≡_};
 ghost use mathlib.Core.Bool.{true};
 ghost use mathlib.Core.List.{_++_};
-ghost use Prim.Native.Nat.{_+_, _*_, _-_, _^_, _≤_, _<_, suc, max};
+ghost use Prim.Native.Nat.{_+_, _*_, _-_, _≤_, _<_, max};
 ghost use lib.ListN.{length, drop};
 ghost use Rattle.code.specs.Stripe.{blockCount, positionCount, stripeWords};
 ghost use Rattle.decoder.specs.Decoding.{isConsistent};

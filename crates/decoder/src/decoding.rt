@@ -8,7 +8,7 @@ ghost use lib.ListN.{length, take, drop, replicate};
 ghost use Rattle.field.specs.Field.{fermat};
 ghost use Rattle.field.specs.Words.{Words};
 ghost use Rattle.code.specs.Rows.{lifted};
-ghost use Rattle.code.specs.Stripe.{Numbers, modulusOf, positionCount, stripeWords};
+ghost use Rattle.code.specs.Stripe.{Numbers, modulusOf, blockCount, positionCount, blockWords, stripeWords};
 ghost use Rattle.decoder.specs.Decoding.{isConsistent, leftOf};
 ghost use Rattle.decoder.specs.Decoder as Decoder;
 ghost use Rattle.code.specs.RowTrace.{stored, scaledWord};
@@ -50,11 +50,10 @@ fn split(part: &mut [u32], st: Stripe, back: u32)
     ensures { λ _. ⌜ now (part .exit) ≡
         lifted (st .width) (positionCount st) (positionCount st) (Decoder.split (modulusOf st) back (st .k) (st .level) (st .first)) (now (part .entry)) ⌝ }
 {
-    let rows = code::number::two_to(st.level);
-    let half = rows * st.width;
-    code::unmixing::unmix_all(&mut part[..half], st.level, st.k, st.width, back);
-    code::unmixing::unmix_all(&mut part[half..], st.level, st.k, st.width, back);
-    code::coding::turn(&mut part[half..], rows, st.first, st.k, st.width, back);
+    let half = code::number::two_to(st.level) * st.width;
+    code::unmixing::unmix_all(&mut part[..half], st, back);
+    code::unmixing::unmix_all(&mut part[half..], st, back);
+    code::coding::turn(&mut part[half..], st, back);
 }
 
 // Whether two rows are equal.
@@ -136,8 +135,8 @@ fn evaluate(part: &mut [u32], st: Stripe)
         lifted (st .width) (positionCount st) (positionCount st) (Decoder.evaluated (modulusOf st) (st .root) (st .k) (st .level)) (now (part .entry)) ⌝ }
 {
     let half = code::number::two_to(st.level) * st.width;
-    code::mixing::mix_all(&mut part[..half], st.level, st.k, st.width, st.root);
-    code::mixing::mix_all(&mut part[half..], st.level, st.k, st.width, st.root);
+    code::mixing::mix_all(&mut part[..half], st);
+    code::mixing::mix_all(&mut part[half..], st);
 }
 
 // g times the row at `from`, in the place of the row at `to`.
@@ -155,18 +154,22 @@ fn choose_row(part: &mut [u32], to: usize, from: usize, width: usize, g: u32)
 }
 
 // Step 5: the first half becomes the polynomial's values at the points of X, from the second half where the position is erased.
-fn choose(part: &mut [u32], marks: &[bool], level: usize, k: usize, width: usize, root: u32)
-    requires { ⌜ (level ≤ k) × (k ≤ 15) ⌝ }
-    requires { ⌜ 2 ^ suc level ≤ length (now marks) ⌝ }
-    requires { ⌜ length (now part) ≡ 2 ^ suc level * width + 2 ^ suc level ⌝ }
-    requires { ⌜ root < fermat .modulus ⌝ }
-    requires { ⌜ Words (fermat .modulus) (now part) ⌝ }
+fn choose(part: &mut [u32], marks: &[bool], st: Stripe)
+    requires { ⌜ Numbers st ⌝ }
+    requires { ⌜ positionCount st ≤ length (now marks) ⌝ }
+    requires { ⌜ length (now part) ≡ stripeWords st + positionCount st ⌝ }
+    requires { ⌜ Words (modulusOf st) (now part) ⌝ }
     ensures { λ _. ⌜ now (part .exit) ≡
-        lifted width (2 ^ suc level) (2 ^ level)
-        (Decoder.chosen (fermat .modulus) root k level (now (marks .entry)) (drop (2 ^ suc level * width) (now (part .entry))))
-        (take (2 ^ suc level * width) (now (part .entry))) ++
-        drop (2 ^ level * width) (now (part .entry)) ⌝ }
+        lifted (st .width) (positionCount st) (blockCount st)
+        (Decoder.chosen (modulusOf st) (st .root) (st .k) (st .level) (now (marks .entry)) (drop (stripeWords st) (now (part .entry))))
+        (take (stripeWords st) (now (part .entry))) ++
+        drop (blockWords st) (now (part .entry)) ⌝ }
 {
+    // locals of their own, since the loop's invariant speaks of them
+    let level = st.level;
+    let k = st.k;
+    let width = st.width;
+    let root = st.root;
     let rows = code::number::two_to(level);
     let half = rows * width;
     let base = half + half;
@@ -239,8 +242,8 @@ pub fn decode(part: &mut [u32], marks: &[bool], st: Stripe) -> bool
     }
     derive(&mut part[..all], level, width);
     evaluate(&mut part[..all], st);
-    choose(part, marks, level, st.k, width, st.root);
-    code::unmixing::unmix_all(&mut part[..half], level, st.k, width, back);
+    choose(part, marks, st);
+    code::unmixing::unmix_all(&mut part[..half], st, back);
     clear(part, half, all);
     true
 }

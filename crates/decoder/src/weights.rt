@@ -12,12 +12,16 @@ ghost use Rattle.code.specs.Stripe.{Numbers, modulusOf, positionCount};
 ghost use Rattle.code.specs.RowTrace.{weighedBy};
 
 // Stores the points of all positions at the start: those of X, then those of Y.
-fn points(part: &mut [u32], level: usize, k: usize, root: u32)
-    requires { ⌜ (level ≤ k) × (k ≤ 15) ⌝ }
-    requires { ⌜ 2 ^ suc level ≤ length (now part) ⌝ }
-    requires { ⌜ root < fermat .modulus ⌝ }
-    ensures { λ _. ⌜ now (part .exit) ≡ table (2 ^ suc level) (pointAt (fermat .modulus) root k level) ++ drop (2 ^ suc level) (now (part .entry)) ⌝ }
+fn points(part: &mut [u32], st: Stripe)
+    requires { ⌜ Numbers st ⌝ }
+    requires { ⌜ positionCount st ≤ length (now part) ⌝ }
+    ensures { λ _. ⌜ now (part .exit) ≡
+        table (positionCount st) (pointAt (modulusOf st) (st .root) (st .k) (st .level)) ++ drop (positionCount st) (now (part .entry)) ⌝ }
 {
+    // locals of their own, since the loop's invariant speaks of them
+    let level = st.level;
+    let k = st.k;
+    let root = st.root;
     let half = code::number::two_to(level);
     let u = field::power(root, code::number::two_to(k - level) as u32);
     let v = field::mul(u, u);
@@ -76,7 +80,7 @@ pub fn weights(part: &mut [u32], marks: &[bool], st: Stripe)
     let root = st.root;
     let count = code::number::two_to(level + 1);
     let base = part.len() - count;
-    points(part, level, k, root);
+    points(part, st);
     ones(part, base, count);
     for j in 0..count {
         if marks[j] {

@@ -1,7 +1,7 @@
 // The lines of a listing: one for each position of a stripe.
 use crate::text;
 ghost use mathlib.Core.Path.{_≡_};
-ghost use Prim.Native.Nat.{_+_, _*_, _≤_, _<_};
+ghost use Prim.Native.Nat.{_+_, _≤_, _<_};
 ghost use lib.ListN.{length};
 
 // One position: the stripe's name, the position, its words.

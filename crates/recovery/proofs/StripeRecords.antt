@@ -1,17 +1,17 @@
 -- The full stripe's records and a level's blocks, as the steps that work with a stripe's numbers, marks and bytes leave them. Assumes nothing.
-use mathlib.Core.Path.{_≡_, refl, sym, ap, ap₂, _∙_}
-use mathlib.Core.Bool.{Bool, true}
+use mathlib.Core.Path.{_≡_, refl, sym, ap, _∙_}
+use mathlib.Core.Bool.{Bool}
 use mathlib.Core.List.{List}
-use Prim.Native.Nat.{ℕ, pred, _+_, _*_, _^_, _≤_, _<_}
+use Prim.Native.Nat.{ℕ, pred, _*_, _^_}
 use native.Mathlib.Omega.{arith}
-use lib.ListN.{length, replicate}
+use lib.ListN.{replicate}
 use Rattle.code.specs.declared.Stripe.{Stripe}
 use Rattle.code.specs.Stripe.{blockCount}
 use Rattle.layout.specs.declared.Header.{Header}
-use Rattle.layout.specs.Header.{headerFits, count, rawSize, stripeOf}
+use Rattle.layout.specs.Header.{rawSize, stripeOf}
 use Rattle.image.specs.Erasures.{Erasure, marksOf}
 use Rattle.image.specs.Loading.{stripeIn, rowsIn}
-use Rattle.rows.specs.Decoding.{Decoded, decodedNumber, readyNumber, solved}
+use Rattle.rows.specs.Decoding.{Decoded, decodedNumber, solved}
 use Rattle.columns.specs.Full.{decodedData}
 use Rattle.stripe.specs.Decoding.{decodeStripe}
 use Rattle.stripe.proofs.StripeAnswers.{Handed, readyOf, unready-is, same-solved, numbers-fit, is-full}

@@ -9,11 +9,11 @@ use native.Mathlib.Omega.{arith}
 use borrow.Rule.Slice.PartMut.{putMid}
 use lib.Dec.{lit<}
 use lib.ListN.{length, take, drop, replicate, length-append, length-replicate, length-drop, drop-of-length-le, replicate-append-replicate}
-use lib.Seq.{take-at, drop-at, length-take-le, drop-drop}
+use lib.Seq.{take-at, drop-at, length-take-le}
 use Rattle.field.specs.Words.{Words, table}
 use Rattle.field.proofs.WordLists.{length-table, words-append}
 use Rattle.code.specs.declared.Stripe.{Stripe}
-use Rattle.code.specs.Stripe.{modulusOf, blockCount, positionCount, blockWords, stripeWords, Numbers}
+use Rattle.code.specs.Stripe.{modulusOf, positionCount, blockWords, stripeWords, Numbers}
 use Rattle.decoder.specs.Decoding.{pointAt, isConsistent, blocksIn, leftOf}
 use Rattle.decoder.specs.Decoder.{weightAt, weightsIn}
 use Rattle.decoder.proofs.DecodeRows.{leaves-blocks, leaves-zeros}

@@ -1,5 +1,5 @@
 -- The tests of one stripe: 7 and 8 before it is decoded, 9 and 10 after, and what `decodeMarked` of specs/Decoding is by each. Assumes nothing.
-use mathlib.Core.Path.{_≡_, refl, sym, _∙_}
+use mathlib.Core.Path.{_≡_, refl}
 use mathlib.Core.Bool.{Bool, true, false}
 use mathlib.Core.List.{List}
 use Prim.Native.Nat.{ℕ, _≤_, _<_}

@@ -11,7 +11,7 @@ use lib.ListN.{length, take, drop, replicate, length-replicate}
 use lib.Seq.{take-all, take-add}
 use borrow.Author.Tests.{eqb-true, eqb-false}
 use Rattle.layout.specs.declared.Header.{Header}
-use Rattle.layout.specs.Header.{rawSize, imageSize, isFilled}
+use Rattle.layout.specs.Header.{rawSize, isFilled}
 use Rattle.store.specs.Buffers.{fullStripe, blocksOf}
 use Rattle.image.specs.Image.{imageOf}
 use Rattle.image.specs.Erasures.{erasuresIn}

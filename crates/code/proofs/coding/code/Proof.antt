@@ -93,11 +93,7 @@ after-turn c =
 turned-half : (c : tie.After-turn) → let at-two = turn-two c in
     let a = stripe at-two in
     c .turn .last .0 ≡ lifted (a .width) (2 ^ a .level) (2 ^ a .level) (turned 65537 (a .root) (a .k) (a .first)) (blocks at-two)
-turned-half c =
-    let at-two = turn-two c in
-    let a = stripe at-two in
-    c .turn .ensures ∙ ap (lifted _ _ _ _) (lent-rest (mixed-parts (turn-mix c)))
-    ∙ ap (λ (n : ℕ). lifted (a .width) n n (turned 65537 (a .root) (a .k) (a .first)) (blocks at-two)) (at-two .two-to .ensures)
+turned-half c = c .turn .ensures ∙ ap (lifted _ _ _ _) (lent-rest (mixed-parts (turn-mix c)))
 
 turned-parts : (c : tie.After-turn) → let at-two = turn-two c in
     Parts (half at-two) (after-turn c) (turn-mix c .mix-all .last .0) (c .turn .last .0)
@@ -124,13 +120,8 @@ mix-all-requires : tie.Need-mix-all-requires
 mix-all-requires c κs =
     let at-copy = c .before .before .before in
     let at-two = copy-two at-copy in
-    let pre = start at-two .pre in (
-      (pre .0 .within, pre .0 .small),
-      (
-        ap length (lent-front (copied at-copy)) ∙ length-blocks at-two ∙ half-is at-two,
-        (pre .0 .rooted .small, rw (lent-front (copied at-copy)) (rw (half-is at-two) (pre .1 .1))),
-      ),
-    )
+    let pre = start at-two .pre in
+    (pre .0, (ap length (lent-front (copied at-copy)) ∙ length-blocks at-two ∙ half-is at-two, rw (lent-front (copied at-copy)) (rw (half-is at-two) (pre .1 .1))))
 
 mul-turn : tie.Need-mul-turn
 mul-turn c = omega (arith, long (mix-two (c .before .before)))
@@ -148,13 +139,8 @@ turn-requires : tie.Need-turn-requires
 turn-requires c κs =
     let at-mix = c .before .before .before in
     let at-two = mix-two at-mix in
-    let pre = start at-two .pre in (
-      ap length (lent-rest (mixed-parts at-mix)) ∙ length-blocks at-two,
-      (
-        (pre .0 .small, omega (arith, at-two .two-to .ensures, pre .0 .ends)),
-        (pre .0 .rooted .small, rw (lent-rest (mixed-parts at-mix)) (rw (half-is at-two) (pre .1 .1))),
-      ),
-    )
+    let pre = start at-two .pre in
+    (pre .0, (ap length (lent-rest (mixed-parts at-mix)) ∙ length-blocks at-two ∙ half-is at-two, (pre .0 .rooted .small, rw (lent-rest (mixed-parts at-mix)) (rw (half-is at-two) (pre .1 .1)))))
 
 mul-mix-all : tie.Need-mul-mix-all
 mul-mix-all c = omega (arith, long (turn-two (c .before .before)))
@@ -174,7 +160,7 @@ mix-all-requires-2 c κs =
     let at-two = turn-two at-turn in
     let pre = start at-two .pre in
     let e = lent-rest (turned-parts at-turn) ∙ turned-half at-turn in
-    ((pre .0 .within, pre .0 .small), (ap length e ∙ length-lifted _ _ _ _ _, (pre .0 .rooted .small, rw e (words-lifted 65537 _ _ _ _ _ (lit< tt) (λ j b. words-turned 65537 (lit< tt) _ _ _ _)))))
+    (pre .0, (ap length e ∙ length-lifted _ _ _ _ _, rw e (words-lifted 65537 _ _ _ _ _ (lit< tt) (λ j b. words-turned 65537 (lit< tt) _ _ _ _))))
 
 same-length : tie.Need-same-length
 same-length c = search needs

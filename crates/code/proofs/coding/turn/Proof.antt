@@ -24,32 +24,43 @@ unfoldable factor : (w k first i : ℕ) → ℕ
 factor w k t i = power 65537 w (reversed k (t + i))
 
 abbrev Inv-loop : tie.InvT-loop
-Inv-loop part₀ rows first k width root at₀ j₀ part at j = StoringRows 0 (scaledRowsWord 65537 width (factor root k first) part₀) rows width part₀ part at j
+Inv-loop part₀ w first k width rows at₀ j₀ part at j = StoringRows 0 (scaledRowsWord 65537 width (factor w k first) part₀) rows width part₀ part at j
 
 abbrev μ-loop : tie.MeasureT-loop
-μ-loop part₀ rows first k width root at₀ j₀ part at j = rows - j
+μ-loop part₀ w first k width rows at₀ j₀ part at j = rows - j
+
+two-to-requires : tie.Need-two-to-requires Inv-loop μ-loop
+two-to-requires c κs = omega (arith, c .before .pre .0 .within, c .before .pre .0 .small)
 
 loop-holds : tie.Need-loop-holds Inv-loop μ-loop
 loop-holds c = storing-rows-start _ _ _ _ _
 
+-- the arguments, and the words of the part
+abbrev start : tie.In-loop Inv-loop μ-loop → tie.Start Inv-loop μ-loop
+start c = c .before .before .before .before
+
+long : (c : tie.In-loop Inv-loop μ-loop) → length (start c .args .part .now) ≡ c .before .before .two-to .result * start c .args .st .width
+long c = start c .pre .1 .0 ∙ sym (ap (λ (n : ℕ). n * start c .args .st .width) (c .before .before .two-to .ensures))
+
 add-reversed : tie.Need-add-reversed Inv-loop μ-loop
-add-reversed c = omega arith
+add-reversed c = omega (arith, start c .pre .0 .ends, c .before .before .two-to .ensures)
 
 reversed-requires : tie.Need-reversed-requires Inv-loop μ-loop
-reversed-requires c κs = omega arith
+reversed-requires c κs = omega (arith, start c .pre .0 .small)
 
 power-requires : tie.Need-power-requires Inv-loop μ-loop
-power-requires c κs = omega arith
+power-requires c κs = start (c .before) .pre .1 .1 .0
 
 -- row j ends within the part
-room : (c : tie.In-loop Inv-loop μ-loop) → c .before .loop .at + c .before .before .before .args .width ≤ length (c .before .loop .part)
-room c = omega (arith, storing-rows-room (c .before .loop .inv) (c .loop-test .taken), c .before .loop .inv .same, c .before .before .before .pre .0)
+room : (c : tie.In-loop Inv-loop μ-loop) → c .before .loop .at + start c .args .st .width ≤ length (c .before .loop .part)
+room c = omega (arith, storing-rows-room (c .before .loop .inv) (c .loop-test .taken), c .before .loop .inv .same, long c)
 
 scale-row-requires : tie.Need-scale-row-requires Inv-loop μ-loop
 scale-row-requires c κs =
     let at-test = c .before .before .before in
-    let s = at-test .before .before .before in
-    (room at-test, (rw (c .before .power .ensures) (power-lt 65537 (lit< tt) _ _), scaling-words 65537 (s .args .width) (factor (s .args .root) (s .args .k) (s .args .first)) (at-test .before .loop .inv) (lit< tt) (s .pre .1 .1 .1)))
+    let s = start at-test in
+    let st = s .args .st in
+    (room at-test, (rw (c .before .power .ensures) (power-lt 65537 (lit< tt) _ _), scaling-words 65537 (st .width) (factor (s .args .w) (st .k) (st .first)) (at-test .before .loop .inv) (lit< tt) (s .pre .1 .1 .1)))
 
 add-at : tie.Need-add-at Inv-loop μ-loop
 add-at c = omega (arith, room (c .before .before .before .before .before .before))
@@ -66,9 +77,9 @@ loop-again c =
     let at-row = c .before .before in
     let at-power = at-row .before .before in
     let at-test = at-power .before .before in
-    let a = at-test .before .before .before .args in
-    scaling-turn 65537 (a .width) (factor (a .root) (a .k) (a .first)) (at-test .before .loop .inv) (at-test .loop-test .taken)
-    (at-power .power .ensures ∙ ap (power 65537 (a .root)) (at-power .before .reversed .ensures)) (at-row .scale-row .ensures)
+    let a = start at-test .args in
+    scaling-turn 65537 (a .st .width) (factor (a .w) (a .st .k) (a .st .first)) (at-test .before .loop .inv) (at-test .loop-test .taken)
+    (at-power .power .ensures ∙ ap (power 65537 (a .w)) (at-power .before .reversed .ensures)) (at-row .scale-row .ensures)
 
 -- all rows turned
 turned-rows : (rows first k width root : ℕ) (l : List ℕ) → length l ≡ rows * width
@@ -84,9 +95,12 @@ same-length c = c .before .loop .inv .same
 
 returns : tie.Need-returns Inv-loop μ-loop
 returns c =
-    let s = c .before .before .before in
+    let s = c .before .before .before .before in
     let a = s .args in
-    storing-rows-done (c .before .loop .inv) (c .loop-test .left) ∙ turned-rows (a .rows) (a .first) (a .k) (a .width) (a .root) (a .part .now) (s .pre .0)
+    let e = c .before .before .two-to .ensures in
+    storing-rows-done (c .before .loop .inv) (c .loop-test .left)
+    ∙ turned-rows (c .before .before .two-to .result) (a .st .first) (a .st .k) (a .st .width) (a .w) (a .part .now) (s .pre .1 .0 ∙ sym (ap (λ (n : ℕ). n * a .st .width) e))
+    ∙ ap (λ (n : ℕ). lifted (a .st .width) n n (turned 65537 (a .w) (a .st .k) (a .st .first)) (a .part .now)) e
 
 pub turn-spec : {M : Type 1} → statement M
 turn-spec =
@@ -94,6 +108,7 @@ turn-spec =
     (tie.spec
     Inv-loop
     μ-loop
+    two-to-requires
     loop-holds
     add-reversed
     reversed-requires

@@ -117,17 +117,17 @@ two-to-requires-2 c κs = omega arith
 loop-holds : tie.Need-loop-holds Inv-loop μ-loop
 loop-holds c =
     let p = c .before .before .before .pre in
-    start (p .0) (p .1 .0) (p .1 .1 .1) (c .before .two-to .ensures) (c .two-to2 .ensures)
+    start (p .0 .within, p .0 .small) (p .1 .0) (p .1 .1) (c .before .two-to .ensures) (c .two-to2 .ensures)
 
 here : (c : tie.In-loop Inv-loop μ-loop)
-    → Level (c .before .before .before .before .before .args .width) (c .before .before .before .before .before .args .level) (c .before .loop .l) (length (c .before .loop .half)) (c .before .loop .blocks / 2) (c .before .loop .m)
+    → Level (c .before .before .before .before .before .args .st .width) (c .before .before .before .before .before .args .st .level) (c .before .loop .l) (length (c .before .loop .half)) (c .before .loop .blocks / 2) (c .before .loop .m)
 here c = level-in (c .before .loop .inv) (c .loop-test .taken)
 
 cast-power : tie.Need-cast-power Inv-loop μ-loop
-cast-power c = omega (arith, pow-mono {i = c .before .before .before .before .before .args .k - c .before .loop .l} {j = 16} (omega arith))
+cast-power c = omega (arith, pow-mono {i = c .before .before .before .before .before .args .st .k - c .before .loop .l} {j = 16} (omega arith))
 
 power-requires : tie.Need-power-requires Inv-loop μ-loop
-power-requires c κs = omega arith
+power-requires c κs = c .before .before .before .before .before .pre .0 .rooted .small
 
 mix-each-requires : tie.Need-mix-each-requires Inv-loop μ-loop
 mix-each-requires c κs =

@@ -92,10 +92,10 @@ module _ {half₀ : List ℕ} {level k width root : ℕ} {half : List ℕ} {bloc
       sym (rows-id width blocks half (rw b (h .same ∙ h .long))) ∙ (rw z at (h .rest))
 
 abbrev Inv-loop : tie.InvT-loop
-Inv-loop half₀ level k width root blocks₀ m₀ left₀ half blocks m left = Inv half₀ level k width root half blocks m left
+Inv-loop half₀ back level k width blocks₀ m₀ left₀ half blocks m left = Inv half₀ level k width back half blocks m left
 
 abbrev μ-loop : tie.MeasureT-loop
-μ-loop half₀ level k width root blocks₀ m₀ left₀ half blocks m left = left
+μ-loop half₀ back level k width blocks₀ m₀ left₀ half blocks m left = left
 
 two-to-requires : tie.Need-two-to-requires Inv-loop μ-loop
 two-to-requires c κs = omega arith
@@ -103,10 +103,10 @@ two-to-requires c κs = omega arith
 loop-holds : tie.Need-loop-holds Inv-loop μ-loop
 loop-holds c =
     let p = c .before .before .pre in
-    start (p .0) (p .1 .0) (p .1 .1 .1) (c .two-to .ensures)
+    start (p .0 .within, p .0 .small) (p .1 .0) (p .1 .1 .1) (c .two-to .ensures)
 
 here : (c : tie.In-loop Inv-loop μ-loop)
-    → Level (c .before .before .before .before .args .width) (c .before .before .before .before .args .level) (c .before .loop .left - 1) (length (c .before .loop .half)) (c .before .loop .blocks) (c .before .loop .m / 2)
+    → Level (c .before .before .before .before .args .st .width) (c .before .before .before .before .args .st .level) (c .before .loop .left - 1) (length (c .before .loop .half)) (c .before .loop .blocks) (c .before .loop .m / 2)
 here c = level-in (c .before .loop .inv) (c .loop-test .taken)
 
 sub-left : tie.Need-sub-left Inv-loop μ-loop
@@ -119,7 +119,7 @@ two-to-requires-2 : tie.Need-two-to-requires-2 Inv-loop μ-loop
 two-to-requires-2 c κs = omega arith
 
 cast-power : tie.Need-cast-power Inv-loop μ-loop
-cast-power c = omega (arith, c .two-to2 .ensures, pow-mono {i = c .before .before .before .before .before .args .k - (c .before .before .loop .left - 1)} {j = 16} (omega arith))
+cast-power c = omega (arith, c .two-to2 .ensures, pow-mono {i = c .before .before .before .before .before .args .st .k - (c .before .before .loop .left - 1)} {j = 16} (omega arith))
 
 power-requires : tie.Need-power-requires Inv-loop μ-loop
 power-requires c κs = omega arith

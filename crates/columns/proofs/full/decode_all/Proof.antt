@@ -1,12 +1,11 @@
 -- `columns::full::decode_all` meets its contract. Assumes nothing.
-use mathlib.Core.Path.{_≡_, sym, ap, _∙_}
+use mathlib.Core.Path.{sym, ap, _∙_}
 use Prim.Native.Nat.{ℕ, _*_, _-_}
 use native.Mathlib.Omega.{arith}
 use borrow.Author.Needs.{needs}
 use lib.ListN.{replicate}
 use Rattle.code.specs.Stripe.{blockCount}
 use Rattle.layout.proofs.Bounds.{if-taken, if-refused}
-use Rattle.image.specs.Loading.{rowsIn}
 use Rattle.columns.proofs.FullTests.{filled, zero-agrees}
 use Rattle.columns.proofs.full.decode_all.Statement.{statement}
 use Rattle.columns.proofs.full.decode_all.Tie as tie

@@ -1,13 +1,13 @@
 -- `columns::ranges::decode_range` meets its contract. Assumes nothing.
 use mathlib.Core.Path.{_≡_, refl, sym, _∙_}
 use mathlib.Core.Bool.{false≢true}
-use Prim.Native.Nat.{_+_, _*_, _-_, max}
+use Prim.Native.Nat.{_+_, _*_, _-_}
 use native.Mathlib.Omega.{arith}
 use borrow.Author.Needs.{needs}
 use borrow.Author.Tests.{not-true, not-false}
 use borrow.Rule.Slice.PartMut.{putMid}
 use lib.ListN.{length, take, drop}
-use Rattle.code.specs.Stripe.{blockCount, positionCount}
+use Rattle.code.specs.Stripe.{positionCount}
 use Rattle.image.specs.Loading.{rowsIn}
 use Rattle.columns.specs.Ranges.{scratchWords, isConsistentRange, arePlaces, rangeTaken, rangeNumber}
 use Rattle.columns.proofs.ScratchTails.{Tail, span, half-span, scratch-low, tail-long, tail-weights, put-weights, lent-again}

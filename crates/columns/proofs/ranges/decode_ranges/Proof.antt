@@ -4,7 +4,6 @@ use mathlib.Core.Bool.{false≢true}
 use mathlib.Core.Logic.{⊎-elim}
 use Prim.Native.Nat.{_-_, _<_}
 use native.Mathlib.Omega.{arith}
-use borrow.Author.Needs.{needs}
 use lib.ListN.{length}
 use Rattle.image.specs.Loading.{rowsIn}
 use Rattle.columns.proofs.RangeLoop.{Ranging, ranging-start, ranging-first, ranging-later, ranging-fails, ranging-agrees, ranging-number, ranging-rows, columns-fail, columns-agree}

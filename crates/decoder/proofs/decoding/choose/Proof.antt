@@ -104,18 +104,19 @@ abbrev μ-loop : tie.MeasureT-loop
 
 -- the count of rows, and the length
 small : (c : tie.After-two-to Inv-loop μ-loop) → c .two-to .result ≤ 32768
-small c = omega (arith, c .two-to .ensures, pow-mono {i = c .before .before .before .args .level} {j = 15} (omega arith))
+small c = omega (arith, c .two-to .ensures, pow-mono {i = c .before .before .before .args .st .level} {j = 15} (omega arith))
 
 long : (c : tie.After-two-to Inv-loop μ-loop) → let n = c .two-to .result in
-    let a = c .before .before .before .args in length (a .part .now) ≡ n * a .width + n * a .width + (n + n)
+    let a = c .before .before .before .args in length (a .part .now) ≡ n * a .st .width + n * a .st .width + (n + n)
 long c =
     let a = c .before .before .before .args in
-    c .before .before .before .pre .1 .1 .0 ∙ rw (c .two-to .ensures) (omega (arith, two-halves (a .level) (a .width)))
+    let e : length (a .part .now) ≡ 2 ^ suc (a .st .level) * a .st .width + 2 ^ suc (a .st .level) = c .before .before .before .pre .1 .1 .0 in
+    e ∙ rw (c .two-to .ensures) (omega (arith, two-halves (a .st .level) (a .st .width)))
 
 picked : (c : tie.Joined1 Inv-loop μ-loop) → let loop = c .before .before .before .before in
     let mul = loop .before .before .before in
     let a = mul .before .before .before .before .args in
-    Picked (a .part .now) (a .marks .now) (a .level) (a .k) (a .width) (a .root) (mul .before .two-to .result) (mul .mul .result) (loop .loop .part) (loop .loop .at) (loop .loop .i) (c .if1 .d) (c .if1 .from)
+    Picked (a .part .now) (a .marks .now) (a .st .level) (a .st .k) (a .st .width) (a .st .root) (mul .before .two-to .result) (mul .mul .result) (loop .loop .part) (loop .loop .at) (loop .loop .i) (c .if1 .d) (c .if1 .from)
 picked c =
     let at = c .before .before .before in
     let h = at .before .loop .inv in
@@ -147,10 +148,10 @@ two-to-requires-2 : tie.Need-two-to-requires-2 Inv-loop μ-loop
 two-to-requires-2 c κs = omega arith
 
 cast-power : tie.Need-cast-power Inv-loop μ-loop
-cast-power c = let a = c .before .before .before .before .before .args in omega (arith, c .two-to2 .ensures, pow-mono {i = a .k - a .level} {j = 15} (omega arith))
+cast-power c = let a = c .before .before .before .before .before .args in omega (arith, c .two-to2 .ensures, pow-mono {i = a .st .k - a .st .level} {j = 15} (omega arith))
 
 power-requires : tie.Need-power-requires Inv-loop μ-loop
-power-requires c κs = omega arith
+power-requires c κs = c .before .before .before .before .before .pre .0 .rooted .small
 
 loop-holds : tie.Need-loop-holds Inv-loop μ-loop
 loop-holds c =
@@ -161,9 +162,9 @@ loop-holds c =
       rows-is = two .two-to .ensures;
       long = long two;
       square-is = c .before .before .mul .ensures ∙ rw (two .two-to .ensures);
-      u-is = c .power .ensures ∙ ap (power 65537 (a .root)) (c .before .two-to2 .ensures ∙ sym (two-div (a .k) (a .level) (s .pre .0 .0)));
-      words₀ = s .pre .1 .1 .1 .1;
-      storing = storing-rows-start 0 (chooseWord 65537 (a .root) (a .k) (a .level) (a .width) (a .marks .now) (a .part .now)) (two .two-to .result) (a .width) (a .part .now);
+      u-is = c .power .ensures ∙ ap (power 65537 (a .st .root)) (c .before .two-to2 .ensures ∙ sym (two-div (a .st .k) (a .st .level) (s .pre .0 .within)));
+      words₀ = s .pre .1 .1 .1;
+      storing = storing-rows-start 0 (chooseWord 65537 (a .st .root) (a .st .k) (a .st .level) (a .st .width) (a .marks .now) (a .part .now)) (two .two-to .result) (a .st .width) (a .part .now);
     }
 
 add-x : tie.Need-add-x Inv-loop μ-loop
@@ -176,7 +177,10 @@ slice-read-d : tie.Need-slice-read-d Inv-loop μ-loop
 slice-read-d c = let h = c .before .before .loop .inv in omega (arith, h .long, h .storing .same)
 
 shared-slice-read-if1 : tie.Need-shared-slice-read-if1 Inv-loop μ-loop
-shared-slice-read-if1 c = omega (arith, c .before .before .before .loop .inv .rows-is)
+shared-slice-read-if1 c =
+    let s = c .before .before .before .before .before .before .before .before .before .before in
+    let e : 2 ^ suc (s .args .st .level) ≤ length (s .args .marks .now) = s .pre .1 .0 in
+    omega (arith, c .before .before .before .loop .inv .rows-is)
 
 mul-power : tie.Need-mul-power Inv-loop μ-loop
 mul-power c = omega (arith, small (c .before .before .before .before .before .before .before .before))
@@ -239,7 +243,7 @@ returns c =
     let s = c .before .before .before .before .before .before .before .before in
     let a = s .args in
     storing-rows-done (h .storing) (c .loop-test .left)
-    ∙ rw (h .rows-is) (choose-rows 65537 (a .root) (a .k) (a .level) (a .width) (a .marks .now) (a .part .now) (omega (arith, s .pre .1 .1 .0)))
+    ∙ rw (h .rows-is) (choose-rows 65537 (a .st .root) (a .st .k) (a .st .level) (a .st .width) (a .marks .now) (a .part .now) (omega (arith, s .pre .1 .1 .0)))
 
 pub choose-spec : {M : Type 1} → statement M
 choose-spec =

@@ -239,7 +239,7 @@ choose-requires c κs =
     let two = evaluate-two at in
     let s = start two in
     let h = evaluate-holds at in
-    ((s .pre .0 .within, s .pre .0 .small), (s .pre .1 .0 .0, (length-holds h ∙ ap₂ _+_ (all-is two) (length-weights s), (s .pre .0 .rooted .small, words-part h (sound s) (weights-words s)))))
+    (s .pre .0, (s .pre .1 .0 .0, (length-holds h ∙ ap₂ _+_ (all-is two) (length-weights s), words-part h (sound s) (weights-words s))))
 
 slice-relend-prefix-unmix-all : tie.Need-slice-relend-prefix-unmix-all
 slice-relend-prefix-unmix-all c = fits (choose-holds (c .before .before))
@@ -252,7 +252,7 @@ unmix-all-requires c κs =
     let at = c .before .before .before in
     let s = start (choose-two at) in
     let h = choose-holds at in
-    ((s .pre .0 .within, s .pre .0 .small), (sized h, (back-lt (choose-inverse at), words-lent h (sound s))))
+    (s .pre .0, (sized h, (back-lt (choose-inverse at), words-lent h (sound s))))
 
 clear-requires-2 : tie.Need-clear-requires-2
 clear-requires-2 c κs = (omega arith, omega (arith, unmix-long (c .before .before .before)))

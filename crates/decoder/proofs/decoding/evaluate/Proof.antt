@@ -74,7 +74,7 @@ mix-all-requires : tie.Need-mix-all-requires
 mix-all-requires c κs =
     let two = c .before .before in
     let pre = start two .pre in
-    ((pre .0 .within, pre .0 .small), (halves two .long ∙ half-is two, (pre .0 .rooted .small, words-take 65537 (lit< tt) (half two) (pre .1 .1))))
+    (pre .0, (halves two .long ∙ half-is two, words-take 65537 (lit< tt) (half two) (pre .1 .1)))
 
 mul-mix-all : tie.Need-mul-mix-all
 mul-mix-all c = omega (arith, long (mix-two (c .before .before)))
@@ -93,7 +93,7 @@ mix-all-requires-2 c κs =
     let mix = c .before .before .before in
     let two = mix-two mix in
     let pre = start two .pre in
-    ((pre .0 .within, pre .0 .small), (ap length (lent-rest (mixed mix)) ∙ second two, (pre .0 .rooted .small, rw (lent-rest (mixed mix)) (words-drop 65537 (lit< tt) (half two) (pre .1 .1)))))
+    (pre .0, (ap length (lent-rest (mixed mix)) ∙ second two, rw (lent-rest (mixed mix)) (words-drop 65537 (lit< tt) (half two) (pre .1 .1))))
 
 same-length : tie.Need-same-length
 same-length c = search needs

@@ -101,7 +101,7 @@ unmix-all-requires : tie.Need-unmix-all-requires
 unmix-all-requires c κs =
     let two = c .before .before in
     let pre = start two .pre in
-    ((pre .0 .within, pre .0 .small), (halves two .long ∙ half-is two, (pre .1 .1 .0, words-take 65537 (lit< tt) (half two) (pre .1 .1 .1))))
+    (pre .0, (halves two .long ∙ half-is two, (pre .1 .1 .0, words-take 65537 (lit< tt) (half two) (pre .1 .1 .1))))
 
 mul-unmix-all : tie.Need-mul-unmix-all
 mul-unmix-all c = omega (arith, long (first-two (c .before .before)))
@@ -121,7 +121,7 @@ unmix-all-requires-2 c κs =
     let two = first-two first in
     let pre = start two .pre in
     let e = lent-rest (once-parts first) in
-    ((pre .0 .within, pre .0 .small), (ap length e ∙ second two ∙ half-is two, (pre .1 .1 .0, rw e (words-drop 65537 (lit< tt) (half two) (pre .1 .1 .1)))))
+    (pre .0, (ap length e ∙ second two ∙ half-is two, (pre .1 .1 .0, rw e (words-drop 65537 (lit< tt) (half two) (pre .1 .1 .1)))))
 
 mul-turn : tie.Need-mul-turn
 mul-turn c = omega (arith, long (again-two (c .before .before)))
@@ -143,9 +143,9 @@ turn-requires c κs =
     let back = start two .args .back in
     let pre = start two .pre in
     let e = lent-rest (twice-parts again) ∙ unmixed again in (
-      ap length e ∙ length-lifted _ _ _ _ _ ∙ sym (half-is two),
+      pre .0,
       (
-        (pre .0 .small, omega (arith, two .two-to .ensures, pre .0 .ends)),
+        ap length e ∙ length-lifted _ _ _ _ _,
         (
           pre .1 .1 .0,
           rw e (words-lifted 65537 (a .width) (2 ^ a .level) (2 ^ a .level) (untransform 65537 back (a .k) (a .level)) (drop (half two) (rows two)) (lit< tt)
@@ -168,7 +168,7 @@ returns c =
     put-rest (twice-parts again) (turn .turn .last .0) .is
     ∙ both back (a .k) (a .level) (a .first) (a .width) (half two) (rows two) (first .unmix-all .last .0) (again .unmix-all2 .last .0) (turn .turn .last .0) (start two .pre .1 .0)
     (half-is two) (first .unmix-all .ensures) (unmixed again)
-    (turn .turn .ensures ∙ ap (lifted _ _ _ _) (lent-rest (twice-parts again)) ∙ ap (λ (n : ℕ). lifted (a .width) n n (turned 65537 back (a .k) (a .first)) (again .unmix-all2 .last .0)) (two .two-to .ensures))
+    (turn .turn .ensures ∙ ap (lifted _ _ _ _) (lent-rest (twice-parts again)))
 
 pub split-spec : {M : Type 1} → statement M
 split-spec =

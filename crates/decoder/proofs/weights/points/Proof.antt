@@ -51,10 +51,10 @@ two-to-requires-2 c κs = omega arith
 cast-power : tie.Need-cast-power Inv-loop μ-loop
 cast-power c =
     let a = c .before .before .before .args in
-    omega (arith, pow-mono {i = a .k - a .level} {j = 16} (omega arith))
+    omega (arith, pow-mono {i = a .st .k - a .st .level} {j = 16} (omega arith))
 
 power-requires : tie.Need-power-requires Inv-loop μ-loop
-power-requires c κs = omega arith
+power-requires c κs = c .before .before .before .pre .0 .rooted .small
 
 mul-requires : tie.Need-mul-requires Inv-loop μ-loop
 mul-requires c κs =
@@ -81,11 +81,14 @@ loop-holds : tie.Need-loop-holds Inv-loop μ-loop
 loop-holds c =
     let at-power = c .before in
     let at-start = at-power .before .before .before .before in
-    start _ _ _ _ _ _ _ _ (at-start .pre .0 .0) (at-power .before .before .two-to .ensures) (at-power .before .two-to2 .ensures) (at-power .power .ensures) (c .mul .ensures)
+    start _ _ _ _ _ _ _ _ (at-start .pre .0 .within) (at-power .before .before .two-to .ensures) (at-power .before .two-to2 .ensures) (at-power .power .ensures) (c .mul .ensures)
 
 -- both halves lie within the part
 room : (c : tie.At-loop Inv-loop μ-loop) → c .before .before .before .before .two-to .result + c .before .before .before .before .two-to .result ≤ length (c .loop .part)
-room c = omega arith
+room c =
+    let s = c .before .before .before .before .before .before in
+    let e : 2 ^ suc (s .args .st .level) ≤ length (s .args .part .now) = s .pre .1 in
+    omega arith
 
 add-to : tie.Need-add-to Inv-loop μ-loop
 add-to c = omega (arith, room (c .before))
@@ -164,7 +167,7 @@ same-length : tie.Need-same-length Inv-loop μ-loop
 same-length c = c .before .loop .inv .same
 
 returns : tie.Need-returns Inv-loop μ-loop
-returns c = done (c .before .loop .inv) (c .loop-test .left) (c .before .before .before .before .before .before .before .pre .1 .0)
+returns c = done (c .before .loop .inv) (c .loop-test .left) (c .before .before .before .before .before .before .before .pre .1)
 
 pub points-spec : {M : Type 1} → statement M
 points-spec =

@@ -162,9 +162,7 @@ sub-base : tie.Need-sub-base Inv-loop μ-loop
 sub-base c = omega (arith, room c)
 
 points-requires : tie.Need-points-requires Inv-loop μ-loop
-points-requires c κs =
-    let at-start = c .before .before .before .before in
-    ((at-start .pre .0 .within, at-start .pre .0 .small), (omega (arith, at-start .pre .1 .1), at-start .pre .0 .rooted .small))
+points-requires c κs = let at-start = c .before .before .before .before in (at-start .pre .0, omega (arith, at-start .pre .1 .1))
 
 ones-requires : tie.Need-ones-requires Inv-loop μ-loop
 ones-requires c κs =

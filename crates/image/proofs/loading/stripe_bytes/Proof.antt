@@ -1,11 +1,11 @@
 -- `image::loading::stripe_bytes` meets its contract. Assumes nothing.
-use mathlib.Core.Path.{_≡_, sym, ap, _∙_}
-use Prim.Native.Nat.{ℕ, suc, _+_, _*_, _-_, _≤_}
+use mathlib.Core.Path.{_≡_, ap, _∙_}
+use Prim.Native.Nat.{ℕ, _+_, _*_, _-_, _≤_}
 use native.Mathlib.Numerals.{add-one}
 use native.Mathlib.Omega.{arith}
 use borrow.Author.Needs.{needs}
-use lib.ListN.{length, take, drop}
-use Rattle.layout.specs.Header.{stripeAt, stripeSize, imageSize}
+use lib.ListN.{take, drop}
+use Rattle.layout.specs.Header.{stripeSize, imageSize}
 use Rattle.code.proofs.Shapes.{positions}
 use Rattle.layout.proofs.Bounds.{fits}
 use Rattle.layout.proofs.StripePlaces.{inside}

@@ -2,7 +2,6 @@
 use Prim.Native.Nat.{suc, _+_, _*_, _-_, _≤_}
 use mathlib.Core.Path.{refl}
 use native.Mathlib.Omega.{arith}
-use borrow.Author.Needs.{needs}
 use lib.ListN.{length, getD}
 use Rattle.recovery.proofs.BlockLaying.{Laying, laying-start, laying-reads, laying-turn, laying-done}
 use Rattle.recovery.proofs.recovering.lay.Statement.{statement}

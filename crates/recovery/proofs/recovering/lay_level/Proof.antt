@@ -1,12 +1,12 @@
 -- `recovery::recovering::lay_level` meets its contract. Assumes nothing.
 use mathlib.Core.Path.{_≡_, sym, ap, _∙_}
 use mathlib.Core.List.{List, _++_}
-use Prim.Native.Nat.{ℕ, suc, pred, _+_, _*_, _-_, _^_, _≤_}
+use Prim.Native.Nat.{ℕ, suc, _+_, _*_, _-_, _≤_}
 use native.Mathlib.Omega.{arith}
 use borrow.Author.Needs.{needs}
 use lib.ListN.{length, take, drop, length-take}
 use lib.Seq.{length-take-le}
-use Rattle.code.specs.Stripe.{blockCount, positionCount, blockWords, stripeWords}
+use Rattle.code.specs.Stripe.{positionCount, blockWords, stripeWords}
 use Rattle.image.specs.Loading.{rowsIn}
 use Rattle.decoder.specs.Decoding.{blocksIn}
 use Rattle.rows.proofs.RowParts.{length-blocks}

@@ -1,13 +1,9 @@
 -- `recovery::recovering::recover_full` meets its contract. Assumes nothing.
 use mathlib.Core.Path.{_≡_, refl, sym, ap, _∙_}
-use Prim.Native.Nat.{ℕ, _≤_, _<_}
 use native.Mathlib.Omega.{arith}
 use borrow.Author.Needs.{needs}
-use Rattle.layout.specs.Header.{count, rawSize}
-use lib.ListN.{replicate}
 use Rattle.image.specs.Erasures.{erasuresIn}
-use Rattle.rows.specs.Decoding.{Decoded, decodedNumber}
-use Rattle.recovery.specs.Recovery.{laidFrom}
+use Rattle.rows.specs.Decoding.{decodedNumber}
 use Rattle.stripe.proofs.StripeAnswers.{Handed, readyOf, unready-number, bytes-fit, is-ready, same-solved, full-scratch, is-full}
 use Rattle.recovery.proofs.StripeRecords.{full-raw, laid-from-zeros}
 use Rattle.recovery.proofs.recovering.recover_full.Statement.{statement}

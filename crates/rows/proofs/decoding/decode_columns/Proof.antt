@@ -1,11 +1,9 @@
 -- `rows::decoding::decode_columns` meets its contract: the words are loaded, and decoded where they stand. Assumes nothing.
-use mathlib.Core.Path.{_≡_, sym, ap, _∙_}
+use mathlib.Core.Path.{_≡_, ap, _∙_}
 use mathlib.Core.List.{List, _++_}
-use Prim.Native.Nat.{ℕ, _+_, _*_}
+use Prim.Native.Nat.{ℕ, _+_}
 use native.Mathlib.Omega.{arith}
 use borrow.Author.Needs.{needs}
-use lib.ListN.{length, drop}
-use Rattle.code.specs.Stripe.{positionCount}
 use Rattle.decoder.specs.Decoding.{isConsistent, leftOf}
 use Rattle.decoder.specs.Decoder.{weightsIn}
 use Rattle.image.specs.Loading.{rowsIn}

@@ -1,14 +1,14 @@
 -- `rows::decoding::decode_rows` meets its contract. Assumes nothing.
 use mathlib.Core.Path.{_≡_, sym, ap, ap₂, _∙_}
-use mathlib.Core.Bool.{Bool, true, false}
+use mathlib.Core.Bool.{true}
 use mathlib.Core.List.{List, _++_}
-use Prim.Native.Nat.{ℕ, suc, _+_, _*_, _-_, _^_, _≤_}
+use Prim.Native.Nat.{ℕ, suc, _+_, _*_, _-_, _≤_}
 use native.Mathlib.Nat.{mul-le-mul}
 use native.Mathlib.Omega.{arith}
 use borrow.Author.Needs.{needs}
 use borrow.Author.Tests.{not-true, not-false}
 use borrow.Rule.Slice.PartMut.{putMid}
-use lib.ListN.{length, take, drop, replicate, length-append, length-replicate}
+use lib.ListN.{length, take, replicate}
 use lib.Seq.{length-take-le}
 use lib.Pow.{pow-mono}
 use Rattle.code.specs.Stripe.{blockCount, positionCount, blockWords, stripeWords}
@@ -17,8 +17,7 @@ use Rattle.decoder.specs.Decoder.{weightsIn}
 use Rattle.field.proofs.WordLists.{length-table}
 use Rattle.image.specs.Loading.{rowsIn, survivingAt}
 use Rattle.image.specs.Image.{wordsOf}
-use Rattle.rows.specs.Decoding.{Decoded, areRecords, decodedNumber, decodedWords, solved}
-use Rattle.rows.specs.Ready.{StripeFits}
+use Rattle.rows.specs.Decoding.{Decoded, areRecords, decodedNumber, decodedWords}
 use Rattle.rows.proofs.ColumnRanges.{columns-all}
 use Rattle.rows.proofs.RowParts.{twice, weights-last, weights-cleared, left-zeros, left-blocks, left-front, length-cleared, room}
 use Rattle.rows.proofs.StripeTests.{solved-nine, solved-ten, solved-blocks}

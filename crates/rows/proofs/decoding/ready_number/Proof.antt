@@ -1,7 +1,7 @@
 -- `rows::decoding::ready_number` meets its contract. Assumes nothing.
 use mathlib.Core.Path.{_≡_, sym, _∙_}
 use mathlib.Core.Bool.{Bool, true, false}
-use Prim.Native.Nat.{_≤_, _^_}
+use Prim.Native.Nat.{_≤_}
 use borrow.Author.Needs.{needs}
 use Rattle.code.specs.Stripe.{blockCount}
 use Rattle.decoder.specs.Decoder.{erasedCount}

@@ -1,5 +1,5 @@
 -- `stripe::decoding::decode` meets its contract. Assumes nothing.
-use mathlib.Core.Path.{_≡_, sym, ap, _∙_}
+use mathlib.Core.Path.{sym, _∙_}
 use borrow.Author.Needs.{needs}
 use Rattle.stripe.proofs.DecodeCall.{decode-lent, decode-within, answers-refused, answers-taken}
 use Rattle.stripe.proofs.decoding.decode.Statement.{statement}

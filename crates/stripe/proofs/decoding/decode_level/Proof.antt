@@ -1,14 +1,13 @@
 -- `stripe::decoding::decode_level` meets its contract. Assumes nothing.
-use mathlib.Core.Path.{_≡_, sym, ap, ap₂, _∙_}
-use mathlib.Core.List.{List, _++_, append-assoc}
+use mathlib.Core.Path.{_≡_, sym, ap, _∙_}
+use mathlib.Core.List.{List, _++_}
 use Prim.Native.Nat.{ℕ, _+_, _*_, _-_, _^_, _≤_}
 use native.Mathlib.Omega.{arith}
 use borrow.Author.Needs.{needs}
 use lib.ListN.{length, take, drop, replicate, length-append, length-drop}
 use lib.Seq.{length-take-le}
-use Rattle.code.specs.Stripe.{blockCount, positionCount, blockWords, stripeWords}
+use Rattle.code.specs.Stripe.{positionCount, blockWords, stripeWords}
 use Rattle.image.specs.Loading.{rowsIn}
-use Rattle.rows.specs.Decoding.{decodedWords, solved}
 use Rattle.stripe.proofs.LevelParts.{level-room, room-is, scratch-low, blocks-in, front, lent-front, copied-front, blocks-room}
 use Rattle.stripe.proofs.decoding.decode_level.Statement.{statement}
 use Rattle.stripe.proofs.decoding.decode_level.Tie as tie

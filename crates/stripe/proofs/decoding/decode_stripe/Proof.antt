@@ -1,14 +1,12 @@
 -- `stripe::decoding::decode_stripe` meets its contract. Assumes nothing.
 use mathlib.Core.Path.{_≡_, sym, ap, ap₂, _∙_}
-use Prim.Native.Nat.{ℕ, _+_, _*_, _^_, _≤_, _<_}
+use Prim.Native.Nat.{ℕ, _<_}
 use native.Mathlib.Omega.{arith}
 use borrow.Author.Needs.{needs}
-use lib.ListN.{length, replicate}
-use Rattle.code.specs.Stripe.{blockCount, blockWords}
-use Rattle.layout.specs.Header.{outSize, scratchSize, stripeOf}
+use lib.ListN.{replicate}
+use Rattle.layout.specs.Header.{outSize}
 use Rattle.image.specs.Erasures.{erasuresIn}
-use Rattle.rows.specs.Decoding.{Decoded, decodedNumber, decodedWords}
-use Rattle.columns.specs.Ranges.{scratchWords}
+use Rattle.rows.specs.Decoding.{decodedNumber, decodedWords}
 use Rattle.stripe.proofs.StripeAnswers.{Handed, readyOf, unready-number, unready-words, bytes-fit, is-ready, same-solved, full-out, full-scratch, level-out, level-scratch, is-level}
 use Rattle.stripe.proofs.decoding.decode_stripe.Statement.{statement}
 use Rattle.stripe.proofs.decoding.decode_stripe.Tie as tie
