@@ -4,22 +4,8 @@ ghost use mathlib.Core.Path.{_≡_};
 ghost use Prim.Native.Nat.{_+_, _*_, _≤_};
 ghost use lib.ListN.{length};
 ghost use lib.Seq.{sets};
-ghost use Rattle.image.specs.Image.{little, bytesOf};
+ghost use Rattle.image.specs.Image.{bytesOf};
 ghost use Rattle.image.specs.ImageCall.{imageNumber, imageLeaves};
-
-// Stores the 4 bytes of a word from index `at` on, low byte first.
-fn put_word(bytes: &mut [u8], at: usize, word: u32)
-    requires { ⌜ at + 4 ≤ length (now bytes) ⌝ }
-    ensures { λ _. ⌜ now (bytes .exit) ≡ sets (now (bytes .entry)) at (little 4 word) ⌝ }
-{
-    let mut to = at;
-    let mut rest = word;
-    for i in 0..4usize {
-        bytes[to] = (rest % 256) as u8;
-        rest = rest / 256;
-        to += 1;
-    }
-}
 
 // Stores the bytes of words from index `at` on.
 fn put_words(bytes: &mut [u8], at: usize, words: &[u32])
@@ -28,7 +14,7 @@ fn put_words(bytes: &mut [u8], at: usize, words: &[u32])
 {
     let mut to = at;
     for i in 0..words.len() {
-        put_word(bytes, to, words[i]);
+        crate::bytes::put_word(bytes, to, words[i]);
         to += 4;
     }
 }

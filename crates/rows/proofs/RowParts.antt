@@ -8,7 +8,7 @@ use native.Mathlib.Nat.{mul-le-mul-left}
 use native.Mathlib.Omega.{arith}
 use borrow.Rule.Slice.PartMut.{putMid}
 use lib.Dec.{lit<}
-use lib.ListN.{length, take, drop, replicate, length-append, length-replicate, length-drop, drop-of-length-le, replicate-append-replicate}
+use lib.ListN.{length, take, drop, replicate, length-append, length-replicate, length-drop, take-append-drop, drop-of-length-le, replicate-append-replicate}
 use lib.Seq.{take-at, drop-at, length-take-le}
 use Rattle.field.specs.Words.{Words, table}
 use Rattle.field.proofs.WordLists.{length-table, words-append}
@@ -19,7 +19,7 @@ use Rattle.decoder.specs.Decoder.{weightAt, weightsIn}
 use Rattle.decoder.proofs.DecodeRows.{leaves-blocks, leaves-zeros}
 use Rattle.decoder.proofs.WeightLaws.{words-weights}
 use Rattle.image.specs.Loading.{columnsOf, areBelow}
-use Rattle.image.proofs.StripeLoads.{columns-words}
+use Rattle.image.proofs.StripeLoads.{below-words, columns-words}
 use Rattle.rows.specs.Ready.{narrow}
 use Rattle.rows.proofs.ColumnRanges.{length-columns, length-decoded}
 
@@ -52,6 +52,13 @@ module _ (st : Stripe) (ms : List Bool) (r : List ℕ) (from cols : ℕ) where
     loaded-words e =
         rw L (words-append (modulusOf st) (lit< tt) {a = columns} (columns-words (modulusOf st) (st .width) from cols (positionCount st) r (lit< tt) e)
         (words-weights (modulusOf st) (lit< tt) (st .root) (st .k) (st .level) ms (positionCount st) (positionCount st)))
+
+-- ROWS of words of the field, and the weights behind them
+pub part-words : (st : Stripe) (ms : List Bool) (part : List ℕ) → areBelow (modulusOf st) (take (stripeWords st) part) ≡ true → drop (stripeWords st) part ≡ weightsIn st ms → Words (modulusOf st) part
+part-words st ms part e w =
+    rw (← take-append-drop (stripeWords st) part)
+    (words-append (modulusOf st) (lit< tt) {a = take (stripeWords st) part} (below-words (modulusOf st) (lit< tt) (take (stripeWords st) part) e)
+    (rw w (words-weights (modulusOf st) (lit< tt) (st .root) (st .k) (st .level) ms (positionCount st) (positionCount st))))
 
 -- THE WEIGHTS STORED in the last words of a part
 pub weights-last : (st : Stripe) (ms : List Bool) {part : List ℕ} (part₀ : List ℕ) (cols : ℕ) → 0 < cols → length part₀ ≡ positionCount st * cols + positionCount st

@@ -3,7 +3,7 @@ use code::Stripe;
 ghost use mathlib.Core.Path.{_≡_};
 ghost use mathlib.Core.List.{_++_};
 ghost use Prim.Native.Nat.{_+_, _*_, _≤_};
-ghost use lib.ListN.{length, drop};
+ghost use lib.ListN.{length, take, drop};
 ghost use Rattle.code.specs.Stripe.{positionCount, stripeWords};
 ghost use Rattle.decoder.specs.Decoding.{isConsistent, leftOf};
 ghost use Rattle.decoder.specs.Decoder.{weightsIn};
@@ -60,19 +60,17 @@ pub fn decode_columns(
     decoder::decoding::decode(part, marks, range)
 }
 
-// Decodes all columns at once in a part with room for the rows and a weight for each position: 9 or 10, or 0. The part then holds the blocks and zeros after
-// them, or zeros.
-pub fn decode_rows(st: Stripe, bytes: &[u8], marks: &[bool], part: &mut [u32]) -> u32
-    requires { ⌜ Ready st (now marks) (rowsIn st (now marks) (now bytes)) ⌝ }
-    requires { ⌜ (length (now bytes) ≡ 4 * stripeWords st) × (length (now part) ≡ stripeWords st + positionCount st) ⌝ }
-    ensures { λ r. ⌜ r ≡ decodedNumber (solved st (now (marks .entry)) (rowsIn st (now (marks .entry)) (now (bytes .entry)))) ⌝ }
+// Decodes the rows that stand in a part, before the weights: 9 or 10, or 0. The part then holds the blocks and zeros after them, or zeros.
+pub fn solve(st: Stripe, marks: &[bool], part: &mut [u32]) -> u32
+    requires { ⌜ Ready st (now marks) (take (stripeWords st) (now part)) ⌝ }
+    requires { ⌜ (length (now part) ≡ stripeWords st + positionCount st) × (drop (stripeWords st) (now part) ≡ weightsIn st (now marks)) ⌝ }
+    ensures { λ r. ⌜ r ≡ decodedNumber (solved st (now (marks .entry)) (take (stripeWords st) (now (part .entry)))) ⌝ }
     ensures { λ _. ⌜ now (part .exit) ≡
-        decodedWords (solved st (now (marks .entry)) (rowsIn st (now (marks .entry)) (now (bytes .entry)))) (stripeWords st + positionCount st) ⌝ }
+        decodedWords (solved st (now (marks .entry)) (take (stripeWords st) (now (part .entry)))) (stripeWords st + positionCount st) ⌝ }
 {
     let size = code::number::two_to(st.level) * st.width;
     let rows = size + size;
-    decoder::weights::weights(part, marks, st);
-    let found = decode_columns(st, bytes, marks, 0, st.width, part);
+    let found = decoder::decoding::decode(part, marks, st);
     layout::words::clear(&mut part[rows..]);
     if !found {
         return 9;
@@ -82,4 +80,18 @@ pub fn decode_rows(st: Stripe, bytes: &[u8], marks: &[bool], part: &mut [u32]) -
     }
     layout::words::clear(part);
     10
+}
+
+// Loads all rows of a stripe into a part with room for them and a weight for each position, and decodes them: 9 or 10, or 0. The part then holds the blocks and
+// zeros after them, or zeros.
+pub fn decode_rows(st: Stripe, bytes: &[u8], marks: &[bool], part: &mut [u32]) -> u32
+    requires { ⌜ Ready st (now marks) (rowsIn st (now marks) (now bytes)) ⌝ }
+    requires { ⌜ (length (now bytes) ≡ 4 * stripeWords st) × (length (now part) ≡ stripeWords st + positionCount st) ⌝ }
+    ensures { λ r. ⌜ r ≡ decodedNumber (solved st (now (marks .entry)) (rowsIn st (now (marks .entry)) (now (bytes .entry)))) ⌝ }
+    ensures { λ _. ⌜ now (part .exit) ≡
+        decodedWords (solved st (now (marks .entry)) (rowsIn st (now (marks .entry)) (now (bytes .entry)))) (stripeWords st + positionCount st) ⌝ }
+{
+    decoder::weights::weights(part, marks, st);
+    image::loading::load(part, bytes, marks, st, 0, st.width);
+    solve(st, marks, part)
 }

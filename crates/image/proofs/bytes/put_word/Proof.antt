@@ -1,4 +1,4 @@
--- `image::images::put_word` meets its contract. The invariant: with the bytes of the rest stored too, all bytes are stored. Assumes nothing.
+-- `image::bytes::put_word` meets its contract. The invariant: with the bytes of the rest stored too, all bytes are stored. Assumes nothing.
 use mathlib.Core.Path.{_≡_, refl, _∙_}
 use mathlib.Core.List.{List}
 use Prim.Native.Nat.{ℕ, suc, _+_, _-_, _/_, _%_, _≤_, _<_}
@@ -7,8 +7,8 @@ use native.Mathlib.Omega.{arith}
 use lib.ListN.{length, set, length-set}
 use lib.Seq.{sets}
 use Rattle.image.specs.Image.{little}
-use Rattle.image.proofs.images.put_word.Statement.{statement}
-use Rattle.image.proofs.images.put_word.Tie as tie
+use Rattle.image.proofs.bytes.put_word.Statement.{statement}
+use Rattle.image.proofs.bytes.put_word.Tie as tie
 
 record Inv (bytes₀ : List ℕ) (at word : ℕ) (bytes : List ℕ) (to rest i : ℕ) : Type 0 where
   turns : i ≤ 4
