@@ -8,11 +8,7 @@ pub fn two_to(e: usize) -> usize
     requires { ⌜ e ≤ 16 ⌝ }
     ensures { λ r. ⌜ r ≡ 2 ^ e ⌝ }
 {
-    let mut r: usize = 1;
-    for i in 0..e {
-        r = r * 2;
-    }
-    r
+    1usize << e
 }
 
 // rev(t): the k lowest bits of t, reversed.
