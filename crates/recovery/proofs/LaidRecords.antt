@@ -38,12 +38,12 @@ solved-zero st ms r z = by (isConsistent st ms r) refl (areRecords st (blocksIn 
     by true c true a = (solved-blocks st ms r c a, a)
 
 -- ON A LEVEL the blocks stand in the first words of the part that it was decoded in
-pub level-front : (st : Stripe) (ms : List Bool) (r : List ℕ) {x : List ℕ} (rest : List ℕ) → x ≡ decodedWords (solved st ms r) (stripeWords st + positionCount st)
-    → decodedNumber (solved st ms r) ≡ 0 → {n : ℕ} → n ≡ blockWords st → take n (x ++ rest) ≡ blocksIn st ms r
+pub level-front : (st : Stripe) (ms : List Bool) (r : List ℕ) {x : List ℕ} (rest : List ℕ) → x ≡ decodedWords (solved st ms r) (stripeWords st + positionCount st) ++ rest
+    → decodedNumber (solved st ms r) ≡ 0 → {n : ℕ} → n ≡ blockWords st → take n x ≡ blocksIn st ms r
 level-front st ms r {x} rest q z e =
     let bs = blocksIn st ms r in
     let size = stripeWords st + positionCount st in
-    ap (λ (n : ℕ). take n (x ++ rest)) e ∙ lent-front st ms r rest q ∙ ap (λ (d : Decoded). take (blockWords st) (decodedWords d size)) (solved-zero st ms r z .0)
+    ap (λ (n : ℕ). take n x) e ∙ lent-front st ms r rest q ∙ ap (λ (d : Decoded). take (blockWords st) (decodedWords d size)) (solved-zero st ms r z .0)
     ∙ take-at bs (replicate (size - length bs) 0) (blockWords st) (length-blocks st ms r)
 
 -- and are laid: the loop is handed the blocks bs, s data words each, and how many they are

@@ -43,8 +43,7 @@ fn lay_level(st: Stripe, bytes: &[u8], marks: &[bool], out: &mut [u32], scratch:
 {
     let blocks = code::number::two_to(st.level);
     let size = blocks * st.width;
-    let room = 2 * (size + blocks);
-    let number = rows::decoding::decode_rows(st, bytes, marks, &mut scratch[..room]);
+    let number = rows::decoding::decode_rows(st, bytes, marks, scratch);
     if number != 0 {
         return number;
     }

@@ -82,9 +82,8 @@ pub fn solve(st: Stripe, marks: &[bool], part: &mut [u32]) -> u32
     10
 }
 
-// Loads all rows of a stripe into a part with room for them and a weight for each position, and decodes them: 9 or 10, or 0. The part then holds the blocks and
-// zeros after them, or zeros.
-pub fn decode_rows(st: Stripe, bytes: &[u8], marks: &[bool], part: &mut [u32]) -> u32
+// Loads all rows of a stripe into a part with room for them and a weight for each position, and decodes them as `solve` does.
+fn load_and_solve(st: Stripe, bytes: &[u8], marks: &[bool], part: &mut [u32]) -> u32
     requires { ⌜ Ready st (now marks) (rowsIn st (now marks) (now bytes)) ⌝ }
     requires { ⌜ (length (now bytes) ≡ 4 * stripeWords st) × (length (now part) ≡ stripeWords st + positionCount st) ⌝ }
     ensures { λ r. ⌜ r ≡ decodedNumber (solved st (now (marks .entry)) (rowsIn st (now (marks .entry)) (now (bytes .entry)))) ⌝ }
@@ -94,4 +93,18 @@ pub fn decode_rows(st: Stripe, bytes: &[u8], marks: &[bool], part: &mut [u32]) -
     decoder::weights::weights(part, marks, st);
     image::loading::load(part, bytes, marks, st, 0, st.width);
     solve(st, marks, part)
+}
+
+// Decodes a stripe in the first words of a scratch that has room for its rows and a weight for each position: 9 or 10, or 0. These words are then the blocks and
+// zeros after them, or zeros; the others stay.
+pub fn decode_rows(st: Stripe, bytes: &[u8], marks: &[bool], scratch: &mut [u32]) -> u32
+    requires { ⌜ Ready st (now marks) (rowsIn st (now marks) (now bytes)) ⌝ }
+    requires { ⌜ (length (now bytes) ≡ 4 * stripeWords st) × (stripeWords st + positionCount st ≤ length (now scratch)) ⌝ }
+    ensures { λ r. ⌜ r ≡ decodedNumber (solved st (now (marks .entry)) (rowsIn st (now (marks .entry)) (now (bytes .entry)))) ⌝ }
+    ensures { λ _. ⌜ now (scratch .exit) ≡
+        decodedWords (solved st (now (marks .entry)) (rowsIn st (now (marks .entry)) (now (bytes .entry)))) (stripeWords st + positionCount st) ++
+        drop (stripeWords st + positionCount st) (now (scratch .entry)) ⌝ }
+{
+    let room = code::number::two_to(st.level + 1) * (st.width + 1);
+    load_and_solve(st, bytes, marks, &mut scratch[..room])
 }

@@ -26,9 +26,6 @@ level-room st b =
     let e : 2 ^ suc (st .level) ≤ 2 ^ st .k = pow-mono {i = suc (st .level)} {j = st .k} b in
     omega (arith, mul-le-mul-right (st .width) e)
 
-pub room-is : (st : Stripe) {rows : ℕ} → rows ≡ blockCount st → 2 * (rows * st .width + rows) ≡ stripeWords st + positionCount st
-room-is st e = let d : 2 ^ suc (st .level) ≡ 2 ^ st .level + 2 ^ st .level = omega arith in rw (e, d) (omega arith)
-
 pub scratch-low : (st : Stripe) → StripeFits st → 2 ^ st .k * st .width + 4 * 2 ^ st .k ≤ 136192
 scratch-low st f =
     let b : 2 ^ st .k ≤ 1024 = pow-mono {i = st .k} {j = 10} (f .low) in
@@ -84,8 +81,8 @@ pub blocks-room : (st : Stripe) → blockWords st ≤ stripeWords st + positionC
 blocks-room st = omega (arith, twice st)
 
 -- the blocks' words in the scratch, whose first words came back decoded
-pub lent-front : (st : Stripe) (ms : List Bool) (r : List ℕ) {x : List ℕ} (rest : List ℕ) → x ≡ decodedWords (solved st ms r) (stripeWords st + positionCount st)
-    → take (blockWords st) (x ++ rest) ≡ take (blockWords st) (decodedWords (solved st ms r) (stripeWords st + positionCount st))
+pub lent-front : (st : Stripe) (ms : List Bool) (r : List ℕ) {x : List ℕ} (rest : List ℕ) → x ≡ decodedWords (solved st ms r) (stripeWords st + positionCount st) ++ rest
+    → take (blockWords st) x ≡ take (blockWords st) (decodedWords (solved st ms r) (stripeWords st + positionCount st))
 lent-front st ms r {x} rest q =
     rw q (take-before (blockWords st) (decodedWords (solved st ms r) (stripeWords st + positionCount st)) rest (rw (words-long (comes st ms r)) (blocks-room st)))
   where

@@ -59,10 +59,8 @@ fn decode_level(
         decodedWords (solved st (now (marks .entry)) (rowsIn st (now (marks .entry)) (now (bytes .entry)))) (2 ^ st .k * st .width) ⌝ }
     ensures { λ _. ⌜ now (scratch .exit) ≡ replicate (2 ^ st .k * st .width + 4 * 2 ^ st .k) 0 ⌝ }
 {
-    let blocks = code::number::two_to(st.level);
-    let size = blocks * st.width;
-    let room = 2 * (size + blocks);
-    let number = rows::decoding::decode_rows(st, bytes, marks, &mut scratch[..room]);
+    let size = code::number::two_to(st.level) * st.width;
+    let number = rows::decoding::decode_rows(st, bytes, marks, scratch);
     layout::words::clear(out);
     layout::words::copy_row(out, 0, scratch, 0, size);
     layout::words::clear(scratch);

@@ -1,70 +1,76 @@
--- `rows::decoding::decode_rows` meets its contract: the weights are stored, the rows loaded before them, and decoded. Assumes nothing.
-use mathlib.Core.Path.{_≡_, ap, _∙_}
-use mathlib.Core.Bool.{Bool}
+-- `rows::decoding::decode_rows` meets its contract: the first words of the scratch are lent on. Assumes nothing.
+use mathlib.Core.Path.{_≡_, sym, ap, ap₂, _∙_}
 use mathlib.Core.List.{List, _++_}
-use Prim.Native.Nat.{ℕ, _+_}
+use Prim.Native.Nat.{ℕ, suc, _+_, _*_, _^_, _≤_}
+use native.Mathlib.Numerals.{add-one}
 use native.Mathlib.Omega.{arith}
 use borrow.Author.Needs.{needs}
-use lib.ListN.{take}
-use Rattle.field.proofs.WordLists.{length-table}
+use lib.ListN.{length, drop}
+use lib.Seq.{length-take-le}
 use Rattle.code.specs.Stripe.{positionCount, stripeWords}
-use Rattle.decoder.specs.Decoder.{weightsIn}
-use Rattle.image.specs.Image.{wordsOf}
-use Rattle.image.specs.Loading.{rowsIn, survivingAt}
-use Rattle.rows.specs.Decoding.{decodedNumber, decodedWords, solved}
-use Rattle.rows.proofs.ColumnRanges.{columns-all}
-use Rattle.rows.proofs.RowParts.{columns, loaded-front, loaded-weights, loaded-long, weights-last, room}
 use Rattle.rows.proofs.decoding.decode_rows.Statement.{statement}
 use Rattle.rows.proofs.decoding.decode_rows.Tie as tie
 
-weights-requires : tie.Need-weights-requires
-weights-requires c κs =
-    let s = c .before .before .before .before in
-    (s .pre .0 .fits .numbers, (s .pre .0 .long, rw (s .pre .1 .1) (room (positionCount (s .args .st)) (s .args .st .width) (s .pre .0 .fits .thick))))
+add-two-to : tie.Need-add-two-to
+add-two-to c = search needs
 
-load-requires : tie.Need-load-requires
-load-requires c κs =
-    let s = c .before .before .before .before .before .before .before .before in
-    ((omega (arith, s .pre .0 .fits .low, s .pre .0 .fits .numbers .within), s .pre .1 .0, s .pre .0 .long), (omega arith, omega (arith, c .before .before .before .weights .kept .0, s .pre .1 .1)))
+two-to-requires : tie.Need-two-to-requires
+two-to-requires c κs = search needs
 
--- the part once the rows are loaded
-abbrev start : tie.After-load → tie.Start
-start c = c .before .before .before .before .before .before .before .before .before
+add-room : tie.Need-add-room
+add-room c = search needs
 
-abbrev words : tie.After-load → List ℕ
-words c = rowsIn (start c .args .st) (start c .args .marks .now) (start c .args .bytes .now)
+-- the words that are lent on
+abbrev start : tie.After-two-to → tie.Start
+start c = c .before .before .before .before .before
 
-loaded : (c : tie.After-load) → let a = start c .args in c .load .last .0 ≡ columns (a .st) (a .marks .now) (words c) 0 (a .st .width) ++ weightsIn (a .st) (a .marks .now)
-loaded c =
-    let s = start c in
-    let a = s .args in
-    c .load .ensures
-    ∙ ap (λ (y : List ℕ). columns (a .st) (a .marks .now) (words c) 0 (a .st .width) ++ y)
-    (weights-last (a .st) (a .marks .now) (a .part .now) (a .st .width) (omega (arith, s .pre .0 .fits .thick)) (s .pre .1 .1) (c .before .before .before .before .weights .ensures))
+abbrev lent : tie.After-two-to → ℕ
+lent c = c .two-to .result * (start c .args .st .width + 1)
 
-front : (c : tie.After-load) → take (stripeWords (start c .args .st)) (c .load .last .0) ≡ words c
-front c =
-    let a = start c .args in
-    loaded-front (a .st) (a .marks .now) (words c) 0 (a .st .width) (loaded c)
-    ∙ columns-all (a .st .width) (positionCount (a .st)) (words c) (length-table (stripeWords (a .st)) (survivingAt (a .st .width) (a .marks .now) (wordsOf (a .bytes .now))))
+room : (c : tie.After-two-to) → lent c ≡ stripeWords (start c .args .st) + positionCount (start c .args .st)
+room c =
+    let st = start c .args .st in
+    ap (λ (n : ℕ). n * (st .width + 1)) (c .two-to .ensures ∙ ap (λ (n : ℕ). 2 ^ n) (add-one (st .level))) ∙ times-more (2 ^ suc (st .level)) (st .width)
+  where
+    times-more : (n w : ℕ) → n * (w + 1) ≡ n * w + n
+    times-more n w = omega arith
 
-solve-requires : tie.Need-solve-requires
-solve-requires c κs =
-    let l = c .before .before .before in
-    let a = start l .args in
-    (rw (front l) (start l .pre .0), (loaded-long (a .st) (a .marks .now) (words l) 0 (a .st .width) (loaded l), loaded-weights (a .st) (a .marks .now) (words l) 0 (a .st .width) (loaded l)))
+fits-in : (c : tie.After-two-to) → lent c ≤ length (start c .args .scratch .now)
+fits-in c = omega (arith, room c, start c .pre .1 .1)
+
+mul-room : tie.Need-mul-room
+mul-room c = omega (arith, fits-in (c .before))
+
+slice-relend-prefix-load-and-solve : tie.Need-slice-relend-prefix-load-and-solve
+slice-relend-prefix-load-and-solve c = fits-in (c .before)
+
+slice-aggregate-load-and-solve : tie.Need-slice-aggregate-load-and-solve
+slice-aggregate-load-and-solve c = sym (length-take-le _ _ (fits-in (c .before .before)))
+
+load-and-solve-requires : tie.Need-load-and-solve-requires
+load-and-solve-requires c κs =
+    let t = c .before .before in
+    (start t .pre .0, (start t .pre .1 .0, length-take-le _ _ (fits-in t) ∙ room t))
 
 same-length : tie.Need-same-length
 same-length c = search needs
 
 returns : tie.Need-returns
 returns c =
-    let l = c .before .before .before .before .before .before in
-    let a = start l .args in
-    let d = c .before .before .solve .ensures in (
-      d .0 ∙ ap (λ (r : List ℕ). decodedNumber (solved (a .st) (a .marks .now) r)) (front l),
-      d .1 ∙ ap (λ (r : List ℕ). decodedWords (solved (a .st) (a .marks .now) r) (stripeWords (a .st) + positionCount (a .st))) (front l),
-    )
+    let t = c .before .before .before .before .before in
+    let d = c .before .before .load-and-solve .ensures in
+    (d .0, ap₂ _++_ (d .1) (ap (λ (n : ℕ). drop n (start t .args .scratch .now)) (room t)))
 
 pub decode-rows-spec : {M : Type 1} → statement M
-decode-rows-spec = tie.close (tie.spec weights-requires load-requires solve-requires same-length returns)
+decode-rows-spec =
+    tie.close
+    (tie.spec
+    add-two-to
+    two-to-requires
+    add-room
+    mul-room
+    slice-relend-prefix-load-and-solve
+    slice-aggregate-load-and-solve
+    load-and-solve-requires
+    same-length
+    returns)
