@@ -3,14 +3,14 @@ use mathlib.Core.Path.{_≡_, ap, _∙_}
 use mathlib.Core.Bool.{true}
 use mathlib.Core.Logic.{⊎-elim}
 use Prim.Native.Nat.{ℕ, suc, _+_, _*_, _-_, _/_, _%_, _^_, _≤_, _<_}
-use native.Mathlib.Nat.{div-mul-le-self, eq-or-lt-of-le, mul-mod-left, mul-le-mul, mul-le-mul-right, zero-mod}
+use native.Mathlib.Nat.{div-mul-le-self, eq-or-lt-of-le, mul-mod-left, mul-le-mul-right, zero-mod}
 use native.Mathlib.Omega.{arith}
 use borrow.Author.Tests.{eq-eqb, ne-eqb}
 use lib.Pow.{pow-pos, pow-mono}
 use Rattle.field.proofs.Primes.{fermat-root}
 use Rattle.code.specs.Stripe.{Numbers}
 use Rattle.layout.specs.declared.Header.{Header}
-use Rattle.layout.specs.Header.{headerFits, count, width, fullSize, scratchSize, imageSize, levelAt, firstOf, stripeAt, stripeOf}
+use Rattle.layout.specs.Header.{headerFits, width, fullSize, imageSize, levelAt, firstOf, stripeAt, stripeOf}
 use Rattle.layout.proofs.Bounds.{Fits, fits}
 
 level-size : (m s : ℕ) → 2 ≤ m → (m - 2) * suc s + 2 * suc s ≡ m * suc s
@@ -21,9 +21,6 @@ power-less b = omega arith
 
 doubled : (x m n : ℕ) → m ≡ n + n → x * m % n ≡ 0
 doubled x m n e = ap (λ (y : ℕ). y % n) {x = x * m} {y = x * 2 * n} (ap (λ (y : ℕ). x * y) e ∙ omega arith) ∙ mul-mod-left (x * 2) n
-
-double : (l c : ℕ) → 2 ^ suc l * c ≡ 2 ^ l * (c + c)
-double l c = let e : 2 ^ suc l ≡ 2 ^ l + 2 ^ l = omega arith in rw e (omega arith)
 
 module _ (h : Header) (l : ℕ) where
   pub first-full : l ≡ h .k → firstOf h l ≡ 0
@@ -60,15 +57,6 @@ module _ (h : Header) (l : ℕ) where
         below : l < h .k → 4 * (fullSize h + levelAt h l) + 4 * (2 ^ suc l * width h) ≤ imageSize h
         below b =
             omega (arith, mul-le-mul-right (width h) (pow-mono {i = suc l} {j = h .k} b), level-size (2 ^ suc l) (h .s) (omega (arith, pow-pos l)), f .full-is, f .log-is, f .image-is)
-
-    -- the scratch has room for all columns of a level, and for half of those of the full stripe
-    pub room-level : (cols : ℕ) → l < h .k → cols ≤ width h → 2 ^ suc l * cols + 2 ^ suc l ≤ scratchSize h
-    room-level cols b t =
-        omega (arith, mul-le-mul {n₂ = count h} {m₂ = width h} (pow-mono {i = suc l} {j = h .k} b) t, pow-mono {i = suc l} {j = h .k} b, f .scratch-is)
-
-    pub room-half : (cols : ℕ) → cols + cols ≤ h .s + 3 → 2 ^ suc l * cols + 2 ^ suc l ≤ scratchSize h
-    room-half cols t =
-        omega (arith, mul-le-mul {n₂ = count h} {m₂ = h .s + 3} (pow-mono {i = l} {j = h .k} w) t, pow-mono {i = l} {j = h .k} w, double l cols, f .scratch-is)
 
 -- the numbers of a stripe are such as a stripe can have
 pub stripe-numbers : (h : Header) (l : ℕ) → headerFits h ≡ true → l ≤ h .k → Numbers (stripeOf h l)
