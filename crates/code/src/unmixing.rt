@@ -31,7 +31,7 @@ fn unmix_row(part: &mut [u32], low: usize, high: usize, width: usize, g: u32)
 }
 
 // Unmixes the first m rows and the next m rows; row i of the latter has the factor v^i.
-pub fn unmix(part: &mut [u32], m: usize, width: usize, v: u32)
+fn unmix(part: &mut [u32], m: usize, width: usize, v: u32)
     requires { ⌜ length (now part) ≡ (m + m) * width ⌝ }
     requires { ⌜ v < fermat .modulus ⌝ }
     requires { ⌜ Words (fermat .modulus) (now part) ⌝ }

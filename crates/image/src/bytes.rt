@@ -13,7 +13,7 @@ fn joined(a: u8, b: u8, c: u8, d: u8) -> u32
 }
 
 // The number of the four bytes from `at` on.
-pub fn number_at(bytes: &[u8], at: usize) -> u32
+pub(crate) fn number_at(bytes: &[u8], at: usize) -> u32
     requires { ⌜ at + 4 ≤ length (now bytes) ⌝ }
     ensures { λ r. ⌜ r ≡ numberAt (now (bytes .entry)) at ⌝ }
 {

@@ -12,7 +12,7 @@ ghost use Rattle.layout.specs.Header.{headerFits, count, width, scratchSize, im
 ghost use Rattle.layout.specs.Refusals.{done, test, refusal};
 
 // Test 3: whether an erasure list is whole, sorted, and ends inside an image of `size` bytes.
-pub fn erasures_fit(erasures: &[u8], size: usize) -> bool
+fn erasures_fit(erasures: &[u8], size: usize) -> bool
     requires { ⌜ size < 4294967296 ⌝ }
     ensures { λ r. ⌜ r ≡ (eqb (length (now (erasures .entry)) % 8) 0 && erasuresRise 0 size (erasuresIn (now (erasures .entry)))) ⌝ }
 {
@@ -89,7 +89,7 @@ fn mark_touched(
 }
 
 // Marks the positions of a stripe that an erasure touches: position i is the `step` bytes from `base + i * step` on.
-pub fn mark(marks: &mut [bool], erasures: &[u8], base: usize, step: usize, positions: usize)
+fn mark(marks: &mut [bool], erasures: &[u8], base: usize, step: usize, positions: usize)
     requires { ⌜ (now marks ≡ replicate 2048 false) × (positions ≤ 2048) ⌝ }
     requires { ⌜ (0 < step) × (base + positions * step < 4294967296) ⌝ }
     ensures { λ _. ⌜ now (marks .exit) ≡ marksFor base step positions (erasuresIn (now (erasures .entry))) ⌝ }
@@ -148,7 +148,7 @@ pub fn mark_stripe(header: Header, erasures: &[u8], level: usize, marks: &mut [b
 {
     let width = header.s as usize + 1;
     let at = 4 * layout::places::stripe_at(header, level);
-    crate::erasures::mark(
+    mark(
         marks,
         erasures,
         at,

@@ -7,7 +7,7 @@ ghost use Prim.Native.Nat.{_^_, _≤_, _<_, suc, ℕ};
 ghost use Rattle.layout.specs.Header.{headerFits, firstOf, stripeAt, stripeOf, isFilled, hasStripe, firstEmpty};
 
 // The write number of a stripe's first block.
-pub fn first_of(header: Header, level: usize) -> usize
+fn first_of(header: Header, level: usize) -> usize
     requires { ⌜ (headerFits header ≡ true) × (level ≤ header .k) ⌝ }
     ensures { λ r. ⌜ r ≡ firstOf header level ⌝ }
 {

@@ -42,7 +42,7 @@ pub fn raw_size(header: Header) -> usize
     rows_size(header, header.s as usize)
 }
 
-pub fn out_size(header: Header) -> usize
+fn out_size(header: Header) -> usize
     requires { ⌜ headerFits header ≡ true ⌝ }
     ensures { λ r. ⌜ r ≡ outSize header ⌝ }
 {

@@ -30,7 +30,7 @@ fn block_row(full: &mut [u32], at: usize, raw: &[u32], i: usize, s: usize)
 }
 
 // Builds the full stripe of the raw records.
-pub fn build(raw: &[u32], full: &mut [u32], k: usize, s: usize)
+pub(crate) fn build(raw: &[u32], full: &mut [u32], k: usize, s: usize)
     requires { ⌜ (k ≤ 10) × (s ≤ 128) ⌝ }
     requires { ⌜ (length (now raw) ≡ 2 ^ k * s) × (length (now full) ≡ 2 ^ suc k * suc s) ⌝ }
     ensures { λ _. ⌜ now (full .exit) ≡ fullStripe (headerOf k s 0) (now (raw .entry)) ⌝ }
