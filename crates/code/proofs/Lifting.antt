@@ -184,46 +184,43 @@ column-append width n m j a b h e =
         ap (λ (x : ℕ). getD (a ++ b) x 0) q ∙ getD-append-add a b (d * width + j) 0 ∙ sym (column-at width m j b d (omega arith))
         ∙ sym (getD-append-add (column width n j a) (column width m j b) d 0) ∙ ap (λ (x : ℕ). getD (column width n j a ++ column width m j b) x 0) s
 
+-- rows that f gives, and then rows that g gives: a word of them
+module _ (width n m n′ m′ : ℕ) (f g : List ℕ → List ℕ) (a b : List ℕ) (keeps : (c : List ℕ) → length c ≡ n → length (f c) ≡ m) where
+  two-lifted : (i j : ℕ) → i < m + m′ → j < width → Dec (i < m)
+      → getD (lifted width n m f a ++ lifted width n′ m′ g b) (i * width + j) 0 ≡ getD (f (column width n j a) ++ g (column width n′ j b)) i 0
+  two-lifted i j h t (yes d) =
+      let x : i * width + j < length (lifted width n m f a) = rw length-lifted (digits-lt d t) in
+      let y : i < length (f (column width n j a)) = rw (keeps (column width n j a) (length-column width n j a)) d in
+      List·getD-append (lifted width n m f a) (lifted width n′ m′ g b) 0 (i * width + j) x ∙ lifted-at width n m f a i j d t
+      ∙ sym (List·getD-append (f (column width n j a)) (g (column width n′ j b)) 0 i y)
+  two-lifted i j h t (no d) =
+      let c : ℕ = i - m in
+      let y : length (f (column width n j a)) + c ≡ i = omega (arith, keeps (column width n j a) (length-column width n j a)) in
+      let x : i * width + j ≡ length (lifted width n m f a) + (c * width + j) = ap (λ (z : ℕ). z * width + j) {x = i} {y = m + c} (omega arith) ∙ omega (arith, length-lifted width n m f a) in
+      ap (λ (z : ℕ). getD (lifted width n m f a ++ lifted width n′ m′ g b) z 0) x
+      ∙ getD-append-add (lifted width n m f a) (lifted width n′ m′ g b) (c * width + j) 0 ∙ lifted-at width n′ m′ g b c j (omega arith) t
+      ∙ sym (getD-append-add (f (column width n j a)) (g (column width n′ j b)) c 0) ∙ ap (λ (z : ℕ). getD (f (column width n j a) ++ g (column width n′ j b)) z 0) y
+
+  length-two-lifted : length (lifted width n m f a ++ lifted width n′ m′ g b) ≡ (m + m′) * width
+  length-two-lifted = simp (length-append, length-lifted) (sym (add-mul m m′ width))
+
 -- f done to the first n rows and g to the rest
 pub lifted-append : (width n m n′ m′ : ℕ) (f g : List ℕ → List ℕ) (a b : List ℕ) → length a ≡ n * width → ((c : List ℕ) → length c ≡ n → length (f c) ≡ m)
     → lifted width n m f a ++ lifted width n′ m′ g b ≡ lifted width (n + n′) (m + m′) (λ c. f (take n c) ++ g (drop n c)) (a ++ b)
 lifted-append width n m n′ m′ f g a b e keeps =
-    is-lifted width (n + n′) (m + m′) (λ c. f (take n c) ++ g (drop n c)) (a ++ b) (lifted width n m f a ++ lifted width n′ m′ g b) long
-    (λ i j h t. at i j h t (decLt i m) ∙ ap (λ (c : List ℕ). getD (f (take n c) ++ g (drop n c)) i 0) (sym (column-append width n n′ j a b t e)))
+    is-lifted width (n + n′) (m + m′) (λ c. f (take n c) ++ g (drop n c)) (a ++ b) (lifted width n m f a ++ lifted width n′ m′ g b) (length-two-lifted width n m n′ m′ f g a b keeps)
+    (λ i j h t. at i j h t ∙ ap (λ (c : List ℕ). getD (f (take n c) ++ g (drop n c)) i 0) (sym (column-append width n n′ j a b t e)))
   where
-    split : (i j : ℕ) → i < m + m′ → j < width → Dec (i < m)
-        → getD (lifted width n m f a ++ lifted width n′ m′ g b) (i * width + j) 0 ≡ getD (f (column width n j a) ++ g (column width n′ j b)) i 0
-    split i j h t (yes d) =
-        let x : i * width + j < length (lifted width n m f a) = rw length-lifted (digits-lt d t) in
-        let y : i < length (f (column width n j a)) = rw (keeps (column width n j a) (length-column width n j a)) d in
-        List·getD-append (lifted width n m f a) (lifted width n′ m′ g b) 0 (i * width + j) x ∙ lifted-at width n m f a i j d t
-        ∙ sym (List·getD-append (f (column width n j a)) (g (column width n′ j b)) 0 i y)
-    split i j h t (no d) =
-        let c : ℕ = i - m in
-        let y : length (f (column width n j a)) + c ≡ i = omega (arith, keeps (column width n j a) (length-column width n j a)) in
-        let x : i * width + j ≡ length (lifted width n m f a) + (c * width + j) = ap (λ (z : ℕ). z * width + j) {x = i} {y = m + c} (omega arith) ∙ omega (arith, length-lifted width n m f a) in
-        ap (λ (z : ℕ). getD (lifted width n m f a ++ lifted width n′ m′ g b) z 0) x
-        ∙ getD-append-add (lifted width n m f a) (lifted width n′ m′ g b) (c * width + j) 0 ∙ lifted-at width n′ m′ g b c j (omega arith) t
-        ∙ sym (getD-append-add (f (column width n j a)) (g (column width n′ j b)) c 0) ∙ ap (λ (z : ℕ). getD (f (column width n j a) ++ g (column width n′ j b)) z 0) y
-
-    at : (i j : ℕ) → i < m + m′ → j < width → Dec (i < m)
+    at : (i j : ℕ) → i < m + m′ → j < width
         → getD (lifted width n m f a ++ lifted width n′ m′ g b) (i * width + j) 0
         ≡ getD (f (take n (column width n j a ++ column width n′ j b)) ++ g (drop n (column width n j a ++ column width n′ j b))) i 0
-    at i j h t d =
-        rw (take-at (column width n j a) (column width n′ j b) n (length-column width n j a), drop-at (column width n j a) (column width n′ j b) n (length-column width n j a)) (split i j h t d)
-
-    long : length (lifted width n m f a ++ lifted width n′ m′ g b) ≡ (m + m′) * width
-    long = simp (length-append, length-lifted) (sym (add-mul m m′ width))
+    at i j h t =
+        rw (take-at (column width n j a) (column width n′ j b) n (length-column width n j a), drop-at (column width n j a) (column width n′ j b) n (length-column width n j a))
+        (two-lifted width n m n′ m′ f g a b keeps i j h t (decLt i m))
 
 -- f and g done to the same rows, what f gives first
-pub lifted-both : (width n m m′ : ℕ) (f g : List ℕ → List ℕ) (l : List ℕ) → length l ≡ n * width → ((c : List ℕ) → length c ≡ n → length (f c) ≡ m)
-    → lifted width n (m + m′) (λ c. f c ++ g c) l ≡ lifted width n m f l ++ lifted width n m′ g l
-lifted-both width n m m′ f g l e keeps =
-    sym (lifted-append width n m n m′ f g l l e keeps
-    ∙ is-lifted width n (m + m′) (λ c. f c ++ g c) l (lifted width (n + n) (m + m′) (λ c. f (take n c) ++ g (drop n c)) (l ++ l)) (length-lifted width (n + n) (m + m′) (λ c. f (take n c) ++ g (drop n c)) (l ++ l))
-    (λ i j h t. lifted-at width (n + n) (m + m′) (λ c. f (take n c) ++ g (drop n c)) (l ++ l) i j h t ∙ at i j t))
-  where
-    at : (i j : ℕ) → j < width → getD (f (take n (column width (n + n) j (l ++ l))) ++ g (drop n (column width (n + n) j (l ++ l)))) i 0 ≡ getD (f (column width n j l) ++ g (column width n j l)) i 0
-    at i j t =
-        let c = column width n j l in
-        rw (column-append width n n j l l t e, take-at c c n (length-column width n j l), drop-at c c n (length-column width n j l))
+pub lifted-both : (width n m m′ : ℕ) (f g : List ℕ → List ℕ) (l : List ℕ) → ((c : List ℕ) → length c ≡ n → length (f c) ≡ m)
+    → lifted width n m f l ++ lifted width n m′ g l ≡ lifted width n (m + m′) (λ c. f c ++ g c) l
+lifted-both width n m m′ f g l keeps =
+    is-lifted width n (m + m′) (λ c. f c ++ g c) l (lifted width n m f l ++ lifted width n m′ g l) (length-two-lifted width n m n m′ f g l l keeps)
+    (λ i j h t. two-lifted width n m n m′ f g l l keeps i j h t (decLt i m))

@@ -1,7 +1,7 @@
 // Mixing in place. All mixing goes through `mix`.
 use crate::Stripe;
 ghost use mathlib.Core.Path.{_≡_};
-ghost use Prim.Native.Nat.{_+_, _*_, _^_, _≤_, _<_};
+ghost use Prim.Native.Nat.{_+_, _*_, _≤_, _<_};
 ghost use lib.ListN.{length};
 ghost use Rattle.field.specs.Field.{fermat};
 ghost use Rattle.field.specs.Words.{Words};

@@ -1,7 +1,7 @@
 // The inverse of mixing in place, but for a factor 2 a level.
 use crate::Stripe;
 ghost use mathlib.Core.Path.{_≡_};
-ghost use Prim.Native.Nat.{_+_, _*_, _^_, _≤_, _<_};
+ghost use Prim.Native.Nat.{_+_, _*_, _≤_, _<_};
 ghost use lib.ListN.{length};
 ghost use Rattle.field.specs.Field.{fermat};
 ghost use Rattle.field.specs.Words.{Words};

@@ -14,7 +14,7 @@ use Rattle.code.specs.Stripe.{blockCount, blockWords}
 use Rattle.decoder.specs.Decoding.{isConsistent, blocksIn}
 use Rattle.layout.specs.Records.{areData, recordIn, recordsFit}
 use Rattle.layout.specs.Refusals.{ifTaken}
-use Rattle.layout.proofs.Bounds.{if-taken, if-refused, both, not-first, not-second}
+use Rattle.layout.proofs.Refusals.{if-taken, if-refused, both, not-first, not-second}
 use Rattle.layout.proofs.RecordWords.{length-record}
 use Rattle.image.specs.Loading.{columnsOf}
 use Rattle.rows.specs.Decoding.{Decoded, blockNumber, blockData, areRecords, decodedNumber, decodedWords, solved}

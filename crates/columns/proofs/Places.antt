@@ -11,7 +11,7 @@ use borrow.Author.Tests.{eq-eqb, ne-eqb}
 use lib.Dec.{eqb}
 use lib.ListN.{getD}
 use Rattle.columns.specs.Ranges.{placesTo}
-use Rattle.layout.proofs.Bounds.{both, not-first, not-second}
+use Rattle.layout.proofs.Refusals.{both, not-first, not-second}
 
 -- NUMBERS THAT ARE THEIR PLACES
 module _ (w : ℕ) (r : List ℕ) where

@@ -15,7 +15,7 @@ use Rattle.code.specs.Stripe.{modulusOf, blockCount, positionCount}
 use Rattle.image.specs.Loading.{columnsOf}
 use Rattle.decoder.specs.Decoder.{weightsIn}
 use Rattle.columns.specs.Ranges.{copiedRows, placesTo, RangeFits, isConsistentRange, placesNumber, rangeNumber, columnsNumber, scratchWords}
-use Rattle.layout.proofs.Bounds.{both, not-first, not-second}
+use Rattle.layout.proofs.Refusals.{both, not-first, not-second}
 use Rattle.rows.proofs.ColumnRanges.{is-columns, consistent-range}
 use Rattle.columns.proofs.CopiedRows.{length-copied, copied-at, copied-off}
 use Rattle.columns.proofs.RangeCopies.{range-first, range-later, range-fails}

@@ -10,7 +10,7 @@ use Rattle.layout.specs.declared.Header.{Header}
 use Rattle.layout.specs.Header.{headerFits, count, imageSize, scratchSize}
 use Rattle.image.specs.Erasures.{erasuresFit}
 use Rattle.layout.specs.Refusals.{Tests, done, test, refusal}
-use Rattle.layout.proofs.Bounds.{three-equal, test-holds, passes}
+use Rattle.layout.proofs.Refusals.{three-equal, test-holds, passes}
 
 module _ (h : Header) (m e : List ℕ) (row out scratch : ℕ) where
   abbrev sizesFit : Bool

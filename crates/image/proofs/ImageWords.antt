@@ -1,25 +1,16 @@
--- Images read back: their length, and each word of the buffers that they were made of. Assumes nothing.
-use mathlib.Core.Path.{_≡_, refl, ap, _∙_}
+-- Images read back: each word of the buffers that they were made of. Assumes nothing.
+use mathlib.Core.Path.{_≡_, ap, _∙_}
 use mathlib.Core.List.{List, [], _∷_, _++_}
 use Prim.Native.Nat.{ℕ, zero, suc, _+_, _*_, _/_, _%_, _^_, _<_}
 use native.Mathlib.Nat.{mod-add-div, div-lt-iff-lt-mul, pow-suc}
 use native.Mathlib.Omega.{arith}
 use lib.Dec.{lit<}
-use lib.ListN.{length, getD, take, length-append}
+use lib.ListN.{length, getD, take}
 use lib.Seq.{drop-nil, take-at, drop-append-add}
 use Rattle.field.specs.Words.{Words}
 use Rattle.field.proofs.WordLists.{words-tail}
+use Rattle.image.proofs.WordBytes.{length-little}
 use Rattle.image.specs.Image.{little, bytesOf, numberOf, numberAt, wordAt}
-
-length-little : (n x : ℕ) → length (little n x) ≡ n
-unfolding little
-length-little zero x = refl
-length-little (suc n) x = ap suc (length-little n (x / 256))
-
-pub length-bytes : (ws : List ℕ) → length (bytesOf ws) ≡ 4 * length ws
-unfolding bytesOf
-length-bytes [] = refl
-length-bytes (x ∷ xs) = length-append (little 4 x) (bytesOf xs) ∙ omega (arith, length-little 4 x, length-bytes xs)
 
 number-little : (n x : ℕ) → x < 256 ^ n → numberOf (little n x) ≡ x
 unfolding little numberOf

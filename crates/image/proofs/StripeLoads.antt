@@ -2,21 +2,21 @@
 use mathlib.Core.Path.{_≡_, refl, sym, ap, ap₂, _∙_}
 use mathlib.Core.Bool.{Bool, true, false, _&&_, and-true, and-false, and-assoc}
 use mathlib.Core.List.{List, [], _∷_, _++_, append-assoc}
-use Prim.Native.Nat.{ℕ, zero, suc, _+_, _*_, _-_, _/_, _%_, _^_, _≤_, _<_}
-use native.Mathlib.Nat.{suc-mul, mul-le-mul-right, pow-succ', add-zero, zero-mul, add-mul}
+use Prim.Native.Nat.{ℕ, zero, suc, _+_, _*_, _-_, _/_, _%_, _≤_, _<_}
+use native.Mathlib.Nat.{add-zero, zero-mul}
 use native.Mathlib.Decide.{decLt}
 use native.Mathlib.Numerals.{add-one}
 use native.Mathlib.Omega.{arith}
 use lib.Arith.{digits-lt, digits-div, digits-mod}
-use lib.Pow.{pow-mono}
 use lib.Dec.{ltb}
-use borrow.Author.Tests.{ltb-true, lt-ltb, le-ltb, eq-eqb, ne-eqb}
+use borrow.Author.Tests.{ltb-true, lt-ltb, le-ltb}
 use lib.ListN.{length, getD, set, take, drop, length-append, length-set, length-take, length-drop, take-append-drop, drop-of-length-le, List·getD-eq-default}
 use lib.Seq.{length-take-le, take-take, take-at, set-at, drop-drop, drop-cons, getD-take, getD-drop, drop-append-add}
 use Rattle.field.specs.Words.{Words, table}
 use Rattle.field.proofs.WordLists.{words-nil, words-cons, words-table, length-table, getD-table, is-table, two-tables}
+use Rattle.code.proofs.Lifting.{row-next, row-in}
 use Rattle.layout.specs.declared.Header.{Header}
-use Rattle.layout.specs.Header.{width, fullSize, logSize, levelAt, stripeSize, stripeAt}
+use Rattle.layout.specs.Header.{width, stripeSize, stripeAt}
 use Rattle.image.specs.Image.{numberOf, numberAt, wordAt, wordsOf}
 use Rattle.image.specs.Loading.{stripeIn, survivingAt, surviving, areBelow, columnsWord, columnsOf}
 use Rattle.image.specs.LoadTrace.{rowWord, laid}
@@ -127,12 +127,6 @@ table-and : (k m : ℕ) (f g : ℕ → ℕ) → ((j : ℕ) → j < m → f (k + 
 table-and k m f g e =
     two-tables (table (k + m) f) k m f g (length-table (k + m) f) (λ j b. getD-table (k + m) j f (omega arith)) (λ j b. getD-table (k + m) (k + j) f (omega arith) ∙ e j b)
 
-pub row-in : {i rows : ℕ} (width : ℕ) → i < rows → i * width + width ≤ rows * width
-row-in {i} {rows} width h = omega (arith, suc-mul i width, mul-le-mul-right {m = suc i} {n = rows} width (omega arith))
-
-row-next : (i width : ℕ) → i * width + width ≡ (i + 1) * width
-row-next i width = omega (arith, suc-mul i width)
-
 -- a marked row is zeros, and a row that is kept is the stripe's words
 module _ (w : ℕ) (ms : List Bool) (r : List ℕ) (i j : ℕ) (h : j < w) where
   pub surviving-marked : getD ms i false ≡ true → survivingAt w ms r (i * w + j) ≡ 0
@@ -188,7 +182,7 @@ rows-start p rows width f = record { within = omega arith; left = ap (λ (n : �
 
 module _ {p rows width : ℕ} {f : ℕ → ℕ} {i : ℕ} (r : RowsLoop p rows width f i) (h : i < rows) (g : ℕ → ℕ) (e : (j : ℕ) → j < width → f (i * width + j) ≡ g j) where
   rows-next : (areBelow p (table width g) && areBelow p (drop ((i + 1) * width) (table (rows * width) f))) ≡ areBelow p (table (rows * width) f)
-  rows-next = rw (← row-next i width, ← below-append, ← row-of (rows * width) (i * width) width f g (row-in width h) e) (r .left)
+  rows-next = rw (row-next i width, ← below-append, ← row-of (rows * width) (i * width) width f g (row-in width h) e) (r .left)
 
   pub rows-turn : areBelow p (table width g) ≡ true → RowsLoop p rows width f (i + 1)
   rows-turn t = record { within = omega arith; left = rw t at rows-next }
@@ -224,7 +218,7 @@ pub load-turn : {rows cols : ℕ} {f : ℕ → ℕ} {entry part after : List ℕ
     → (g : ℕ → ℕ) → ((j : ℕ) → j < cols → f (i * cols + j) ≡ g j) → after ≡ laid (i * cols) cols g part → LoadLoop rows cols f entry after (i + 1)
 load-turn {rows} {cols} {f} {entry} {part} {after} {i} r h fit g e a =
     let b : i * cols + cols ≤ length entry = omega (arith, row-in cols h) in
-    let t : after ≡ table ((i + 1) * cols) f ++ drop ((i + 1) * cols) entry = rw (a, r .loaded-so, ← row-next i cols) (laid-next (i * cols) cols f g entry e) in
+    let t : after ≡ table ((i + 1) * cols) f ++ drop ((i + 1) * cols) entry = rw (a, r .loaded-so, row-next i cols) (laid-next (i * cols) cols f g entry e) in
     let q : (i + 1) * cols ≤ length entry = omega (arith, row-next i cols) in
     record { within = omega arith; same = ap length t ∙ simp (length-append, length-table, length-drop) (omega arith); loaded-so = t }
 
@@ -254,28 +248,3 @@ pub stripe-word : (h : Header) (m : List ℕ) (l q : ℕ) → q < stripeSize h l
 stripe-word h m l q b =
     words-at (stripeIn h m l) q
     ∙ ap numberOf (part-inside (4 * q) 4 (4 * stripeSize h l) (drop (4 * stripeAt h l) m) (omega arith) ∙ ap (take 4) (drop-drop (4 * q) (4 * stripeAt h l) m ∙ ap (λ (x : ℕ). drop x m) {x = 4 * stripeAt h l + 4 * q} {y = 4 * (stripeAt h l + q)} (omega arith)))
-
--- a stripe lies within the image
-level-in : (a b w : ℕ) → 2 ≤ a → 2 * a ≤ b → (a - 2) * w + a * w ≤ (b - 2) * w
-level-in a b w h e = rw (← add-mul (a - 2) a w) (mul-le-mul-right w (omega arith))
-
-pub stripe-in : (h : Header) (l : ℕ) → l ≤ h .k → stripeAt h l + stripeSize h l ≤ fullSize h + logSize h
-stripe-in h l b = at (decLt l (h .k))
-  where
-    level : l < h .k → levelAt h l + stripeSize h l ≤ logSize h
-    level a =
-        level-in (2 ^ suc l) (2 ^ suc (h .k)) (width h) (omega (arith, pow-mono {i = 1} {j = suc l} (omega arith)))
-        (omega (arith, pow-succ' 2 (suc l), pow-mono {i = suc (suc l)} {j = suc (h .k)} (omega arith)))
-
-    at : Dec (l < h .k) → stripeAt h l + stripeSize h l ≤ fullSize h + logSize h
-    at (yes a) = rw (ne-eqb l (h .k) (λ e. omega arith), stripeAt) (omega (arith, level a))
-    at (no a) =
-        let e : l ≡ h .k = omega arith in
-        rw (e, eq-eqb (h .k) (h .k) refl, stripeAt) (omega arith)
-
--- the same in bytes, as the calls ask it
-pub stripe-bytes : (h : Header) (l : ℕ) → l ≤ h .k → 4 * stripeAt h l + 4 * (2 ^ suc l * width h) ≤ 4 * (fullSize h + logSize h)
-stripe-bytes h l b = omega (arith, stripe-in h l b)
-
-pub stripe-steps : (h : Header) (l : ℕ) → l ≤ h .k → 4 * stripeAt h l + 2 ^ suc l * (4 * width h) ≤ 4 * (fullSize h + logSize h)
-stripe-steps h l b = omega (arith, stripe-in h l b)

@@ -13,7 +13,7 @@ use borrow.Author.Tests.{leb-true, le-leb}
 use Rattle.field.specs.Words.{Words}
 use Rattle.field.proofs.WordLists.{words-nil, words-cons, words-tail, words-take, words-drop, words-append}
 use Rattle.layout.specs.Records.{isData, areData, recordIn, replaced, recordsFit}
-use Rattle.layout.proofs.Bounds.{both, first, second, not-first, not-second}
+use Rattle.layout.proofs.Refusals.{both, first, second, not-first, not-second}
 
 -- data words are words below 65536, and so words of the field
 pub data-words : (l : List ℕ) → areData l ≡ true → Words 65536 l

@@ -12,7 +12,7 @@ use lib.Seq.{take-at, drop-drop, drop-append-add}
 use Rattle.code.specs.declared.Stripe.{Stripe}
 use Rattle.code.specs.Stripe.{blockCount, positionCount, blockWords, stripeWords}
 use Rattle.decoder.specs.Decoding.{isConsistent, blocksIn}
-use Rattle.layout.proofs.Bounds.{first, second}
+use Rattle.layout.proofs.Refusals.{first, second}
 use Rattle.layout.specs.Records.{recordsFit}
 use Rattle.image.specs.Loading.{columnsOf}
 use Rattle.rows.specs.Decoding.{Decoded, failed, decoded, blockNumber, blockData, areRecords, decodedNumber, decodedWords, solved}

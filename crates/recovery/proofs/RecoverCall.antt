@@ -11,7 +11,7 @@ use Rattle.rows.specs.Decoding.{Decoded, decodedNumber}
 use Rattle.stripe.specs.Decoding.{decodeStripe}
 use Rattle.recovery.specs.Recovery.{Recovered, stopped, recovered, laid, laidFrom, thenLay, levelsOver, recover}
 use Rattle.recovery.specs.RecoveryCall.{recoverEarly, unnamed, answerOf, wordsOf, recoverAnswer, recoverLeaves, recoverScratch}
-use Rattle.layout.proofs.Bounds.{if-taken, if-refused}
+use Rattle.layout.proofs.Refusals.{if-taken, if-refused}
 use Rattle.recovery.proofs.LevelsRecovery.{Sound, failed-is, then-laid}
 
 -- THE FULL STRIPE, and the levels over it

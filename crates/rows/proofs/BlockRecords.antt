@@ -13,7 +13,7 @@ use lib.ListN.{getD, take, drop}
 use Rattle.layout.specs.Records.{areData}
 use Rattle.code.specs.declared.Stripe.{Stripe}
 use Rattle.rows.specs.Decoding.{numberFits, blockNumber, blockData, isRecord, areRecords}
-use Rattle.layout.proofs.Bounds.{first, second, both, not-first, not-second}
+use Rattle.layout.proofs.Refusals.{first, second, both, not-first, not-second}
 
 -- THE RECORDS of a list of blocks
 module _ (st : Stripe) (bs : List ℕ) where

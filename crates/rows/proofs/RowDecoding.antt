@@ -17,7 +17,7 @@ use Rattle.code.specs.Rows.{Column}
 use Rattle.decoder.specs.Decoding.{survivors, isConsistent, blocksIn}
 use Rattle.decoder.specs.Promises.{AgreesRows}
 use Rattle.decoder.proofs.Proved as Decoder
-use Rattle.layout.proofs.Bounds.{both, is-false}
+use Rattle.layout.proofs.Refusals.{both, is-false}
 use Rattle.image.specs.Loading.{survivingAt, surviving, areBelow}
 use Rattle.image.proofs.StripeLoads.{below-words, surviving-marked, surviving-kept}
 use Rattle.rows.specs.Decoding.{Decoded, failed, decoded, areRecords, solved, decodeMarked, decodeRows}

@@ -13,7 +13,7 @@ use Rattle.layout.specs.Records.{areData}
 use Rattle.store.specs.Buffers.{buffers}
 use Rattle.layout.specs.Refusals.{Tests, done, test}
 use Rattle.store.specs.StoreCalls.{writeNumber}
-use Rattle.layout.proofs.Bounds.{first, second, three-equal, passes}
+use Rattle.layout.proofs.Refusals.{first, second, three-equal, passes}
 
 module _ (h : Header) (r f g : List ℕ) (i : ℕ) (b : List ℕ) where
   pub record WriteTaken : Type 0 where

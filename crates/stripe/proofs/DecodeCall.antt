@@ -14,7 +14,7 @@ use Rattle.rows.specs.Decoding.{Decoded, decodedNumber, decodedWords}
 use Rattle.stripe.specs.Decoding.{decodeStripe}
 use Rattle.layout.specs.Refusals.{Tests, done, test, refusal}
 use Rattle.stripe.specs.StripeCall.{decodeEarly, decodeNumber, decodeLeaves, decodeScratch}
-use Rattle.layout.proofs.Bounds.{first, passes, if-taken, if-refused}
+use Rattle.layout.proofs.Refusals.{first, passes, if-taken, if-refused}
 use Rattle.image.proofs.ImageTests.{imageTests, Lent, lent, passed, none-before}
 
 -- a stripe that passes test 6 is one of the header's

@@ -27,7 +27,7 @@ use Rattle.store.proofs.StoredRecords.{length-full}
 use Rattle.vault.proofs.Levels.{length-log}
 use Rattle.vault.proofs.Rounds.{header-fits}
 use Rattle.vault.proofs.Histories.{histories, modelIs}
-use Rattle.image.proofs.ImageWords.{length-bytes}
+use Rattle.image.proofs.WordBytes.{length-bytes}
 use Rattle.vault.proofs.StripeCall.{call-gives}
 use Rattle.vault.proofs.RoundDecoding.{level-decodes, full-decodes}
 use Rattle.vault.proofs.RoundRecovery.{recover-round}

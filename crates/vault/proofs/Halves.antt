@@ -2,12 +2,10 @@
 use mathlib.Core.Path.{_≡_, refl, sym, ap, ap₂, _∙_}
 use mathlib.Core.List.{List, [], _∷_, _++_}
 use Prim.Native.Nat.{ℕ, zero, suc, _+_, _*_, _-_, _/_, _^_, _<_}
-use native.Mathlib.Nat.{add-zero, add-mul, zero-mul, one-mul}
+use native.Mathlib.Nat.{add-zero, zero-mul, one-mul}
 use native.Mathlib.Omega.{arith}
-use native.Mathlib.Decide.{decLt}
-use lib.ListN.{length, getD, take, drop, length-append, length-drop, List·getD-append}
-use lib.Seq.{getD-append-add, take-at, drop-at, length-take-le}
-use lib.Arith.{digits-lt}
+use lib.ListN.{length, getD, take, drop, length-append, length-drop}
+use lib.Seq.{take-at, drop-at, length-take-le}
 use Rattle.field.specs.Residue.{times}
 use Rattle.field.specs.Power.{power}
 use Rattle.field.specs.Words.{Words}
@@ -15,29 +13,7 @@ use Rattle.code.specs.Rows.{column, lifted}
 use Rattle.code.specs.Transform.{mixedHalves, transform, scaled, reversed, turned}
 use Rattle.code.specs.Stripe.{coded, codedRows}
 use Rattle.code.proofs.Shapes.{length-transform, length-scaled, length-turned, scaled-at, words-transform, words-turned}
-use Rattle.code.proofs.Lifting.{length-column, words-column, length-lifted, lifted-at, is-lifted, lifted-same, lifted-then, lifted-id, words-lifted, lifted-append}
-
--- f and g done to the same rows, one after the other
-lifted-both : (width n m m′ : ℕ) (f g : List ℕ → List ℕ) (a : List ℕ) → ((c : List ℕ) → length c ≡ n → length (f c) ≡ m)
-    → lifted width n m f a ++ lifted width n m′ g a ≡ lifted width n (m + m′) (λ c. f c ++ g c) a
-lifted-both width n m m′ f g a keeps =
-    is-lifted width n (m + m′) (λ c. f c ++ g c) a (lifted width n m f a ++ lifted width n m′ g a) (simp (length-append, length-lifted) (sym (add-mul m m′ width)))
-    (λ i j h b. at i j h b (decLt i m))
-  where
-    at : (i j : ℕ) → i < m + m′ → j < width → Dec (i < m)
-        → getD (lifted width n m f a ++ lifted width n m′ g a) (i * width + j) 0 ≡ getD (f (column width n j a) ++ g (column width n j a)) i 0
-    at i j h b (yes d) =
-        let x : i * width + j < length (lifted width n m f a) = rw length-lifted (digits-lt d b) in
-        let y : i < length (f (column width n j a)) = rw (keeps (column width n j a) (length-column width n j a)) d in
-        List·getD-append (lifted width n m f a) (lifted width n m′ g a) 0 (i * width + j) x ∙ lifted-at width n m f a i j d b
-        ∙ sym (List·getD-append (f (column width n j a)) (g (column width n j a)) 0 i y)
-    at i j h b (no d) =
-        let c : ℕ = i - m in
-        let y : length (f (column width n j a)) + c ≡ i = omega (arith, keeps (column width n j a) (length-column width n j a)) in
-        let x : i * width + j ≡ length (lifted width n m f a) + (c * width + j) = ap (λ (z : ℕ). z * width + j) {x = i} {y = m + c} (omega arith) ∙ omega (arith, length-lifted width n m f a) in
-        ap (λ (z : ℕ). getD (lifted width n m f a ++ lifted width n m′ g a) z 0) x
-        ∙ getD-append-add (lifted width n m f a) (lifted width n m′ g a) (c * width + j) 0 ∙ lifted-at width n m′ g a c j (omega arith) b
-        ∙ sym (getD-append-add (f (column width n j a)) (g (column width n j a)) c 0) ∙ ap (λ (z : ℕ). getD (f (column width n j a) ++ g (column width n j a)) z 0) y
+use Rattle.code.proofs.Lifting.{length-column, words-column, length-lifted, is-lifted, lifted-same, lifted-then, lifted-id, words-lifted, lifted-append, lifted-both}
 
 module _ (p w k : ℕ) where
   -- turning, of parts

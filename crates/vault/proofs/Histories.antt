@@ -22,7 +22,7 @@ use Rattle.vault.specs.History.{Vault, vault, numberOn, step, after, Ope
 use Rattle.vault.specs.Model.{Model, writes, wordsFit, tableNumber, put, fed, fedAll, openedModel, modelOf}
 use Rattle.vault.specs.Round.{Entry, Round, putAll, beforeEach, recordsIn, modelIn, startOf, grown, turnRound, roundAfter, openedRound, roundOf, roundHeader, represent}
 use Rattle.vault.specs.Promises.{HeaderIs, SizesStay, RecordsLong, NumbersAre, WordsAre, RawIs, ModelIs, BeforeIs}
-use Rattle.layout.proofs.Refusals.{refusal-zero, choose, chosen-first, chosen-second}
+use Rattle.layout.proofs.Refusals.{passes, choose, chosen-first, chosen-second}
 use Rattle.layout.proofs.RecordWords.{data-words}
 use Rattle.store.proofs.OpenTests.{open-taken, open-data}
 use Rattle.store.proofs.StoredRecords.{length-full}
@@ -110,12 +110,12 @@ module _ (a : Round) (good : Good a) (i : ℕ) (b : List ℕ) where
   pub taken-is : tableNumber (modelIn a) (write i b) ≡ 0 → Taken (a .k) (a .s) x
   unfolding refusal
   taken-is e =
-      let t₁ = refusal-zero (eqb (length b) (a .s)) 2 (test (ltb i (2 ^ a .k)) 4 (test (wordsFit b) 5 done)) (omega arith) e in
-      let t₂ = refusal-zero (ltb i (2 ^ a .k)) 4 (test (wordsFit b) 5 done) (omega arith) (t₁ .1) in
+      let t₁ = passes (eqb (length b) (a .s)) 2 (test (ltb i (2 ^ a .k)) 4 (test (wordsFit b) 5 done)) e (omega arith) in
+      let t₂ = passes (ltb i (2 ^ a .k)) 4 (test (wordsFit b) 5 done) (t₁ .1) (omega arith) in
       record {
         within = ltb-true i (2 ^ a .k) (t₂ .0);
         long = eqb-true (length b) (a .s) (t₁ .0);
-        words = data-words b (data-fit b ∙ refusal-zero (wordsFit b) 5 done (omega arith) (t₂ .1) .0);
+        words = data-words b (data-fit b ∙ passes (wordsFit b) 5 done (t₂ .1) (omega arith) .0);
       }
 
   -- a write that is taken

@@ -22,7 +22,7 @@ use Rattle.rows.proofs.StripeTests.{stripe-fits}
 use Rattle.stripe.specs.Decoding.{decodeStripe}
 use Rattle.stripe.specs.StripeCall.{decodeEarly, decodeNumber, decodeLeaves}
 use Rattle.vault.specs.Promises.{marks, wordsIn, Readable, Asked, GivesSeven, GivesEight, GivesNine, GivesTen, GivesZero, LeavesBlocks, LeavesZeros, Needed, Gives}
-use Rattle.layout.proofs.Bounds.{both, first, passes, test-holds, none-fails, equal-three, if-taken}
+use Rattle.layout.proofs.Refusals.{both, first, passes, test-holds, none-fails, equal-three, if-taken}
 use Rattle.vault.proofs.StripeDecoding.{readable-rows, decodesIff, nineIff, tenIff}
 
 -- the number of what decoding comes to; one other than 0 is that of a failure

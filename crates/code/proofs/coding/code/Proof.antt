@@ -19,15 +19,15 @@ use Rattle.code.proofs.coding.code.Statement.{statement}
 use Rattle.code.proofs.coding.code.Tie as tie
 
 -- X and Y of all columns
-coded-rows : (w k l t width : ℕ) (bs x y z : List ℕ) → length bs ≡ 2 ^ l * width → x ≡ lifted width (2 ^ l) (2 ^ l) (transform 65537 w k l) bs
+coded-rows : (w k l t width : ℕ) (bs x y z : List ℕ) → x ≡ lifted width (2 ^ l) (2 ^ l) (transform 65537 w k l) bs
     → y ≡ lifted width (2 ^ l) (2 ^ l) (turned 65537 w k t) bs → z ≡ lifted width (2 ^ l) (2 ^ l) (transform 65537 w k l) y → x ++ z ≡ codedRows 65537 w k l t width bs
 unfolding codedRows coded
-coded-rows w k l t width bs x y z e ex ey ez =
+coded-rows w k l t width bs x y z ex ey ez =
     let n = 2 ^ l in
     let T = transform 65537 w k l in
     let U = turned 65537 w k t in
     ap₂ _++_ ex (ez ∙ ap (lifted width n n T) ey ∙ lifted-then width n n n U T bs (λ c h. length-turned 65537 w k t c ∙ h))
-    ∙ sym (lifted-both width n n n T (λ c. T (U c)) bs e (length-transform 65537 w k l)) ∙ ap (λ (m : ℕ). lifted width n m (coded 65537 w k l t) bs) {x = n + n} {y = 2 ^ suc l} (omega arith)
+    ∙ lifted-both width n n n T (λ c. T (U c)) bs (length-transform 65537 w k l) ∙ ap (λ (m : ℕ). lifted width n m (coded 65537 w k l t) bs) {x = n + n} {y = 2 ^ suc l} (omega arith)
 
 -- the arguments, and the words of a half
 abbrev start : tie.After-two-to → tie.Start
@@ -173,7 +173,7 @@ returns c =
     let at-two = mix-two at-mix in
     let a = stripe at-two in
     put-rest (turned-parts at-turn) (at-last .mix-all2 .last .0) .is
-    ∙ coded-rows (a .root) (a .k) (a .level) (a .first) (a .width) (blocks at-two) _ _ _ (length-blocks at-two ∙ half-is at-two) (mixed at-mix) (turned-half at-turn)
+    ∙ coded-rows (a .root) (a .k) (a .level) (a .first) (a .width) (blocks at-two) _ _ _ (mixed at-mix) (turned-half at-turn)
     (at-last .mix-all2 .ensures ∙ ap (lifted _ _ _ _) (lent-rest (turned-parts at-turn)))
     ∙ ap (λ (n : ℕ). codedRows 65537 (a .root) (a .k) (a .level) (a .first) (a .width) (take n (start at-two .args .part .now))) (half-is at-two)
 

@@ -8,7 +8,6 @@ use lib.Pow.{pow-mono}
 use Rattle.image.specs.Erasures.{erasuresIn}
 use Rattle.layout.proofs.Bounds.{fits}
 use Rattle.image.proofs.Marking.{marksFor-is}
-use Rattle.image.proofs.StripeLoads.{stripe-steps}
 use Rattle.layout.proofs.StripePlaces.{inside}
 use Rattle.image.proofs.erasures.mark_stripe.Statement.{statement}
 use Rattle.image.proofs.erasures.mark_stripe.Tie as tie
@@ -45,7 +44,7 @@ mark-requires c κs =
     let f = fits h (s .pre .0 .0) in
     let e : c .two-to .result ≡ 2 ^ suc l = c .two-to .ensures ∙ ap (λ (n : ℕ). 2 ^ n) (add-one l) in (
       (s .pre .1, rw e (pow-mono {i = suc l} {j = 11} (omega (arith, s .pre .0 .1, f .k-high)))),
-      (omega arith, rw (e, c .before .before .stripe-at .ensures, add-one (h .s)) (omega (arith, stripe-steps h l (s .pre .0 .1), f .image-is, f .image-low))),
+      (omega arith, rw (e, c .before .before .stripe-at .ensures, add-one (h .s)) (omega (arith, inside h l f (s .pre .0 .1), f .image-low))),
     )
 
 same-length : tie.Need-same-length

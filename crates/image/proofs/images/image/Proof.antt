@@ -11,7 +11,8 @@ use lib.Seq.{sets}
 use Rattle.layout.specs.declared.Header.{Header}
 use Rattle.layout.specs.Header.{headerFits, fullSize, logSize, imageSize}
 use Rattle.layout.specs.Refusals.{refusal}
-use Rattle.layout.proofs.Bounds.{fits, equal-three, test-holds, none-fails, if-taken, if-refused}
+use Rattle.layout.proofs.Bounds.{fits}
+use Rattle.layout.proofs.Refusals.{equal-three, test-holds, none-fails, if-taken, if-refused}
 use Rattle.image.specs.Image.{bytesOf, imageOf}
 use Rattle.image.specs.ImageCall.{imageNumber, imageLeaves}
 use Rattle.image.proofs.WordBytes.{image-stored}

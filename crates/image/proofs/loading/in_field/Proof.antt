@@ -14,7 +14,8 @@ use Rattle.code.specs.Stripe.{positionCount}
 use Rattle.image.specs.Image.{wordsOf}
 use Rattle.image.specs.Loading.{survivingAt, areBelow}
 use Rattle.image.specs.LoadTrace.{rowWord}
-use Rattle.image.proofs.StripeLoads.{RowsLoop, rows-start, rows-turn, rows-over, rows-end, below-zeros, row-in, surviving-marked, kept-word}
+use Rattle.code.proofs.Lifting.{row-in}
+use Rattle.image.proofs.StripeLoads.{RowsLoop, rows-start, rows-turn, rows-over, rows-end, below-zeros, surviving-marked, kept-word}
 use Rattle.image.proofs.loading.in_field.Statement.{statement}
 use Rattle.image.proofs.loading.in_field.Tie as tie
 

@@ -11,7 +11,8 @@ use Rattle.code.proofs.Shapes.{positions}
 use Rattle.code.specs.Stripe.{positionCount}
 use Rattle.image.specs.Image.{wordsOf}
 use Rattle.image.specs.Loading.{surviving, columnsWord, columnsOf}
-use Rattle.image.proofs.StripeLoads.{LoadLoop, load-start, load-turn, load-end, row-in, range-marked, range-kept}
+use Rattle.code.proofs.Lifting.{row-in}
+use Rattle.image.proofs.StripeLoads.{LoadLoop, load-start, load-turn, load-end, range-marked, range-kept}
 use Rattle.image.proofs.loading.load.Statement.{statement}
 use Rattle.image.proofs.loading.load.Tie as tie
 

@@ -1,6 +1,5 @@
 -- `rows::decoding::load_and_solve` meets its contract: the weights are stored, the rows loaded before them, and decoded. Assumes nothing.
 use mathlib.Core.Path.{_≡_, ap, _∙_}
-use mathlib.Core.Bool.{Bool}
 use mathlib.Core.List.{List, _++_}
 use Prim.Native.Nat.{ℕ, _+_}
 use native.Mathlib.Omega.{arith}

@@ -12,7 +12,8 @@ use Rattle.layout.specs.Header.{headerFits, count, rawSize}
 use Rattle.layout.specs.Records.{recordIn}
 use Rattle.layout.specs.Refusals.{Tests, done, test}
 use Rattle.store.specs.StoreCalls.{readNumber, readGives}
-use Rattle.layout.proofs.Bounds.{fits, passes, if-taken, if-refused}
+use Rattle.layout.proofs.Bounds.{fits}
+use Rattle.layout.proofs.Refusals.{passes, if-taken, if-refused}
 use borrow.Author.Needs.{needs}
 use Rattle.store.proofs.reading.read.Statement.{statement}
 use Rattle.store.proofs.reading.read.Tie as tie

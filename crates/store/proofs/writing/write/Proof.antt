@@ -17,7 +17,8 @@ use Rattle.layout.specs.Records.{replaced}
 use Rattle.store.specs.Buffers.{fullStripe, Buffers, buffers, opened}
 use Rattle.store.specs.Writing.{logWith, nextHeader, written, lastOfRound}
 use Rattle.store.specs.StoreCalls.{writeNumber, writeAnswer, writeLeaves}
-use Rattle.layout.proofs.Bounds.{Fits, fits, if-taken, if-refused}
+use Rattle.layout.proofs.Bounds.{Fits, fits}
+use Rattle.layout.proofs.Refusals.{if-taken, if-refused}
 use Rattle.layout.proofs.RecordWords.{data-words, field-words}
 use Rattle.store.proofs.WriteTests.{WriteTaken, write-taken}
 use borrow.Author.Needs.{needs}

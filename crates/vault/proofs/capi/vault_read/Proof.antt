@@ -5,7 +5,7 @@ use native.Mathlib.Nat.{mul-le-mul}
 use native.Mathlib.Omega.{arith}
 use Rattle.store.specs.StoreCalls.{readNumber}
 use Rattle.layout.specs.Header.{headerOf}
-use Rattle.layout.proofs.Bounds.{if-taken, if-refused}
+use Rattle.layout.proofs.Refusals.{if-taken, if-refused}
 use borrow.Author.Needs.{needs}
 use Rattle.vault.proofs.capi.vault_read.Statement.{statement}
 use Rattle.vault.proofs.capi.vault_read.Tie as tie
