@@ -7,7 +7,7 @@ use native.Mathlib.Nat.{zero-add}
 use native.Mathlib.Decide.{decLt}
 use native.Mathlib.Omega.{arith}
 use lib.Arith.{digits-lt, digits-div}
-use lib.ListN.{length, getD, take, drop, take-append-drop}
+use lib.ListN.{length, getD, take, drop, length-drop, take-append-drop}
 use lib.Seq.{getD-take, length-take-le}
 use Rattle.field.specs.Residue.{plus, minus, times}
 use Rattle.field.specs.Power.{inverse}
@@ -15,12 +15,14 @@ use Rattle.field.specs.Words.{Words}
 use Rattle.field.proofs.Laws.{times-comm, times-zero}
 use Rattle.code.specs.Transform.{reversed}
 use Rattle.code.specs.Rows.{column, lifted}
+use Rattle.code.specs.declared.Stripe.{Stripe}
+use Rattle.code.specs.Stripe.{blockCount, blockWords, stripeWords}
 use Rattle.decoder.specs.Decoder.{halfOf, derivedAt, derived, divisorAt, chosenAt, chosen, weighedAt, weighed}
 use Rattle.code.specs.RowTrace.{stored}
 use Rattle.decoder.proofs.Tests.{choice-lt}
 use Rattle.code.proofs.Lifting.{length-column, column-at, is-lifted, lifted-append, table-lifted, two-halves}
 use Rattle.decoder.proofs.DecoderShapes.{derived-low, derived-high, chosen-at, weighed-at}
-use Rattle.code.proofs.RowLaws.{length-stored, stored-before, stored-at, stored-is, scaledRowsWord}
+use Rattle.code.proofs.RowLaws.{Parts, cut, length-stored, stored-before, stored-at, stored-is, scaledRowsWord}
 
 -- STEP 3, word q of the second half
 unfoldable pub deriveWord : (p level width : ℕ) → (rows : List ℕ) → (q : ℕ) → ℕ
@@ -118,7 +120,20 @@ module _ (p : ℕ) (z : 0 < p) (l width : ℕ) (ms : List Bool) (part : List ℕ
       stored-is 0 f (2 ^ suc l * width) part (omega arith)
       ∙ rw (zero-add, table-lifted width (2 ^ suc l) (2 ^ suc l) (weighed p l ms ws) f (take (2 ^ suc l * width) part) weigh-word)
 
--- STEPS 2 AND 4: what is done to each half of the rows
+-- STEPS 2 AND 4: a stripe's rows in two halves of `half` words
+pub record Halved (st : Stripe) (half : ℕ) (rows : List ℕ) : Type 0 where
+  pub half-is : half ≡ blockWords st
+  pub long : length rows ≡ half + half
+  pub parts : Parts half rows (take half rows) (drop half rows)
+  pub second : length (drop half rows) ≡ blockWords st
+
+pub halved : (st : Stripe) {b : ℕ} (rows : List ℕ) → b ≡ blockCount st → length rows ≡ stripeWords st → Halved st (b * st .width) rows
+halved st {b} rows e l =
+    let h : b * st .width ≡ blockWords st = ap (λ (n : ℕ). n * st .width) e in
+    let d : length rows ≡ b * st .width + b * st .width = l ∙ two-halves (st .level) (st .width) ∙ sym (ap₂ _+_ h h) in
+    record { half-is = h; long = d; parts = cut (b * st .width) rows (omega arith); second = length-drop (b * st .width) rows ∙ omega arith }
+
+-- what is done to each half of the rows
 pub lifted-halves : (width l : ℕ) (f g : List ℕ → List ℕ) (r : List ℕ) → length r ≡ 2 ^ suc l * width → ((c : List ℕ) → length c ≡ 2 ^ l → length (f c) ≡ 2 ^ l)
     → lifted width (2 ^ l) (2 ^ l) f (take (2 ^ l * width) r) ++ lifted width (2 ^ l) (2 ^ l) g (drop (2 ^ l * width) r)
     ≡ lifted width (2 ^ suc l) (2 ^ suc l) (λ c. f (take (2 ^ l) c) ++ g (drop (2 ^ l) c)) r

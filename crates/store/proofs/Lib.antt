@@ -1,3 +1,4 @@
+pub mod BufferTests
 pub mod Folding
 pub mod Gathering
 pub mod OpenTests

@@ -12,8 +12,9 @@ use Rattle.layout.specs.Header.{count, headerFits, rawSize, fullSize, logSize}
 use Rattle.layout.specs.Records.{areData}
 use Rattle.store.specs.Buffers.{buffers}
 use Rattle.layout.specs.Refusals.{Tests, done, test}
-use Rattle.store.specs.StoreCalls.{writeNumber}
-use Rattle.layout.proofs.Refusals.{first, second, three-equal, passes}
+use Rattle.store.specs.StoreCalls.{buffersFit, writeNumber}
+use Rattle.store.proofs.BufferTests.{lengths}
+use Rattle.layout.proofs.Refusals.{first, second, passes}
 
 module _ (h : Header) (r f g : List ℕ) (i : ℕ) (b : List ℕ) where
   pub record WriteTaken : Type 0 where
@@ -27,19 +28,19 @@ module _ (h : Header) (r f g : List ℕ) (i : ℕ) (b : List ℕ) where
 
   pub write-taken : writeNumber h (buffers r f g) i b ≡ 0 → WriteTaken
   write-taken e =
-      let others = eqb (length f) (fullSize h) && (eqb (length g) (logSize h) && eqb (length b) (h .s)) in
-      let sized = eqb (length r) (rawSize h) && others in
+      let u = buffers r f g in
+      let sized = buffersFit h u && eqb (length b) (h .s) in
       let last : Tests = test (ltb i (count h)) 4 (test (areData b) 5 done) in
       let one = passes (headerFits h) 1 (test sized 2 last) e (omega arith) in
       let two = passes sized 2 last (one .1) (omega arith) in
       let four = passes (ltb i (count h)) 4 (test (areData b) 5 done) (two .1) (omega arith) in
-      let t = three-equal (length f) (fullSize h) (length g) (logSize h) (length b) (h .s) (second (eqb (length r) (rawSize h)) others (two .0)) in
+      let t = lengths h u (first (buffersFit h u) (eqb (length b) (h .s)) (two .0)) in
       record {
         fitting = one .0;
-        raw-long = eqb-true (length r) (rawSize h) (first (eqb (length r) (rawSize h)) others (two .0));
-        full-long = t .0;
-        log-long = t .1;
-        block-long = t .2;
+        raw-long = t .0;
+        full-long = t .1;
+        log-long = t .2;
+        block-long = eqb-true (length b) (h .s) (second (buffersFit h u) (eqb (length b) (h .s)) (two .0));
         within = ltb-true i (count h) (four .0);
         words = passes (areData b) 5 done (four .1) (omega arith) .0;
       }

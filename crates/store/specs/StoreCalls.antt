@@ -1,5 +1,5 @@
 -- What opening, writing and reading answer, and what they leave in each lent buffer, for every input. Assumes nothing: these are definitions.
-use mathlib.Core.Bool.{_&&_}
+use mathlib.Core.Bool.{Bool, _&&_}
 use mathlib.Core.List.{List, []}
 use Prim.Native.Nat.{ℕ}
 use lib.Dec.{ltb, eqb}
@@ -13,14 +13,18 @@ use Rattle.store.specs.Buffers.{Buffers, buffers, opened}
 use Rattle.store.specs.Writing.{nextHeader, written}
 use Rattle.layout.specs.Refusals.{done, test, refusal, ifTaken}
 
+-- THE BUFFERS that a vault lives in have their lengths; the number of a call by this and by its header
+abbrev pub buffersFit : Header → Buffers → Bool
+buffersFit h u = eqb (length (u .raw)) (rawSize h) && (eqb (length (u .full)) (fullSize h) && eqb (length (u .log)) (logSize h))
+
+abbrev pub buffersNumber : Header → Buffers → ℕ
+buffersNumber h u = refusal (test (headerFits h) 1 (test (buffersFit h u) 2 done))
+
 -- OPENING
 abbrev pub openNumber : (k s : ℕ) → (raw full log : List ℕ) → ℕ
 openNumber k s r f g =
     let h = headerOf k s 0 in
-    refusal
-    (test (headerFits h) 1
-    (test (eqb (length r) (rawSize h) && (eqb (length f) (fullSize h) && eqb (length g) (logSize h))) 2
-    (test (recordsFit s r (count h)) 5 done)))
+    refusal (test (headerFits h) 1 (test (buffersFit h (buffers r f g)) 2 (test (recordsFit s r (count h)) 5 done)))
 
 abbrev pub openAnswer : (k s : ℕ) → (raw full log : List ℕ) → Opened
 openAnswer k s r f g =
@@ -34,7 +38,7 @@ abbrev pub writeNumber : Header → Buffers → (number : ℕ) → (block : List
 writeNumber h u i b =
     refusal
     (test (headerFits h) 1
-    (test (eqb (length (u .raw)) (rawSize h) && (eqb (length (u .full)) (fullSize h) && (eqb (length (u .log)) (logSize h) && eqb (length b) (h .s)))) 2
+    (test (buffersFit h u && eqb (length b) (h .s)) 2
     (test (ltb i (count h)) 4
     (test (areData b) 5 done))))
 

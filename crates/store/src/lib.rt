@@ -1,6 +1,7 @@
 // The calls that open, write and read, each proved for every input.
 use layout::Header;
 
+mod buffers;
 pub mod opening;
 pub mod reading;
 pub mod writing;

@@ -57,17 +57,9 @@ fn open_number(k: u32, s: u32, raw: &[u32], full: &[u32], log: &[u32]) -> u32
     ensures { λ r. ⌜ r ≡ openNumber k s (now (raw .entry)) (now (full .entry)) (now (log .entry)) ⌝ }
 {
     let header = Header { k: k, s: s, c: 0 };
-    if !layout::sizes::header_fits(header) {
-        return 1;
-    }
-    if raw.len() != layout::sizes::raw_size(header) {
-        return 2;
-    }
-    if full.len() != layout::sizes::full_size(header) {
-        return 2;
-    }
-    if log.len() != layout::sizes::log_size(header) {
-        return 2;
+    let early = crate::buffers::buffers_number(header, raw, full, log);
+    if early != 0 {
+        return early;
     }
     if !layout::words::records_fit(raw, s as usize, code::number::two_to(k as usize)) {
         return 5;

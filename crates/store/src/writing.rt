@@ -141,17 +141,9 @@ fn write_number(
 ) -> u32
     ensures { λ r. ⌜ r ≡ writeNumber header (buffers (now (raw .entry)) (now (full .entry)) (now (log .entry))) number (now (block .entry)) ⌝ }
 {
-    if !layout::sizes::header_fits(header) {
-        return 1;
-    }
-    if raw.len() != layout::sizes::raw_size(header) {
-        return 2;
-    }
-    if full.len() != layout::sizes::full_size(header) {
-        return 2;
-    }
-    if log.len() != layout::sizes::log_size(header) {
-        return 2;
+    let early = crate::buffers::buffers_number(header, raw, full, log);
+    if early != 0 {
+        return early;
     }
     if block.len() != header.s as usize {
         return 2;

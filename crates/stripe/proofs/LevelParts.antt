@@ -21,18 +21,34 @@ use Rattle.rows.proofs.RowParts.{length-blocks, twice}
 use Rattle.rows.proofs.StripeTests.{solved-nine, solved-ten, solved-blocks}
 
 -- THE ROOM: the rows of a level and a weight for each position fit into the scratch
-pub level-room : (st : Stripe) → st .level < st .k → stripeWords st + positionCount st ≤ 2 ^ st .k * st .width + 4 * 2 ^ st .k
+level-room : (st : Stripe) → st .level < st .k → stripeWords st + positionCount st ≤ 2 ^ st .k * st .width + 4 * 2 ^ st .k
 level-room st b =
     let e : 2 ^ suc (st .level) ≤ 2 ^ st .k = pow-mono {i = suc (st .level)} {j = st .k} b in
     omega (arith, mul-le-mul-right (st .width) e)
 
-pub scratch-low : (st : Stripe) → StripeFits st → 2 ^ st .k * st .width + 4 * 2 ^ st .k ≤ 136192
+scratch-low : (st : Stripe) → StripeFits st → 2 ^ st .k * st .width + 4 * 2 ^ st .k ≤ 136192
 scratch-low st f =
     let b : 2 ^ st .k ≤ 1024 = pow-mono {i = st .k} {j = 10} (f .low) in
     omega (arith, mul-le-mul {n₂ = 1024} {m₂ = 129} b (f .thin))
 
+pub blocks-room : (st : Stripe) → blockWords st ≤ stripeWords st + positionCount st
+blocks-room st = omega (arith, twice st)
+
 pub blocks-in : (st : Stripe) → st .level < st .k → blockWords st ≤ 2 ^ st .k * st .width
 blocks-in st b = mul-le-mul-right (st .width) (pow-mono {i = st .level} {j = st .k} (omega arith))
+
+-- A LEVEL OF b BLOCKS in a scratch of n words, as the functions that decode it there ask
+pub record LevelIn (st : Stripe) (b n : ℕ) : Type 0 where
+  pub size : b * st .width ≡ blockWords st
+  pub room : stripeWords st + positionCount st ≤ n
+  pub front : b * st .width ≤ n
+  pub low : n ≤ 136192
+
+pub level-in : (st : Stripe) → StripeFits st → st .level < st .k → {b n : ℕ} → b ≡ blockCount st → n ≡ 2 ^ st .k * st .width + 4 * 2 ^ st .k → LevelIn st b n
+level-in st f w e q =
+    let size = ap (λ (m : ℕ). m * st .width) e in
+    let room = level-room st w in
+    record { size = size; room = omega (arith, room, q); front = omega (arith, size, blocks-room st, room, q); low = omega (arith, scratch-low st f, q) }
 
 -- what a stripe that is decoded has as its blocks
 data Comes (st : Stripe) (d : Decoded) : Type 0 where
@@ -76,9 +92,6 @@ copied-front n l o m a b e =
     zeros =
         let e : m ≡ n + (m - n) = omega arith in
         ap (λ (x : ℕ). drop n (replicate x 0)) e ∙ ap (drop n) (sym (replicate-append-replicate n (m - n) 0)) ∙ drop-at (replicate n 0) (replicate (m - n) 0) n (length-replicate n 0)
-
-pub blocks-room : (st : Stripe) → blockWords st ≤ stripeWords st + positionCount st
-blocks-room st = omega (arith, twice st)
 
 -- the blocks' words in the scratch, whose first words came back decoded
 pub lent-front : (st : Stripe) (ms : List Bool) (r : List ℕ) {x : List ℕ} (rest : List ℕ) → x ≡ decodedWords (solved st ms r) (stripeWords st + positionCount st) ++ rest

@@ -16,7 +16,7 @@ use Rattle.layout.specs.Records.{areData, replaced}
 use Rattle.store.specs.Buffers.{fullStripe, Buffers, buffers, opened}
 use Rattle.store.specs.Writing.{nextHeader, logWith, written}
 use Rattle.layout.specs.Refusals.{done, test, refusal, ifTaken}
-use Rattle.store.specs.StoreCalls.{writeNumber}
+use Rattle.store.specs.StoreCalls.{buffersFit, writeNumber}
 use Rattle.vault.specs.Event.{Opening, Event, write}
 use Rattle.vault.specs.History.{Vault, vault, numberOn, step, after, Opens, openedVault, vaultAfter}
 use Rattle.vault.specs.Model.{Model, writes, wordsFit, tableNumber, put, fed, fedAll, openedModel, modelOf}
@@ -99,7 +99,7 @@ module _ (a : Round) (good : Good a) (i : ℕ) (b : List ℕ) where
       ap₂ (λ (p q : Bool). refusal (test p 1 (test q 2 (test (ltb i (2 ^ a .k)) 4 (test (areData b) 5 done))))) (header-fits good) sizes
       ∙ ap (λ (z : Bool). refusal (test (eqb (length b) (a .s)) 2 (test (ltb i (2 ^ a .k)) 4 (test z 5 done)))) (data-fit b)
     where
-      sizes : (eqb (length (u .raw)) (rawSize h) && (eqb (length (u .full)) (fullSize h) && (eqb (length (u .log)) (logSize h) && eqb (length b) (a .s)))) ≡ eqb (length b) (a .s)
+      sizes : (buffersFit h u && eqb (length b) (a .s)) ≡ eqb (length b) (a .s)
       sizes =
           rw (
             eq-eqb (length (u .raw)) (rawSize h) (records-long good),

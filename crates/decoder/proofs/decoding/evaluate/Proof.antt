@@ -5,17 +5,16 @@ use Prim.Native.Nat.{ℕ, suc, _+_, _*_, _^_}
 use native.Mathlib.Omega.{arith}
 use borrow.Author.Needs.{needs}
 use lib.Dec.{lit<}
-use lib.ListN.{length, take, drop, length-drop}
+use lib.ListN.{length, take, drop}
 use Rattle.field.proofs.WordLists.{words-take, words-drop}
 use Rattle.code.specs.Rows.{lifted}
 use Rattle.code.specs.Transform.{transform}
 use Rattle.decoder.specs.Decoder.{evaluated}
 use Rattle.code.proofs.Shapes.{length-transform}
-use Rattle.code.proofs.Lifting.{length-lifted, two-halves}
-use Rattle.code.proofs.RowLaws.{Parts, length-parts, lent-rest, put-front, put-rest, cut}
-use Rattle.decoder.proofs.DecodeSteps.{lifted-halves}
+use Rattle.code.proofs.Lifting.{length-lifted}
+use Rattle.code.proofs.RowLaws.{Parts, length-parts, lent-rest, put-front, put-rest}
+use Rattle.decoder.proofs.DecodeSteps.{Halved, halved, lifted-halves}
 use Rattle.code.specs.declared.Stripe.{Stripe}
-use Rattle.code.specs.Stripe.{blockWords}
 use Rattle.decoder.proofs.decoding.evaluate.Statement.{statement}
 use Rattle.decoder.proofs.decoding.evaluate.Tie as tie
 
@@ -39,45 +38,36 @@ half c = c .two-to .result * stripe c .width
 abbrev rows : tie.After-two-to → List ℕ
 rows c = start c .args .part .now
 
-half-is : (c : tie.After-two-to) → half c ≡ blockWords (stripe c)
-half-is c = ap (λ (n : ℕ). n * stripe c .width) (c .two-to .ensures)
-
-long : (c : tie.After-two-to) → length (rows c) ≡ half c + half c
-long c = start c .pre .1 .0 ∙ two-halves (stripe c .level) (stripe c .width) ∙ sym (ap₂ _+_ (half-is c) (half-is c))
-
-halves : (c : tie.After-two-to) → Parts (half c) (rows c) (take (half c) (rows c)) (drop (half c) (rows c))
-halves c = cut (half c) (rows c) (omega (arith, long c))
-
-second : (c : tie.After-two-to) → length (drop (half c) (rows c)) ≡ blockWords (stripe c)
-second c = length-drop (half c) (rows c) ∙ omega (arith, long c, half-is c)
+cut-in-two : (c : tie.After-two-to) → Halved (stripe c) (half c) (rows c)
+cut-in-two c = halved (stripe c) (rows c) (c .two-to .ensures) (start c .pre .1 .0)
 
 -- the first half is mixed
 abbrev mix-two : tie.After-mix-all → tie.After-two-to
 mix-two c = c .before .before .before
 
 mixed : (c : tie.After-mix-all) → let two = mix-two c in Parts (half two) (c .mix-all .last .0 ++ drop (half two) (rows two)) (c .mix-all .last .0) (drop (half two) (rows two))
-mixed c = put-front (halves (mix-two c)) (ap length (c .mix-all .ensures) ∙ length-lifted _ _ _ _ _ ∙ sym (half-is (mix-two c)))
+mixed c = put-front (cut-in-two (mix-two c) .parts) (ap length (c .mix-all .ensures) ∙ length-lifted _ _ _ _ _ ∙ sym (cut-in-two (mix-two c) .half-is))
 
 two-to-requires : tie.Need-two-to-requires
 two-to-requires c κs = search needs
 
 mul-half : tie.Need-mul-half
-mul-half c = omega (arith, long (c .before))
+mul-half c = omega (arith, cut-in-two (c .before) .long)
 
 slice-relend-prefix-mix-all : tie.Need-slice-relend-prefix-mix-all
-slice-relend-prefix-mix-all c = omega (arith, long (c .before))
+slice-relend-prefix-mix-all c = omega (arith, cut-in-two (c .before) .long)
 
 slice-aggregate-mix-all : tie.Need-slice-aggregate-mix-all
-slice-aggregate-mix-all c = sym (halves (c .before .before) .long)
+slice-aggregate-mix-all c = sym (cut-in-two (c .before .before) .parts .long)
 
 mix-all-requires : tie.Need-mix-all-requires
 mix-all-requires c κs =
     let two = c .before .before in
     let pre = start two .pre in
-    (pre .0, (halves two .long ∙ half-is two, words-take 65537 (lit< tt) (half two) (pre .1 .1)))
+    (pre .0, (cut-in-two two .parts .long ∙ cut-in-two two .half-is, words-take 65537 (lit< tt) (half two) (pre .1 .1)))
 
 mul-mix-all : tie.Need-mul-mix-all
-mul-mix-all c = omega (arith, long (mix-two (c .before .before)))
+mul-mix-all c = omega (arith, cut-in-two (mix-two (c .before .before)) .long)
 
 sub-mix-all : tie.Need-sub-mix-all
 sub-mix-all c = omega (arith, length-parts (mixed (c .before .before)))
@@ -93,7 +83,7 @@ mix-all-requires-2 c κs =
     let mix = c .before .before .before in
     let two = mix-two mix in
     let pre = start two .pre in
-    (pre .0, (ap length (lent-rest (mixed mix)) ∙ second two, rw (lent-rest (mixed mix)) (words-drop 65537 (lit< tt) (half two) (pre .1 .1))))
+    (pre .0, (ap length (lent-rest (mixed mix)) ∙ cut-in-two two .second, rw (lent-rest (mixed mix)) (words-drop 65537 (lit< tt) (half two) (pre .1 .1))))
 
 same-length : tie.Need-same-length
 same-length c = search needs
@@ -105,7 +95,7 @@ returns c =
     let two = mix-two mix in
     let a = stripe two in
     put-rest (mixed mix) (again .mix-all2 .last .0) .is
-    ∙ both (a .root) (a .k) (a .level) (a .width) (half two) (rows two) (mix .mix-all .last .0) (again .mix-all2 .last .0) (start two .pre .1 .0) (half-is two) (mix .mix-all .ensures)
+    ∙ both (a .root) (a .k) (a .level) (a .width) (half two) (rows two) (mix .mix-all .last .0) (again .mix-all2 .last .0) (start two .pre .1 .0) (cut-in-two two .half-is) (mix .mix-all .ensures)
     (again .mix-all2 .ensures ∙ ap (lifted _ _ _ _) (lent-rest (mixed mix)))
 
 pub evaluate-spec : {M : Type 1} → statement M

@@ -6,17 +6,17 @@ use native.Mathlib.Omega.{arith}
 use borrow.Author.Needs.{needs}
 use borrow.Rule.Slice.PartMut.{putMid}
 use lib.Dec.{lit<}
-use lib.ListN.{length, take, drop, length-drop}
+use lib.ListN.{length, take, drop}
 use Rattle.field.proofs.WordLists.{words-take, words-drop}
 use Rattle.code.specs.Rows.{lifted}
 use Rattle.code.specs.Transform.{untransform, turned}
 use Rattle.decoder.specs.Decoder as Decoder
 use Rattle.code.proofs.Shapes.{length-untransform, words-untransform}
-use Rattle.code.proofs.Lifting.{length-lifted, words-lifted, lifted-then, words-column, two-halves}
-use Rattle.code.proofs.RowLaws.{Parts, length-parts, lent-rest, put-front, put-rest, cut}
-use Rattle.decoder.proofs.DecodeSteps.{lifted-halves}
+use Rattle.code.proofs.Lifting.{length-lifted, words-lifted, lifted-then, words-column}
+use Rattle.code.proofs.RowLaws.{Parts, length-parts, lent-rest, put-front, put-rest}
+use Rattle.decoder.proofs.DecodeSteps.{Halved, halved, lifted-halves}
 use Rattle.code.specs.declared.Stripe.{Stripe}
-use Rattle.code.specs.Stripe.{blockCount, blockWords}
+use Rattle.code.specs.Stripe.{blockCount}
 use Rattle.decoder.proofs.decoding.split.Statement.{statement}
 use Rattle.decoder.proofs.decoding.split.Tie as tie
 
@@ -45,17 +45,8 @@ half c = c .two-to .result * stripe c .width
 abbrev rows : tie.After-two-to → List ℕ
 rows c = start c .args .part .now
 
-half-is : (c : tie.After-two-to) → half c ≡ blockWords (stripe c)
-half-is c = ap (λ (n : ℕ). n * stripe c .width) (c .two-to .ensures)
-
-long : (c : tie.After-two-to) → length (rows c) ≡ half c + half c
-long c = start c .pre .1 .0 ∙ two-halves (stripe c .level) (stripe c .width) ∙ sym (ap₂ _+_ (half-is c) (half-is c))
-
-halves : (c : tie.After-two-to) → Parts (half c) (rows c) (take (half c) (rows c)) (drop (half c) (rows c))
-halves c = cut (half c) (rows c) (omega (arith, long c))
-
-second : (c : tie.After-two-to) → length (drop (half c) (rows c)) ≡ half c
-second c = length-drop (half c) (rows c) ∙ omega (arith, long c)
+cut-in-two : (c : tie.After-two-to) → Halved (stripe c) (half c) (rows c)
+cut-in-two c = halved (stripe c) (rows c) (c .two-to .ensures) (start c .pre .1 .0)
 
 -- the rows once the first half is unmixed
 abbrev first-two : tie.After-unmix-all → tie.After-two-to
@@ -65,7 +56,7 @@ abbrev once : tie.After-unmix-all → List ℕ
 once c = c .unmix-all .last .0 ++ drop (half (first-two c)) (rows (first-two c))
 
 once-parts : (c : tie.After-unmix-all) → Parts (half (first-two c)) (once c) (c .unmix-all .last .0) (drop (half (first-two c)) (rows (first-two c)))
-once-parts c = put-front (halves (first-two c)) (ap length (c .unmix-all .ensures) ∙ length-lifted _ _ _ _ _ ∙ sym (half-is (first-two c)))
+once-parts c = put-front (cut-in-two (first-two c) .parts) (ap length (c .unmix-all .ensures) ∙ length-lifted _ _ _ _ _ ∙ sym (cut-in-two (first-two c) .half-is))
 
 -- and the second
 abbrev again-first : tie.After-unmix-all2 → tie.After-unmix-all
@@ -89,22 +80,22 @@ two-to-requires : tie.Need-two-to-requires
 two-to-requires c κs = search needs
 
 mul-half : tie.Need-mul-half
-mul-half c = omega (arith, long (c .before))
+mul-half c = omega (arith, cut-in-two (c .before) .long)
 
 slice-relend-prefix-unmix-all : tie.Need-slice-relend-prefix-unmix-all
-slice-relend-prefix-unmix-all c = omega (arith, long (c .before))
+slice-relend-prefix-unmix-all c = omega (arith, cut-in-two (c .before) .long)
 
 slice-aggregate-unmix-all : tie.Need-slice-aggregate-unmix-all
-slice-aggregate-unmix-all c = sym (halves (c .before .before) .long)
+slice-aggregate-unmix-all c = sym (cut-in-two (c .before .before) .parts .long)
 
 unmix-all-requires : tie.Need-unmix-all-requires
 unmix-all-requires c κs =
     let two = c .before .before in
     let pre = start two .pre in
-    (pre .0, (halves two .long ∙ half-is two, (pre .1 .1 .0, words-take 65537 (lit< tt) (half two) (pre .1 .1 .1))))
+    (pre .0, (cut-in-two two .parts .long ∙ cut-in-two two .half-is, (pre .1 .1 .0, words-take 65537 (lit< tt) (half two) (pre .1 .1 .1))))
 
 mul-unmix-all : tie.Need-mul-unmix-all
-mul-unmix-all c = omega (arith, long (first-two (c .before .before)))
+mul-unmix-all c = omega (arith, cut-in-two (first-two (c .before .before)) .long)
 
 sub-unmix-all : tie.Need-sub-unmix-all
 sub-unmix-all c = omega (arith, length-parts (once-parts (c .before .before)))
@@ -121,10 +112,10 @@ unmix-all-requires-2 c κs =
     let two = first-two first in
     let pre = start two .pre in
     let e = lent-rest (once-parts first) in
-    (pre .0, (ap length e ∙ second two ∙ half-is two, (pre .1 .1 .0, rw e (words-drop 65537 (lit< tt) (half two) (pre .1 .1 .1)))))
+    (pre .0, (ap length e ∙ cut-in-two two .second, (pre .1 .1 .0, rw e (words-drop 65537 (lit< tt) (half two) (pre .1 .1 .1)))))
 
 mul-turn : tie.Need-mul-turn
-mul-turn c = omega (arith, long (again-two (c .before .before)))
+mul-turn c = omega (arith, cut-in-two (again-two (c .before .before)) .long)
 
 sub-turn : tie.Need-sub-turn
 sub-turn c = omega (arith, length-parts (twice-parts (c .before .before)))
@@ -167,7 +158,7 @@ returns c =
     let back = start two .args .back in
     put-rest (twice-parts again) (turn .turn .last .0) .is
     ∙ both back (a .k) (a .level) (a .first) (a .width) (half two) (rows two) (first .unmix-all .last .0) (again .unmix-all2 .last .0) (turn .turn .last .0) (start two .pre .1 .0)
-    (half-is two) (first .unmix-all .ensures) (unmixed again)
+    (cut-in-two two .half-is) (first .unmix-all .ensures) (unmixed again)
     (turn .turn .ensures ∙ ap (lifted _ _ _ _) (lent-rest (twice-parts again)))
 
 pub split-spec : {M : Type 1} → statement M

@@ -1,15 +1,14 @@
 -- `recovery::recovering::lay_level` meets its contract. Assumes nothing.
 use mathlib.Core.Path.{_≡_, sym, ap, _∙_}
 use mathlib.Core.List.{List}
-use Prim.Native.Nat.{ℕ, suc, _+_, _*_, _-_, _≤_}
+use Prim.Native.Nat.{ℕ, suc, _*_, _-_, _≤_}
 use native.Mathlib.Omega.{arith}
 use borrow.Author.Needs.{needs}
 use lib.ListN.{length, take}
 use lib.Seq.{length-take-le}
-use Rattle.code.specs.Stripe.{positionCount, blockWords, stripeWords}
 use Rattle.image.specs.Loading.{rowsIn}
 use Rattle.decoder.specs.Decoding.{blocksIn}
-use Rattle.stripe.proofs.LevelParts.{level-room, scratch-low, blocks-room}
+use Rattle.stripe.proofs.LevelParts.{LevelIn, level-in}
 use Rattle.recovery.proofs.LaidRecords.{level-front, level-inside, level-laid, level-kept}
 use Rattle.recovery.proofs.recovering.lay_level.Statement.{statement}
 use Rattle.recovery.proofs.recovering.lay_level.Tie as tie
@@ -24,20 +23,14 @@ start c = c .before .before .before .before .before
 abbrev half : tie.After-two-to → ℕ
 half c = c .two-to .result * start c .args .st .width
 
-size : (c : tie.After-two-to) → half c ≡ blockWords (start c .args .st)
-size c = ap (λ (n : ℕ). n * start c .args .st .width) (c .two-to .ensures)
-
-room : (c : tie.After-two-to) → let st = start c .args .st in stripeWords st + positionCount st ≤ length (start c .args .scratch .now)
-room c = let s = start c in omega (arith, level-room (s .args .st) (s .pre .1 .0 .1), s .pre .1 .1 .1)
-
-half-in : (c : tie.After-two-to) → half c ≤ length (start c .args .scratch .now)
-half-in c = omega (arith, size c, blocks-room (start c .args .st), room c)
+sizes : (c : tie.After-two-to) → LevelIn (start c .args .st) (c .two-to .result) (length (start c .args .scratch .now))
+sizes c = let s = start c in level-in (s .args .st) (s .pre .0 .fits) (s .pre .1 .0 .1) (c .two-to .ensures) (s .pre .1 .1 .1)
 
 mul-size : tie.Need-mul-size
-mul-size c = let s = start (c .before) in omega (arith, half-in (c .before), s .pre .1 .1 .1, scratch-low (s .args .st) (s .pre .0 .fits))
+mul-size c = let S = sizes (c .before) in omega (arith, S .front, S .low)
 
 decode-rows-requires : tie.Need-decode-rows-requires
-decode-rows-requires c κs = let t = c .before .before in (start t .pre .0, (start t .pre .1 .0 .0, room t))
+decode-rows-requires c κs = let t = c .before .before in (start t .pre .0, (start t .pre .1 .0 .0, sizes t .room))
 
 same-length : tie.Need-same-length
 same-length c = search needs
@@ -55,10 +48,10 @@ left c = c .decode-rows .last .1 .1 .1 .0
 front : (c : tie.After-decode-rows) → c .decode-rows .result ≡ 0 → let a = start (two c) .args in take (half (two c)) (left c) ≡ blocksIn (a .st) (a .marks .now) (words c)
 front c z =
     let a = start (two c) .args in
-    level-front (a .st) (a .marks .now) (words c) _ (c .decode-rows .ensures .1) (sym (c .decode-rows .ensures .0) ∙ z) (size (two c))
+    level-front (a .st) (a .marks .now) (words c) _ (c .decode-rows .ensures .1) (sym (c .decode-rows .ensures .0) ∙ z) (sizes (two c) .size)
 
 front-in : (c : tie.After-decode-rows) → half (two c) ≤ length (left c)
-front-in c = omega (arith, half-in (two c), c .decode-rows .kept .1 .1 .1 .0)
+front-in c = omega (arith, sizes (two c) .front, c .decode-rows .kept .1 .1 .1 .0)
 
 returns : tie.Need-returns
 returns c =

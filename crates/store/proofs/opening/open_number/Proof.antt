@@ -1,116 +1,68 @@
 -- `store::opening::open_number` meets its contract: each test that holds or fails, in turn. Assumes nothing.
-use mathlib.Core.Path.{_≡_, sym, _∙_}
-use mathlib.Core.Bool.{true}
+use mathlib.Core.Path.{_≡_, sym, ap, _∙_}
+use mathlib.Core.Bool.{Bool, true, false}
 use native.Mathlib.Omega.{arith}
 use borrow.Author.Needs.{needs}
-use borrow.Author.Tests.{eq-eqb, ne-eqb, not-true, not-false}
-use lib.Dec.{eqb}
-use lib.ListN.{length}
+use borrow.Author.Tests.{not-true, not-false}
 use Rattle.layout.specs.declared.Header.{Header}
-use Rattle.layout.specs.Header.{headerOf, count, headerFits, rawSize, fullSize, logSize}
+use Rattle.layout.specs.Header.{headerOf, count}
 use Rattle.layout.specs.Records.{recordsFit}
-use Rattle.layout.specs.Refusals.{done, test, refusal}
+use Rattle.layout.specs.Refusals.{Tests, done, test, refusal}
 use Rattle.layout.proofs.Bounds.{fits}
+use Rattle.store.specs.Buffers.{Buffers, buffers}
 use Rattle.store.specs.StoreCalls.{openNumber}
+use Rattle.store.proofs.BufferTests.{Held, held, lengths, held-refused, held-passed}
 use Rattle.store.proofs.opening.open_number.Statement.{statement}
 use Rattle.store.proofs.opening.open_number.Tie as tie
 
--- the places, from the last to the first
-abbrev entry : tie.Else1 → tie.Start
-entry c = c .before .before .before .before .before
+-- the header and the buffers, and the test that follows
+abbrev entry : tie.After-buffers-number → tie.Start
+entry c = c .before .before .before .before
 
-abbrev header : tie.Else1 → Header
+abbrev header : tie.After-buffers-number → Header
 header c = headerOf (entry c .args .k) (entry c .args .s) 0
 
-abbrev one : tie.Else2 → tie.Else1
-one c = c .before .before
+abbrev lent : tie.After-buffers-number → Buffers
+lent c = buffers (entry c .args .raw .now) (entry c .args .full .now) (entry c .args .log .now)
 
-abbrev two : tie.Else3 → tie.Else2
-two c = c .before .before
+abbrev records : tie.After-buffers-number → Tests
+records c = test (recordsFit (entry c .args .s) (entry c .args .raw .now) (count (header c))) 5 done
 
-abbrev three : tie.Else4 → tie.Else3
-three c = c .before .before
+holds : (c : tie.Else1) → Held (header (c .before)) (lent (c .before))
+holds c = held (header (c .before)) (lent (c .before)) (sym (c .before .buffers-number .ensures) ∙ c .if1 .left)
 
--- the tests that hold there
-fitting : (c : tie.Else1) → headerFits (header c) ≡ true
-fitting c = sym (c .before .header-fits .ensures) ∙ not-false _ (c .if1 .left)
-
-raw-long : (c : tie.Else2) → length (entry (one c) .args .raw .now) ≡ rawSize (header (one c))
-raw-long c = c .if2 .left ∙ c .before .raw-size .ensures
-
-full-fits : (c : tie.Else3) → eqb (length (entry (one (two c)) .args .full .now)) (fullSize (header (one (two c)))) ≡ true
-full-fits c = eq-eqb _ _ (c .if3 .left ∙ c .before .full-size .ensures)
-
-log-fits : (c : tie.Else4) → eqb (length (entry (one (two (three c))) .args .log .now)) (logSize (header (one (two (three c))))) ≡ true
-log-fits c = eq-eqb _ _ (c .if4 .left ∙ c .before .log-size .ensures)
-
--- what is left of the tests where all lengths hold
-sized : (c : tie.Else4)
-    → let a = entry (one (two (three c))) .args in openNumber (a .k) (a .s) (a .raw .now) (a .full .now) (a .log .now) ≡ refusal (test (recordsFit (a .s) (a .raw .now) (count (header (one (two (three c)))))) 5 done)
-unfolding refusal
-sized c = rw (fitting (one (two (three c))), eq-eqb _ _ (raw-long (two (three c))), full-fits (three c), log-fits c)
-
-header-fits-requires : tie.Need-header-fits-requires
-header-fits-requires c κs = search needs
+buffers-number-requires : tie.Need-buffers-number-requires
+buffers-number-requires c κs = search needs
 
 returns : tie.Need-returns
-unfolding refusal
-returns c = rw (← c .before .header-fits .ensures, not-true (c .before .header-fits .result) (c .if1 .taken))
-
-raw-size-requires : tie.Need-raw-size-requires
-raw-size-requires c κs = fitting c
-
-returns-2 : tie.Need-returns-2
-unfolding refusal
-returns-2 c = rw (fitting (c .before .before), ← c .before .raw-size .ensures, ne-eqb _ _ (c .if2 .taken))
-
-full-size-requires : tie.Need-full-size-requires
-full-size-requires c κs = fitting (one c)
-
-returns-3 : tie.Need-returns-3
-unfolding refusal
-returns-3 c = let t = c .before .before in rw (fitting (one t), eq-eqb _ _ (raw-long t), ← c .before .full-size .ensures, ne-eqb _ _ (c .if3 .taken))
-
-log-size-requires : tie.Need-log-size-requires
-log-size-requires c κs = fitting (one (two c))
-
-returns-4 : tie.Need-returns-4
-unfolding refusal
-returns-4 c =
-    let t = c .before .before in
-    rw (fitting (one (two t)), eq-eqb _ _ (raw-long (two t)), full-fits t, ← c .before .log-size .ensures, ne-eqb _ _ (c .if4 .taken))
+returns c =
+    let p = c .before in
+    p .buffers-number .ensures ∙ held-refused (header p) (lent p) (records p) (λ e. e) (λ z. c .if1 .taken (p .buffers-number .ensures ∙ z))
 
 two-to-requires : tie.Need-two-to-requires
-two-to-requires c κs = let e = one (two (three c)) in omega (arith, fits (header e) (fitting e) .k-high)
+two-to-requires c κs = omega (arith, fits (header (c .before)) (holds c .fitting) .k-high)
 
 records-fit-requires : tie.Need-records-fit-requires
-records-fit-requires c κs = rw (c .two-to .ensures) (omega (arith, raw-long (two (three (c .before)))))
+records-fit-requires c κs =
+    let p = c .before .before in
+    rw (c .two-to .ensures) (omega (arith, lengths (header p) (lent p) (holds (c .before) .sized) .0))
 
-returns-5 : tie.Need-returns-5
+-- test 5 decides where the others hold
+last : (c : tie.After-records-fit) (b : Bool) → c .records-fit .result ≡ b → let p = c .before .before .before in
+    let a = entry p .args in elim b [ true ↦ 0 | false ↦ 5 ] ≡ openNumber (a .k) (a .s) (a .raw .now) (a .full .now) (a .log .now)
 unfolding refusal
-returns-5 c =
-    let t = c .before .before in
-    rw (sized (t .before), ← t .two-to .ensures, ← c .before .records-fit .ensures, not-true (c .before .records-fit .result) (c .if5 .taken))
+last c b e =
+    let t = c .before in
+    let p = t .before .before in
+    let a = entry p .args in
+    sym (held-passed (header p) (lent p) (records p) (holds (t .before)) (holds (t .before) .sized)
+    ∙ ap (λ (x : Bool). refusal (test x 5 done)) (sym (ap (recordsFit (a .s) (a .raw .now)) (t .two-to .ensures)) ∙ sym (c .records-fit .ensures) ∙ e))
 
-returns-6 : tie.Need-returns-6
-unfolding refusal
-returns-6 c =
-    let t = c .before .before in
-    rw (sized (t .before), ← t .two-to .ensures, ← c .before .records-fit .ensures, not-false (c .before .records-fit .result) (c .if5 .left))
+returns-2 : tie.Need-returns-2
+returns-2 c = last (c .before) false (not-true _ (c .if2 .taken))
+
+returns-3 : tie.Need-returns-3
+returns-3 c = last (c .before) true (not-false _ (c .if2 .left))
 
 pub open-number-spec : {M : Type 1} → statement M
-open-number-spec =
-    tie.close
-    (tie.spec
-    header-fits-requires
-    returns
-    raw-size-requires
-    returns-2
-    full-size-requires
-    returns-3
-    log-size-requires
-    returns-4
-    two-to-requires
-    records-fit-requires
-    returns-5
-    returns-6)
+open-number-spec = tie.close (tie.spec buffers-number-requires returns two-to-requires records-fit-requires returns-2 returns-3)

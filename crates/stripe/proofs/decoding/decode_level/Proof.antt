@@ -7,7 +7,7 @@ use borrow.Author.Needs.{needs}
 use lib.ListN.{length, take, replicate}
 use Rattle.code.specs.Stripe.{positionCount, blockWords, stripeWords}
 use Rattle.image.specs.Loading.{rowsIn}
-use Rattle.stripe.proofs.LevelParts.{level-room, scratch-low, blocks-in, blocks-room, front, lent-front, copied-front}
+use Rattle.stripe.proofs.LevelParts.{LevelIn, level-in, blocks-in, blocks-room, front, lent-front, copied-front}
 use Rattle.stripe.proofs.decoding.decode_level.Statement.{statement}
 use Rattle.stripe.proofs.decoding.decode_level.Tie as tie
 
@@ -21,23 +21,17 @@ start c = c .before .before .before .before .before
 abbrev half : tie.After-two-to → ℕ
 half c = c .two-to .result * start c .args .st .width
 
-size : (c : tie.After-two-to) → half c ≡ blockWords (start c .args .st)
-size c = ap (λ (n : ℕ). n * start c .args .st .width) (c .two-to .ensures)
-
-room : (c : tie.After-two-to) → let st = start c .args .st in stripeWords st + positionCount st ≤ length (start c .args .scratch .now)
-room c = let s = start c in omega (arith, level-room (s .args .st) (s .pre .1 .0 .1), s .pre .1 .1 .1)
-
-half-in : (c : tie.After-two-to) → half c ≤ length (start c .args .scratch .now)
-half-in c = omega (arith, size c, blocks-room (start c .args .st), room c)
+sizes : (c : tie.After-two-to) → LevelIn (start c .args .st) (c .two-to .result) (length (start c .args .scratch .now))
+sizes c = let s = start c in level-in (s .args .st) (s .pre .0 .fits) (s .pre .1 .0 .1) (c .two-to .ensures) (s .pre .1 .1 .1)
 
 out-in : (c : tie.After-two-to) → half c ≤ 2 ^ start c .args .st .k * start c .args .st .width
-out-in c = omega (arith, size c, blocks-in (start c .args .st) (start c .pre .1 .0 .1))
+out-in c = omega (arith, sizes c .size, blocks-in (start c .args .st) (start c .pre .1 .0 .1))
 
 mul-size : tie.Need-mul-size
-mul-size c = let s = start (c .before) in omega (arith, half-in (c .before), s .pre .1 .1 .1, scratch-low (s .args .st) (s .pre .0 .fits))
+mul-size c = let S = sizes (c .before) in omega (arith, S .front, S .low)
 
 decode-rows-requires : tie.Need-decode-rows-requires
-decode-rows-requires c κs = let t = c .before .before in (start t .pre .0, (start t .pre .1 .0 .0, room t))
+decode-rows-requires c κs = let t = c .before .before in (start t .pre .0, (start t .pre .1 .0 .0, sizes t .room))
 
 clear-requires : tie.Need-clear-requires
 clear-requires c κs = search needs
@@ -53,7 +47,7 @@ copy-row-requires : tie.Need-copy-row-requires
 copy-row-requires c κs =
     let d = c .before .before .before .before .before .before .before .before in
     let t = two d in
-    (omega (arith, c .before .before .before .before .clear .kept .0, start t .pre .1 .1 .0, out-in t), omega (arith, long d, half-in t))
+    (omega (arith, c .before .before .before .before .clear .kept .0, start t .pre .1 .1 .0, out-in t), omega (arith, long d, sizes t .front))
 
 clear-requires-2 : tie.Need-clear-requires-2
 clear-requires-2 c κs = search needs
@@ -76,8 +70,8 @@ returns c =
     let o = c .before .before .before .before .before .before .before .before .before .before .before .clear .ensures ∙ ap (λ (x : ℕ). replicate x 0) (s .pre .1 .1 .0) in (
       d .decode-rows .ensures .0,
       (
-        c .before .before .before .before .before .before .copy-row .ensures ∙ copied-front (half t) l (c .before .before .before .before .before .before .before .before .before .before .before .clear .last .0) n (omega (arith, long d, half-in t)) (out-in t) o
-            ∙ ap (λ (x : ℕ). take x l ++ replicate (n - x) 0) (size t)
+        c .before .before .before .before .before .before .copy-row .ensures ∙ copied-front (half t) l (c .before .before .before .before .before .before .before .before .before .before .before .clear .last .0) n (omega (arith, long d, sizes t .front)) (out-in t) o
+            ∙ ap (λ (x : ℕ). take x l ++ replicate (n - x) 0) (sizes t .size)
             ∙ ap (λ (x : List ℕ). x ++ replicate (n - blockWords (a .st)) 0) (lent-front (a .st) (a .marks .now) r _ (d .decode-rows .ensures .1))
             ∙ front (a .st) (a .marks .now) r (stripeWords (a .st) + positionCount (a .st)) n (blocks-room (a .st)) (blocks-in (a .st) (s .pre .1 .0 .1)),
         c .before .before .clear2 .ensures ∙ ap (λ (x : ℕ). replicate x 0) (long d ∙ s .pre .1 .1 .1),
