@@ -1,6 +1,6 @@
 // The calls of the vault, on parts of the buffers; each prints what it answered and what it left.
-use test_case_buffers::output;
 use layout::Header;
+use test_case_buffers::output;
 ghost use mathlib.Core.Path.{_≡_};
 ghost use lib.ListN.{length};
 
