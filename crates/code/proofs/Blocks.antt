@@ -10,7 +10,6 @@ use lib.ListN.{length, take, drop, length-append, length-drop, take-append-drop}
 use lib.Seq.{length-take-le, take-at, drop-at, take-add, drop-drop, take-append-add, drop-append-add, take-length, drop-length}
 use borrow.Rule.Slice.PartMut.{putMid, mid-len}
 use Rattle.field.specs.Words.{Words}
-use Rattle.field.proofs.Unity.{two-div}
 use Rattle.field.proofs.WordLists.{words-take, words-drop, words-part, words-append}
 use Rattle.code.specs.Rows.{column, lifted}
 use Rattle.code.specs.Transform.{mixedHalves, unmixed}
@@ -185,12 +184,9 @@ rows-id width b l e = each-id b (1 * width) (lifted width 1 1 (λ c. c)) l (rw (
 pub rows-one : (width n : ℕ) (f : List ℕ → List ℕ) (l : List ℕ) → length l ≡ n * width → eachRows width 1 n f l ≡ lifted width n n f l
 rows-one width n f l e = each-one (n * width) (lifted width n n f) l e
 
--- powers of two: the next one down, and a quotient
+-- powers of two: the next one down
 pub pow-down : {n l : ℕ} → l < n → 2 ^ (n - l) ≡ 2 ^ (n - suc l) * 2
 pow-down {n} {l} h = ap (λ (i : ℕ). 2 ^ i) {x = n - l} {y = suc (n - suc l)} (omega arith) ∙ pow-suc 2 (n - suc l)
-
-pub pow-over : {n l : ℕ} → l ≤ n → 2 ^ n / 2 ^ l ≡ 2 ^ (n - l)
-pow-over {n} {l} h = two-div n l h
 
 -- A LEVEL of a half of 2 ^ level rows: b blocks of m + m rows, where m is 2 ^ l
 pub record Level (width level l len b m : ℕ) : Type 0 where

@@ -1,4 +1,5 @@
 pub mod Blocks
+pub mod CodedRows
 pub mod Crossing
 pub mod Lifting
 pub mod RowLaws

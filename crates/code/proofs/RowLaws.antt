@@ -1,42 +1,61 @@
 -- Laws of specs/RowTrace: what is stored and the words around it, and loops that store a word or a row a turn; a list in two parts that are lent.
 -- Assumes nothing.
-use mathlib.Core.Path.{_≡_, refl, sym, ap, ap₂, _∙_}
+use mathlib.Core.Path.{_≡_, refl, sym, ap, ap₂, subst, _∙_}
 use mathlib.Core.Logic.{⊎-elim, _≢_}
 use mathlib.Core.Bool.{true, false}
 use mathlib.Core.List.{List, _++_, append-nil}
 use Prim.Native.Nat.{ℕ, zero, suc, _+_, _*_, _-_, _/_, _≤_, _<_}
-use native.Mathlib.Nat.{eq-or-lt-of-le, add-zero, add-suc, add-assoc, zero-mul}
+use native.Mathlib.Nat.{eq-or-lt-of-le, add-zero, zero-add, add-suc, add-assoc, zero-mul}
 use native.Mathlib.Numerals.{add-one}
 use native.Mathlib.Decide.{decLt}
 use native.Mathlib.Omega.{arith}
 use borrow.Rule.Slice.PartMut.{putMid}
 use lib.ListN.{length, getD, set, take, drop, replicate, take-append-drop, drop-of-length-le, length-replicate, getD-replicate, length-set, length-append, length-drop, List·getD-append}
-use lib.Seq.{take-all, take-at, drop-at, set-comm, drop-length, getD-set-same, getD-set-other, getD-append-add, getD-take, getD-drop, length-take-le, ext-getD}
+use lib.Seq.{sets, sets-eq, length-sets, take-all, take-at, drop-at, set-comm, drop-length, getD-set-same, getD-set-other, getD-append-add, getD-take, getD-drop, length-take-le, ext-getD}
 use lib.Arith.{digits-div}
 use lib.Dec.{eqb}
 use Rattle.field.specs.Residue.{minus, times}
 use Rattle.field.specs.Words.{Words, table}
 use Rattle.field.proofs.Laws.{times-lt}
-use Rattle.field.proofs.WordLists.{words-set, length-table, getD-table, is-table}
+use Rattle.field.proofs.WordLists.{words-set, length-table, getD-table, is-table, table-append, sets-append}
 use Rattle.code.specs.RowTrace.{stored, scaledWord, scaleRow, weighedBy}
 use Rattle.code.proofs.Lifting.{row-next, row-in}
 
 pub length-stored : (a : ℕ) (f : ℕ → ℕ) (n : ℕ) (l : List ℕ) → length (stored a f n l) ≡ length l
 unfolding stored
-length-stored a f zero l = refl
-length-stored a f (suc n) l = length-set (stored a f n l) (a + n) (f n) ∙ length-stored a f n l
+length-stored a f n l = length-sets l a (table n f)
+
+pub stored-none : (a : ℕ) (f : ℕ → ℕ) (l : List ℕ) → stored a f 0 l ≡ l
+unfolding stored table
+stored-none a f l = refl
+
+-- one stretch after the other
+pub stored-more : (a : ℕ) (f g : ℕ → ℕ) (n m : ℕ) (l : List ℕ) → ((i : ℕ) → i < m → g i ≡ f (n + i)) → stored (a + n) g m (stored a f n l) ≡ stored a f (n + m) l
+unfolding stored
+stored-more a f g n m l e =
+    ap (λ (k : ℕ). sets (sets l a (table n f)) (a + k) (table m g)) (sym (length-table n f)) ∙ sym (sets-append l a (table n f) (table m g))
+    ∙ ap (sets l a) (sym (table-append n m f g e))
+
+-- the words of a list, stored one after the other
+pub stored-list : (a : ℕ) (f : ℕ → ℕ) (n : ℕ) (ws l : List ℕ) → length ws ≡ n → ((i : ℕ) → i < n → getD ws i 0 ≡ f i) → stored a f n l ≡ sets l a ws
+unfolding stored
+stored-list a f n ws l e g = ap (sets l a) (sym (is-table ws n f e g))
+
+pub stored-next : (a : ℕ) (f : ℕ → ℕ) (n : ℕ) (l : List ℕ) → stored a f (n + 1) l ≡ set (stored a f n l) (a + n) (f n)
+unfolding stored table
+stored-next a f n l = sym (stored-more a f (λ i. f (n + i)) n 1 l (λ i t. refl)) ∙ ap (λ (k : ℕ). set (stored a f n l) (a + n) (f k)) (add-zero n)
 
 words-stored : (p : ℕ) → 0 < p → (a : ℕ) (f : ℕ → ℕ) (n : ℕ) {l : List ℕ} → Words p l → ((i : ℕ) → i < n → f i < p) → Words p (stored a f n l)
-unfolding stored
-words-stored p h a f zero w b = w
-words-stored p h a f (suc n) w b = words-set p h (a + n) (words-stored p h a f n w (λ i t. b i (omega arith))) (b n (omega arith))
+words-stored p h a f zero {l} w b = rw (stored-none a f l) w
+words-stored p h a f (suc n) {l} w b =
+    rw (← add-one n, stored-next a f n l) (words-set p h (a + n) (words-stored p h a f n w (λ i t. b i (omega arith))) (b n (omega arith)))
 
 -- the words off those stored are as they were
 pub stored-off : (a : ℕ) (f : ℕ → ℕ) (n : ℕ) (l : List ℕ) (k : ℕ) → ((i : ℕ) → i < n → k ≢ a + i) → getD (stored a f n l) k 0 ≡ getD l k 0
-unfolding stored
-stored-off a f zero l k h = refl
+stored-off a f zero l k h = rw (stored-none a f l)
 stored-off a f (suc n) l k h =
-    getD-set-other (stored a f n l) (a + n) k (f n) 0 (h n (omega arith)) ∙ stored-off a f n l k (λ i t. h i (omega arith))
+    rw (← add-one n, stored-next a f n l)
+    (getD-set-other (stored a f n l) (a + n) k (f n) 0 (h n (omega arith)) ∙ stored-off a f n l k (λ i t. h i (omega arith)))
 
 pub stored-before : (a : ℕ) (f : ℕ → ℕ) (n : ℕ) (l : List ℕ) (k : ℕ) → k < a → getD (stored a f n l) k 0 ≡ getD l k 0
 stored-before a f n l k h = stored-off a f n l k (λ i t e. omega arith)
@@ -44,52 +63,34 @@ stored-before a f n l k h = stored-off a f n l k (λ i t e. omega arith)
 pub stored-after : (a : ℕ) (f : ℕ → ℕ) (n : ℕ) (l : List ℕ) (k : ℕ) → a + n ≤ k → getD (stored a f n l) k 0 ≡ getD l k 0
 stored-after a f n l k h = stored-off a f n l k (λ i t e. omega arith)
 
-pub stored-at : (a : ℕ) (f : ℕ → ℕ) (n : ℕ) (l : List ℕ) (i : ℕ) → a + n ≤ length l → i < n → getD (stored a f n l) (a + i) 0 ≡ f i
+pub stored-is : (a : ℕ) (f : ℕ → ℕ) (n : ℕ) (l : List ℕ) → a + n ≤ length l → stored a f n l ≡ take a l ++ table n f ++ drop (a + n) l
 unfolding stored
-stored-at a f zero l i h b = absurd (omega arith)
-stored-at a f (suc n) l i h b =
-    let r = stored-at a f n l in
-    let le : i ≤ n = omega arith in
-    let long : length (stored a f n l) ≡ length l = length-stored a f n l in
-    ⊎-elim (λ e. rw e (getD-set-same (stored a f n l) (a + n) (f n) 0 (omega arith)))
-    (λ t. getD-set-other (stored a f n l) (a + n) (a + i) (f n) 0 (λ e. omega arith) ∙ r i (omega arith) t) (eq-or-lt-of-le le)
+stored-is a f n l h =
+    sets-eq (table n f) l a (omega (arith, length-table n f)) ∙ ap (λ (k : ℕ). take a l ++ table n f ++ drop (a + k) l) (length-table n f)
+
+pub stored-front : (f : ℕ → ℕ) (n : ℕ) (l : List ℕ) → n ≤ length l → stored 0 f n l ≡ table n f ++ drop n l
+stored-front f n l h = stored-is 0 f n l (omega arith) ∙ ap (λ (k : ℕ). table n f ++ drop k l) (zero-add n)
+
+pub stored-at : (a : ℕ) (f : ℕ → ℕ) (n : ℕ) (l : List ℕ) (i : ℕ) → a + n ≤ length l → i < n → getD (stored a f n l) (a + i) 0 ≡ f i
+stored-at a f n l i h b =
+    let front : length (take a l) ≡ a = length-take-le a l (omega arith) in
+    let two : length (take a l ++ table n f) ≡ a + n = simp (length-append, length-table, front) in
+    ap (λ (r : List ℕ). getD r (a + i) 0) (stored-is a f n l h) ∙ List·getD-append (take a l ++ table n f) (drop (a + n) l) 0 (a + i) (omega (arith, two))
+    ∙ ap (λ (m : ℕ). getD (take a l ++ table n f) (m + i) 0) (sym front) ∙ getD-append-add (take a l) (table n f) i 0 ∙ getD-table n i f b
 
 -- a list that is, word by word, what is stored and the words around it
 module _ (a : ℕ) (f : ℕ → ℕ) (n : ℕ) (l r : List ℕ) (fits : a + n ≤ length l) (same : length r ≡ length l) (before : (k : ℕ) → k < a → getD r k 0 ≡ getD l k 0)
     (inside : (i : ℕ) → i < n → getD r (a + i) 0 ≡ f i) (after : (k : ℕ) → a + n ≤ k → getD r k 0 ≡ getD l k 0) where
-  front : length (take a l) ≡ a
-  front = length-take-le a l (omega arith)
-
-  two : length (take a l ++ table n f) ≡ a + n
-  two = simp (length-append, length-table, front)
-
-  long : length (take a l ++ table n f ++ drop (a + n) l) ≡ length l
-  long = simp (length-append, length-table, length-drop, front) (omega arith)
-
-  at : (k : ℕ) → Dec (k < a) → Dec (k < a + n) → getD r k 0 ≡ getD (take a l ++ table n f ++ drop (a + n) l) k 0
-  at k (yes b) d =
-      before k b
-      ∙ sym (List·getD-append (take a l ++ table n f) (drop (a + n) l) 0 k (omega (arith, two)) ∙ List·getD-append (take a l) (table n f) 0 k (omega (arith, front)) ∙ getD-take a l k 0 b)
+  at : (k : ℕ) → Dec (k < a) → Dec (k < a + n) → getD r k 0 ≡ getD (stored a f n l) k 0
+  at k (yes b) d = before k b ∙ sym (stored-before a f n l k b)
   at k (no b) (yes d) =
-      let i : ℕ = k - a in
-      let e : k ≡ a + i = omega arith in
-      let e′ : k ≡ length (take a l) + i = omega (arith, front) in
-      ap (λ (x : ℕ). getD r x 0) e ∙ inside i (omega arith)
-      ∙ sym (List·getD-append (take a l ++ table n f) (drop (a + n) l) 0 k (omega (arith, two)) ∙ ap (λ (x : ℕ). getD (take a l ++ table n f) x 0) e′
-      ∙ getD-append-add (take a l) (table n f) i 0 ∙ getD-table n i f (omega arith))
-  at k (no b) (no d) =
-      let i : ℕ = k - (a + n) in
-      let e : a + n + i ≡ k = omega arith in
-      let e′ : k ≡ length (take a l ++ table n f) + i = omega (arith, two) in
-      after k (omega arith)
-      ∙ sym (ap (λ (x : ℕ). getD (take a l ++ table n f ++ drop (a + n) l) x 0) e′ ∙ getD-append-add (take a l ++ table n f) (drop (a + n) l) i 0 ∙ getD-drop (a + n) l i 0 ∙ ap (λ (x : ℕ). getD l x 0) e)
+      let e : a + (k - a) ≡ k = omega arith in
+      let t : k - a < n = omega arith in
+      subst (λ (x : ℕ). getD r x 0 ≡ getD (stored a f n l) x 0) e (inside (k - a) t ∙ sym (stored-at a f n l (k - a) fits t))
+  at k (no b) (no d) = after k (omega arith) ∙ sym (stored-after a f n l k (omega arith))
 
-  pub is-stored : r ≡ take a l ++ table n f ++ drop (a + n) l
-  is-stored = ext-getD 0 r (take a l ++ table n f ++ drop (a + n) l) (same ∙ sym long) (λ k b. at k (decLt k a) (decLt k (a + n)))
-
-pub stored-is : (a : ℕ) (f : ℕ → ℕ) (n : ℕ) (l : List ℕ) → a + n ≤ length l → stored a f n l ≡ take a l ++ table n f ++ drop (a + n) l
-stored-is a f n l h =
-    is-stored a f n l (stored a f n l) h (length-stored a f n l) (stored-before a f n l) (λ i b. stored-at a f n l i h b) (stored-after a f n l)
+  pub is-stored : r ≡ stored a f n l
+  is-stored = ext-getD 0 r (stored a f n l) (same ∙ sym (length-stored a f n l)) (λ k b. at k (decLt k a) (decLt k (a + n)))
 
 -- nothing stands behind the end
 pub no-rest : (x l : List ℕ) (n : ℕ) → length l ≡ n → x ++ drop n l ≡ x
@@ -101,20 +102,13 @@ stored-last a f n l e = stored-is a f n l (omega arith) ∙ no-rest (take a l ++
 pub replicate-table : (n x : ℕ) → replicate n x ≡ table n (λ _. x)
 replicate-table n x = is-table (replicate n x) n (λ _. x) (length-replicate n x) (λ k b. getD-replicate n k x 0 b)
 
--- one stretch after the other
-pub stored-more : (a : ℕ) (f g : ℕ → ℕ) (n m : ℕ) (l : List ℕ) → ((i : ℕ) → i < m → g i ≡ f (n + i)) → stored (a + n) g m (stored a f n l) ≡ stored a f (n + m) l
-unfolding stored
-stored-more a f g n zero l e = rw add-zero
-stored-more a f g n (suc m) l e =
-    let r : stored (a + n) g m (stored a f n l) ≡ stored a f (n + m) l = stored-more a f g n m l (λ i t. e i (omega arith)) in
-    rw (add-suc, r, e m (omega arith), add-assoc)
-
 -- a word off those stored that is stored after them, or before
 pub set-stored : (a : ℕ) (f : ℕ → ℕ) (n : ℕ) (l : List ℕ) (k x : ℕ) → ((i : ℕ) → i < n → k ≢ a + i) → set (stored a f n l) k x ≡ stored a f n (set l k x)
-unfolding stored
-set-stored a f zero l k x h = refl
+set-stored a f zero l k x h = rw (stored-none a f l, stored-none a f (set l k x))
 set-stored a f (suc n) l k x h =
-    set-comm (stored a f n l) (a + n) k (f n) x (λ e. h n (omega arith) (sym e)) ∙ ap (λ (r : List ℕ). set r (a + n) (f n)) (set-stored a f n l k x (λ i t. h i (omega arith)))
+    rw (← add-one n, stored-next a f n l, stored-next a f n (set l k x))
+    (set-comm (stored a f n l) (a + n) k (f n) x (λ e. h n (omega arith) (sym e))
+    ∙ ap (λ (r : List ℕ). set r (a + n) (f n)) (set-stored a f n l k x (λ i t. h i (omega arith))))
 
 -- A LOOP that stores: what holds after i of its n turns
 pub record Storing (a : ℕ) (f : ℕ → ℕ) (n : ℕ) (l₀ l : List ℕ) (i : ℕ) : Type 0 where
@@ -123,12 +117,11 @@ pub record Storing (a : ℕ) (f : ℕ → ℕ) (n : ℕ) (l₀ l : List ℕ) (i 
   pub now : l ≡ stored a f i l₀
 
 pub storing-start : (a : ℕ) (f : ℕ → ℕ) (n : ℕ) (l : List ℕ) → Storing a f n l l 0
-unfolding stored
-storing-start a f n l = record { turns = omega arith; same = refl; now = refl }
+storing-start a f n l = record { turns = omega arith; same = refl; now = sym (stored-none a f l) }
 
 pub storing-turn : {a : ℕ} {f : ℕ → ℕ} {n : ℕ} {l₀ l : List ℕ} {i x : ℕ} → Storing a f n l₀ l i → i < n → x ≡ f i → Storing a f n l₀ (set l (a + i) x) (i + 1)
-unfolding stored
-storing-turn {a} {l} {i} {x} h b e = record { turns = omega arith; same = length-set l (a + i) x ∙ h .same; now = rw (add-one, e, h .now) }
+storing-turn {a} {f} {l₀ = l₀} {l} {i} {x} h b e =
+    record { turns = omega arith; same = length-set l (a + i) x ∙ h .same; now = rw (e, h .now) (sym (stored-next a f i l₀)) }
 
 pub storing-done : {a : ℕ} {f : ℕ → ℕ} {n : ℕ} {l₀ l : List ℕ} {i : ℕ} → Storing a f n l₀ l i → n ≤ i → l ≡ stored a f n l₀
 storing-done {n} {i} h b =
@@ -150,8 +143,8 @@ pub record StoringRows (a : ℕ) (f : ℕ → ℕ) (m width : ℕ) (l₀ l : Lis
   pub now : l ≡ stored a f (i * width) l₀
 
 pub storing-rows-start : (a : ℕ) (f : ℕ → ℕ) (m width : ℕ) (l : List ℕ) → StoringRows a f m width l l a 0
-unfolding stored
-storing-rows-start a f m width l = record { turns = omega arith; at-is = omega (arith, zero-mul width); same = refl; now = rw zero-mul }
+storing-rows-start a f m width l =
+    record { turns = omega arith; at-is = omega (arith, zero-mul width); same = refl; now = rw (zero-mul width, stored-none a f l) }
 
 module _ {a : ℕ} {f : ℕ → ℕ} {m width : ℕ} {l₀ l : List ℕ} {at i : ℕ} (h : StoringRows a f m width l₀ l at i) where
   pub storing-rows-room : i < m → at + width ≤ a + m * width

@@ -1,15 +1,16 @@
 -- What a loop that stores words one after the other leaves of a slice: the contracts of such functions cite these. Assumes nothing: these are definitions.
 use mathlib.Core.Bool.{true, false}
 use mathlib.Core.List.{List}
-use Prim.Native.Nat.{ℕ, zero, suc, _+_}
-use lib.ListN.{getD, set}
+use Prim.Native.Nat.{ℕ, _+_}
+use lib.ListN.{getD}
+use lib.Seq.{sets}
 use lib.Dec.{eqb}
 use Rattle.field.specs.Residue.{minus, times}
+use Rattle.field.specs.Words.{table}
 
--- the words from index `from` on, n of them, replaced by f 0, f 1, ..
+-- f 0, f 1, .., n of them, stored from index `from` on
 unfoldable pub stored : (from : ℕ) → (f : ℕ → ℕ) → (n : ℕ) → (words : List ℕ) → List ℕ
-stored a f zero l = l
-stored a f (suc n) l = set (stored a f n l) (a + n) (f n)
+stored a f n l = sets l a (table n f)
 
 -- THE ROW of `width` words from index `from` on times g
 unfoldable pub scaledWord : (p from g : ℕ) → (words : List ℕ) → (i : ℕ) → ℕ

@@ -8,6 +8,8 @@ use native.Mathlib.Numerals.{add-one}
 use native.Mathlib.Decide.{decLt}
 use native.Mathlib.Omega.{arith}
 use lib.ListN.{length, getD, set}
+use lib.Seq.{sets}
+use Rattle.field.proofs.WordLists.{same-table}
 use Rattle.code.specs.RowTrace.{stored, wordFrom}
 use Rattle.code.proofs.RowLaws.{length-stored, stored-at, stored-off, stored-before}
 use Rattle.columns.specs.Ranges.{copiedRows}
@@ -60,8 +62,7 @@ module _ {to width from stride count : ℕ} {l : List ℕ} {rows : ℕ} {o₀ o 
 -- THE SAME ROWS out of two lists
 stored-same : (a : ℕ) (f g : ℕ → ℕ) (n : ℕ) (l : List ℕ) → ((i : ℕ) → i < n → f i ≡ g i) → stored a f n l ≡ stored a g n l
 unfolding stored
-stored-same a f g zero l e = refl
-stored-same a f g (suc n) l e = ap₂ (λ (r : List ℕ) (x : ℕ). set r (a + n) x) (stored-same a f g n l (λ i b. e i (omega arith))) (e n (omega arith))
+stored-same a f g n l e = ap (sets l a) (same-table n f g e)
 
 pub copied-same : (to width from stride from′ stride′ count : ℕ) (l l′ : List ℕ) (n : ℕ) (o : List ℕ)
     → ((i j : ℕ) → i < n → j < count → getD l (from + i * stride + j) 0 ≡ getD l′ (from′ + i * stride′ + j) 0)

@@ -14,7 +14,8 @@ use Rattle.code.specs.Stripe.{blockCount, blockWords}
 use Rattle.decoder.specs.Decoding.{isConsistent, blocksIn}
 use Rattle.layout.specs.Records.{areData, recordIn, recordsFit}
 use Rattle.layout.specs.Refusals.{ifTaken}
-use Rattle.layout.proofs.Refusals.{if-taken, if-refused, both, not-first, not-second}
+use Rattle.field.proofs.Booleans.{both-true, first-false, second-false}
+use Rattle.layout.proofs.Refusals.{if-taken, if-refused}
 use Rattle.layout.proofs.RecordWords.{length-record}
 use Rattle.image.specs.Loading.{columnsOf}
 use Rattle.rows.specs.Decoding.{Decoded, blockNumber, blockData, areRecords, decodedNumber, decodedWords, solved}
@@ -146,7 +147,7 @@ module _ (st : Stripe) (ms : List Bool) (r : List ℕ) (full : st .level ≡ st 
         by false c b p = let s = solved-nine st ms r c in (e ∙ columns-fail 1 (arePlaces st ms r) c ∙ sym (ap decodedNumber s), zeros ∙ sym (ap (decodedData st) s))
         by true c true p = absurd (d (e ∙ columns-agree 1 (arePlaces st ms r) c ∙ places-skipped 1 (arePlaces st ms r) (λ z. omega arith) ∙ ap (λ (x : Bool). elim x [ true ↦ 0 | false ↦ 10 ]) p))
         by true c false p =
-            let s = solved-ten st ms r c (tests ∙ not-first (fitting (dataOf st bs)) p) in
+            let s = solved-ten st ms r c (tests ∙ first-false (fitting (dataOf st bs)) p) in
             (e ∙ columns-agree 1 (arePlaces st ms r) c ∙ places-skipped 1 (arePlaces st ms r) (λ z. omega arith) ∙ ap (λ (x : Bool). elim x [ true ↦ 0 | false ↦ 10 ]) p ∙ sym (ap decodedNumber s), zeros ∙ sym (ap (decodedData st) s))
 
     module _ (z : n ≡ 0) where
@@ -165,10 +166,10 @@ module _ (st : Stripe) (ms : List Bool) (r : List ℕ) (full : st .level ≡ st 
 
       pub data-given : fitting o ≡ true → (0 ≡ decodedNumber (solved st ms r)) × (o ≡ decodedData st (solved st ms r))
       data-given a =
-          let s = solved-blocks st ms r agrees (tests ∙ both places (ap fitting (sym data-are) ∙ a)) in
+          let s = solved-blocks st ms r agrees (tests ∙ both-true places (ap fitting (sym data-are) ∙ a)) in
           (sym (ap decodedNumber s), data-are ∙ sym (ap (decodedData st) s))
 
       pub data-wrong : fitting o ≡ false → {y : List ℕ} → y ≡ replicate (length o) 0 → length o ≡ blockCount st * pred (st .width) → (10 ≡ decodedNumber (solved st ms r)) × (y ≡ decodedData st (solved st ms r))
       data-wrong a t l =
-          let s = solved-ten st ms r agrees (tests ∙ not-second (arePlaces st ms r) (ap fitting (sym data-are) ∙ a)) in
+          let s = solved-ten st ms r agrees (tests ∙ second-false (arePlaces st ms r) (ap fitting (sym data-are) ∙ a)) in
           (sym (ap decodedNumber s), t ∙ ap (λ (m : ℕ). replicate m 0) l ∙ sym (ap (decodedData st) s))

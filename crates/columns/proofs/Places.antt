@@ -11,7 +11,7 @@ use borrow.Author.Tests.{eq-eqb, ne-eqb}
 use lib.Dec.{eqb}
 use lib.ListN.{getD}
 use Rattle.columns.specs.Ranges.{placesTo}
-use Rattle.layout.proofs.Refusals.{both, not-first, not-second}
+use Rattle.field.proofs.Booleans.{both-true, first-false, second-false}
 
 -- NUMBERS THAT ARE THEIR PLACES
 module _ (w : ℕ) (r : List ℕ) where
@@ -21,11 +21,11 @@ module _ (w : ℕ) (r : List ℕ) where
   not-places (suc n) j b d = at (decLt j n) (not-places n j)
     where
       at : Dec (j < n) → (j < n → (getD r (j * w) 0 ≡ j → ⊥) → placesTo w r n ≡ false) → (eqb (getD r (n * w) 0) n && placesTo w r n) ≡ false
-      at (yes y) rest = not-second (eqb (getD r (n * w) 0) n) (rest y d)
+      at (yes y) rest = second-false (eqb (getD r (n * w) 0) n) (rest y d)
       at (no y) rest =
           let s : n ≡ j = omega arith in
           let t : eqb (getD r (n * w) 0) n ≡ false = rw s (ne-eqb (getD r (j * w) 0) j d) in
-          not-first (placesTo w r n) t
+          first-false (placesTo w r n) t
 
   -- the loop that looks at them, after i rows
   pub record Placing (rows at i : ℕ) : Type 0 where
@@ -43,7 +43,7 @@ module _ {w : ℕ} {r : List ℕ} {rows at i : ℕ} (h : Placing w r rows at i) 
   placing-turn b e = record {
     turns = omega arith;
     stands = omega (arith, h .stands);
-    places = rw add-one (both (eq-eqb (getD r (i * w) 0) i (rw (← h .stands) e)) (h .places));
+    places = rw add-one (both-true (eq-eqb (getD r (i * w) 0) i (rw (← h .stands) e)) (h .places));
   }
 
   pub placing-fails : i < rows → (getD r at 0 ≡ i → ⊥) → placesTo w r rows ≡ false

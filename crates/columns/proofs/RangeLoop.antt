@@ -15,7 +15,7 @@ use Rattle.code.specs.Stripe.{modulusOf, blockCount, positionCount}
 use Rattle.image.specs.Loading.{columnsOf}
 use Rattle.decoder.specs.Decoder.{weightsIn}
 use Rattle.columns.specs.Ranges.{copiedRows, placesTo, RangeFits, isConsistentRange, placesNumber, rangeNumber, columnsNumber, scratchWords}
-use Rattle.layout.proofs.Refusals.{both, not-first, not-second}
+use Rattle.field.proofs.Booleans.{both-true, first-false, second-false}
 use Rattle.rows.proofs.ColumnRanges.{is-columns, consistent-range}
 use Rattle.columns.proofs.CopiedRows.{length-copied, copied-at, copied-off}
 use Rattle.columns.proofs.RangeCopies.{range-first, range-later, range-fails}
@@ -79,7 +79,7 @@ less-consistent p w k l t width ms r i (suc n) b e = by (decLt n i) (less-consis
   where
     by : Dec (n < i) → (i ≤ n → consistentTo p w k l t width ms r i ≡ false → consistentTo p w k l t width ms r n ≡ false) → consistentTo p w k l t width ms r (suc n) ≡ false
     by (yes y) rest = let z : i ≡ suc n = omega arith in rw z at e
-    by (no y) rest = not-second (consistentColumn p w k l t ms (column width (2 ^ suc l) n r)) (rest (omega arith) e)
+    by (no y) rest = second-false (consistentColumn p w k l t ms (column width (2 ^ suc l) n r)) (rest (omega arith) e)
 
 -- a range gives 9 only if it is not consistent
 not-ten : (skip : ℕ) (b : Bool) → placesNumber skip b ≡ 9 → ⊥
@@ -142,7 +142,7 @@ module _ (st : Stripe) (ms : List Bool) (r : List ℕ) (skip : ℕ) (o₀ : List
         turns = f .within;
         sized = same ∙ R .sized;
         weighed = w ∙ R .weighed;
-        agreed = consistent-range (modulusOf st) (st .root) (st .k) (st .level) (st .first) ms (st .width) (r) from cols ∙ both fine (R .agreed);
+        agreed = consistent-range (modulusOf st) (st .root) (st .k) (st .level) (st .first) ms (st .width) (r) from cols ∙ both-true fine (R .agreed);
         numbered = n;
         copied = filled-more (R .copied) cols (f .within) (f .some) skips (omega arith) room (q fine);
       }
@@ -157,7 +157,7 @@ module _ (st : Stripe) (ms : List Bool) (r : List ℕ) (skip : ℕ) (o₀ : List
     pub ranging-fails : {cols found : ℕ} → RangeFits st from cols → found ≡ rangeNumber from skip (isConsistentRange st ms r from cols) arePlaces → found ≡ 9 → isConsistent st ms r ≡ false
     ranging-fails {cols} f e n =
         less-consistent (modulusOf st) (st .root) (st .k) (st .level) (st .first) (st .width) ms (r) (from + cols) (st .width) (f .within)
-        (consistent-range (modulusOf st) (st .root) (st .k) (st .level) (st .first) ms (st .width) (r) from cols ∙ not-first (areConsistent from) (range-nine from skip (isConsistentRange st ms r from cols) arePlaces (sym e ∙ n)))
+        (consistent-range (modulusOf st) (st .root) (st .k) (st .level) (st .first) ms (st .width) (r) from cols ∙ first-false (areConsistent from) (range-nine from skip (isConsistentRange st ms r from cols) arePlaces (sym e ∙ n)))
 
     -- all ranges
     module _ (last : st .width ≤ from) where

@@ -9,8 +9,7 @@ use Rattle.code.specs.Rows.{column, lifted, Column}
 use Rattle.code.specs.Stripe.{coded, codedRows}
 use Rattle.decoder.specs.Decoding.{decodedColumn, consistentColumn, consistentTo, consistent, decodedRows}
 use Rattle.decoder.specs.DecodeTrace.{allTo}
-use Rattle.decoder.specs.Promises.{Stripe, Enough, Agrees, AgreesRows, FindsBlocks, FoundBlocks}
-pub use Rattle.decoder.proofs.Tests.{both-true, first-true, second-true}
+use Rattle.decoder.specs.Promises.{Parameters, Enough, Agrees, AgreesRows, FindsBlocks, FoundBlocks}
 use Rattle.decoder.proofs.Tests.{allTo-all, allTo-each}
 use Rattle.decoder.proofs.Columns.{findsColumn, foundColumn}
 use Rattle.code.proofs.Lifting.{length-column, column-at, words-column, length-lifted, lifted-at, is-lifted, column-lifted, words-lifted}
@@ -28,7 +27,7 @@ module _ (p w k l t width : ℕ) (ms : List Bool) (rows : List ℕ) where
   pub each-consistent : consistent p w k l t width ms rows ≡ true → (j : ℕ) → j < width → test j ≡ true
   each-consistent e = allTo-each width test (sym (consistent-all width) ∙ e)
 
-module _ (p w k l t width : ℕ) (ms : List Bool) (rows bs : List ℕ) (S : Stripe p w k l t) (enough : Enough l ms) where
+module _ (p w k l t width : ℕ) (ms : List Bool) (rows bs : List ℕ) (S : Parameters p w k l t) (enough : Enough l ms) where
   column-of : Column p (2 ^ l * width) bs → (j : ℕ) → Column p (2 ^ l) (column width (2 ^ l) j bs)
   column-of C j = record { long = length-column width (2 ^ l) j bs; words = words-column p width (2 ^ l) j (C .words) }
 
@@ -44,7 +43,7 @@ module _ (p w k l t width : ℕ) (ms : List Bool) (rows bs : List ℕ) (S : Stri
       → (consistentColumn p w k l t ms (column width (2 ^ suc l) j rows) ≡ true) × (decodedColumn p w k l t ms (column width (2 ^ suc l) j rows) ≡ column width (2 ^ l) j bs)
   each-found C A j b = findsColumn p w k l t ms (column width (2 ^ suc l) j rows) (column width (2 ^ l) j bs) S enough (column-of C j) (column-agrees A j b)
 
-each-codes : (p w k l t width : ℕ) (ms : List Bool) (rows : List ℕ) → Stripe p w k l t → Enough l ms → Column p (2 ^ suc l * width) rows
+each-codes : (p w k l t width : ℕ) (ms : List Bool) (rows : List ℕ) → Parameters p w k l t → Enough l ms → Column p (2 ^ suc l * width) rows
     → consistent p w k l t width ms rows ≡ true → (j : ℕ) → j < width
     → Column p (2 ^ l) (decodedColumn p w k l t ms (column width (2 ^ suc l) j rows))
     × Agrees ms (2 ^ suc l) (coded p w k l t (decodedColumn p w k l t ms (column width (2 ^ suc l) j rows))) (column width (2 ^ suc l) j rows)

@@ -15,7 +15,7 @@ use Rattle.code.specs.Stripe.{coded}
 use Rattle.decoder.specs.Decoding.{survivors, pointAt, valueAt, decodedColumn, agrees, consistentColumn}
 use Rattle.code.specs.Transform.{bitReversed}
 use Rattle.decoder.specs.DecodeTrace.{allTo}
-use Rattle.decoder.specs.Promises.{Stripe, Enough, Agrees, FindsColumn, FoundColumn}
+use Rattle.decoder.specs.Promises.{Parameters, Enough, Agrees, FindsColumn, FoundColumn}
 use Rattle.code.specs.Rows.{Column}
 use Rattle.code.proofs.Shapes.{words-coded, column-reversed}
 use Rattle.decoder.proofs.BitReversal.{bitReversed-twice}
@@ -47,7 +47,7 @@ decoded-is : (p w k l t : ℕ) (ms : List Bool) (c : List ℕ) → decodedColumn
 unfolding decodedColumn
 decoded-is p w k l t ms c = refl
 
-module _ (p w k l t : ℕ) (ms : List Bool) (c : List ℕ) (S : Stripe p w k l t) (E : Enough l ms)
+module _ (p w k l t : ℕ) (ms : List Bool) (c : List ℕ) (S : Parameters p w k l t) (E : Enough l ms)
     (b : (j : ℕ) → j < 2 ^ l → getD c (getD (survivors l ms) j 0) 0 < p) where
   h : 0 < p
   h = omega (arith, S .root .odd)
@@ -95,7 +95,7 @@ module _ (p w k l t : ℕ) (ms : List Bool) (c : List ℕ) (S : Stripe p w k l t
       ∙ getD-map (valueAt p w k l t c) (firsts l ms) j (omega (arith, long-firsts)) ∙ ap (valueAt p w k l t c) (first-is j m)
 
 -- a column that codes to the words at those positions is the one found
-decoded-same : (p w k l t : ℕ) (ms : List Bool) (c xs : List ℕ) → Stripe p w k l t → Enough l ms → Column p (2 ^ l) xs → Agrees ms (2 ^ suc l) (coded p w k l t xs) c
+decoded-same : (p w k l t : ℕ) (ms : List Bool) (c xs : List ℕ) → Parameters p w k l t → Enough l ms → Column p (2 ^ l) xs → Agrees ms (2 ^ suc l) (coded p w k l t xs) c
     → decodedColumn p w k l t ms c ≡ xs
 decoded-same p w k l t ms c xs S E C A =
     decoded-is p w k l t ms c

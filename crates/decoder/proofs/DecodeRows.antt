@@ -1,4 +1,4 @@
--- The decoder's steps on rows: what a part holds after each, that the check is `consistent`, and that what is left is `decodeLeaves`. Assumes nothing.
+-- The decoder's steps on rows: what a part holds after each, that the check is `consistent`, and that what is left is `rowsLeft`. Assumes nothing.
 use mathlib.Core.Path.{_≡_, sym, ap, ap₂, _∙_}
 use mathlib.Core.Bool.{Bool, true, false, _||_}
 use mathlib.Core.List.{List, _++_}
@@ -12,11 +12,11 @@ use Rattle.field.specs.Words.{Words}
 use Rattle.field.proofs.WordLists.{words-append}
 use Rattle.code.specs.Transform.{reversed, untransform}
 use Rattle.code.specs.Rows.{column, lifted, Column}
-use Rattle.decoder.specs.Decoding.{decodedColumn, consistentColumn, consistent, decodedRows, decodeLeaves}
+use Rattle.decoder.specs.Decoding.{decodedColumn, consistentColumn, consistent, decodedRows, rowsLeft}
 use Rattle.decoder.specs.Decoder as Decoder
 use Rattle.decoder.specs.Decoder.{erasedCount, weights, weighed, derived, evaluated, chosen, isLow, splitColumn, solvedColumn, isLowColumn}
 use Rattle.decoder.specs.DecodeTrace.{allTo, sameAt, lowRowAt, lowRows}
-use Rattle.decoder.specs.Promises.{Stripe, Enough}
+use Rattle.decoder.specs.Promises.{Parameters, Enough}
 use Rattle.code.proofs.Shapes.{length-untransform, words-untransform}
 use Rattle.code.proofs.Lifting.{length-column, column-at, words-column, length-lifted, column-lifted, lifted-same, lifted-then, words-lifted}
 use Rattle.code.proofs.RowLaws.{Parts, length-parts, rest-is, lent-front}
@@ -25,10 +25,11 @@ use Rattle.decoder.proofs.BlockDecoding.{consistent-all, each-consisten
 use Rattle.decoder.proofs.Folding.{low-all}
 use Rattle.decoder.proofs.Decoder.{solves, low}
 use Rattle.decoder.proofs.DecoderShapes.{length-weighed, length-split, length-derived, length-evaluated, length-chosen, words-weighed, words-split, words-derived, words-evaluated, words-chosen}
-use Rattle.decoder.proofs.Tests.{same-truth, allTo-same, allTo-swap, or-allTo}
+use Rattle.field.proofs.Booleans.{same-truth}
+use Rattle.decoder.proofs.Tests.{allTo-same, allTo-swap, or-allTo}
 
 -- A COLUMN passes the check where it is consistent, and what is solved is then what is decoded
-module _ (p w k l t : ℕ) (ms : List Bool) (stripe : Stripe p w k l t) (enough : Enough l ms) (c : List ℕ) (C : Column p (2 ^ suc l) c) where
+module _ (p w k l t : ℕ) (ms : List Bool) (stripe : Parameters p w k l t) (enough : Enough l ms) (c : List ℕ) (C : Column p (2 ^ suc l) c) where
   low-finds : isLowColumn p w k l t ms c ≡ true → consistentColumn p w k l t ms c ≡ true
   low-finds e =
       let x = low p w k l t ms c stripe enough C e in
@@ -64,13 +65,13 @@ low-columns l e width r =
 
 -- WHAT DECODING LEAVES, by the check
 module _ (p w k l t width : ℕ) (ms : List Bool) (r : List ℕ) where
-  pub leaves-blocks : consistent p w k l t width ms r ≡ true → decodeLeaves p w k l t width ms r ≡ decodedRows p w k l t width ms r ++ replicate (2 ^ l * width) 0
-  unfolding decodeLeaves
-  leaves-blocks e = rw (e, decodeLeaves)
+  pub leaves-blocks : consistent p w k l t width ms r ≡ true → rowsLeft p w k l t width ms r ≡ decodedRows p w k l t width ms r ++ replicate (2 ^ l * width) 0
+  unfolding rowsLeft
+  leaves-blocks e = rw (e, rowsLeft)
 
-  pub leaves-zeros : consistent p w k l t width ms r ≡ false → decodeLeaves p w k l t width ms r ≡ replicate (2 ^ suc l * width) 0
-  unfolding decodeLeaves
-  leaves-zeros e = rw (e, decodeLeaves)
+  pub leaves-zeros : consistent p w k l t width ms r ≡ false → rowsLeft p w k l t width ms r ≡ replicate (2 ^ suc l * width) 0
+  unfolding rowsLeft
+  leaves-zeros e = rw (e, rowsLeft)
 
 -- A DECODING: the field and the root, the levels of the vault and of the stripe, t0, the words of a row, the marks and the rows
 pub record Decoding : Type 0 where
@@ -84,7 +85,7 @@ pub record Decoding : Type 0 where
   pub rows : List ℕ
 
 pub record Sound (d : Decoding) : Type 0 where
-  pub stripe : Stripe (d .p) (d .w) (d .k) (d .l) (d .t)
+  pub stripe : Parameters (d .p) (d .w) (d .k) (d .l) (d .t)
   pub enough : Enough (d .l) (d .marks)
   pub words : Words (d .p) (d .rows)
 
@@ -106,7 +107,7 @@ module _ (d : Decoding) where
   isConsistent = consistent (d .p) (d .w) (d .k) (d .l) (d .t) (d .width) (d .marks) (d .rows)
 
   abbrev pub leavesOf : List ℕ
-  leavesOf = decodeLeaves (d .p) (d .w) (d .k) (d .l) (d .t) (d .width) (d .marks) (d .rows)
+  leavesOf = rowsLeft (d .p) (d .w) (d .k) (d .l) (d .t) (d .width) (d .marks) (d .rows)
 
   -- what the steps make of a column
   abbrev pub weighedOf : List ℕ → List ℕ

@@ -3,7 +3,6 @@ use mathlib.Core.Path.{_≡_, refl, sym, ap, ap₂, _∙_}
 use mathlib.Core.Bool.{Bool, true, false}
 use mathlib.Core.List.{List, _++_}
 use Prim.Native.Nat.{ℕ, suc, _+_, _*_, _-_, _/_, _^_, _≤_, _<_}
-use native.Mathlib.Nat.{zero-add}
 use native.Mathlib.Decide.{decLt}
 use native.Mathlib.Omega.{arith}
 use lib.Arith.{digits-lt, digits-div}
@@ -19,10 +18,10 @@ use Rattle.code.specs.declared.Stripe.{Stripe}
 use Rattle.code.specs.Stripe.{blockCount, blockWords, stripeWords}
 use Rattle.decoder.specs.Decoder.{halfOf, derivedAt, derived, divisorAt, chosenAt, chosen, weighedAt, weighed}
 use Rattle.code.specs.RowTrace.{stored}
-use Rattle.decoder.proofs.Tests.{choice-lt}
+use Rattle.field.proofs.Booleans.{choice-lt}
 use Rattle.code.proofs.Lifting.{length-column, column-at, is-lifted, lifted-append, table-lifted, two-halves}
 use Rattle.decoder.proofs.DecoderShapes.{derived-low, derived-high, chosen-at, weighed-at}
-use Rattle.code.proofs.RowLaws.{Parts, cut, length-stored, stored-before, stored-at, stored-is, scaledRowsWord}
+use Rattle.code.proofs.RowLaws.{Parts, cut, length-stored, stored-before, stored-at, stored-front, scaledRowsWord}
 
 -- STEP 3, word q of the second half
 unfoldable pub deriveWord : (p level width : ℕ) → (rows : List ℕ) → (q : ℕ) → ℕ
@@ -86,8 +85,8 @@ module _ (p w k l width : ℕ) (ms : List Bool) (part : List ℕ) (long : 2 ^ su
       ≡ lifted width (2 ^ suc l) (2 ^ l) (chosen p w k l ms (drop (2 ^ suc l * width) part)) (take (2 ^ suc l * width) part) ++ drop (2 ^ l * width) part
   choose-rows =
       let f = chooseWord p w k l width ms part in
-      stored-is 0 f (2 ^ l * width) part (omega (arith, two-halves l width))
-      ∙ rw (zero-add, table-lifted width (2 ^ suc l) (2 ^ l) (chosen p w k l ms (drop (2 ^ suc l * width) part)) f (take (2 ^ suc l * width) part) choose-word)
+      stored-front f (2 ^ l * width) part (omega (arith, two-halves l width))
+      ∙ rw (table-lifted width (2 ^ suc l) (2 ^ l) (chosen p w k l ms (drop (2 ^ suc l * width) part)) f (take (2 ^ suc l * width) part) choose-word)
 
 -- STEP 1: the factor of row i, whose weight stands behind the rows
 unfoldable pub weightOr : (marks : List Bool) → (ws : List ℕ) → (i : ℕ) → ℕ
@@ -117,8 +116,8 @@ module _ (p : ℕ) (z : 0 < p) (l width : ℕ) (ms : List Bool) (part : List ℕ
   weigh-rows =
       let ws = drop (2 ^ suc l * width) part in
       let f = scaledRowsWord p width (weightOr ms ws) part in
-      stored-is 0 f (2 ^ suc l * width) part (omega arith)
-      ∙ rw (zero-add, table-lifted width (2 ^ suc l) (2 ^ suc l) (weighed p l ms ws) f (take (2 ^ suc l * width) part) weigh-word)
+      stored-front f (2 ^ suc l * width) part (omega arith)
+      ∙ rw (table-lifted width (2 ^ suc l) (2 ^ suc l) (weighed p l ms ws) f (take (2 ^ suc l * width) part) weigh-word)
 
 -- STEPS 2 AND 4: a stripe's rows in two halves of `half` words
 pub record Halved (st : Stripe) (half : ℕ) (rows : List ℕ) : Type 0 where

@@ -24,9 +24,9 @@ use Rattle.code.specs.Transform.{untransform, turned, scaled, reversed, bitReve
 use Rattle.code.specs.Stripe.{coded}
 use Rattle.decoder.specs.Decoding.{pointAt}
 use Rattle.decoder.specs.Decoder.{erasedCount, weightTo, weightAt, weights, weighedAt, weighed, split, lowTo, derived, evaluated, divisorAt, chosenAt, chosen, splitColumn, solvedColumn, isLowColumn}
-use Rattle.decoder.specs.Promises.{Stripe, Enough, Agrees}
+use Rattle.decoder.specs.Promises.{Parameters, Enough, Agrees}
 use Rattle.code.specs.Rows.{Column}
-use Rattle.decoder.proofs.Tests.{either}
+use Rattle.field.proofs.Booleans.{either}
 use Rattle.code.proofs.Shapes.{append-low, append-high, take-half, drop-half, length-untransform, length-bitReversed, length-scaled, column-reversed, column-scaled}
 use Rattle.decoder.proofs.DecoderShapes.{length-weighed, words-weighed, weighed-at}
 use Rattle.decoder.proofs.BitReversal.{bitReversed-twice}
@@ -110,7 +110,7 @@ divided-out p P m i g y e b z =
     (s ⊗ (v m ⊗ (v g ⊗ v y))) (v i ⊗ v y) h h (omega arith)
 
 -- a column that codes to the surviving words
-module _ (p w k l t : ℕ) (ms : List Bool) (c xs : List ℕ) (stripe : Stripe p w k l t) (enough : Enough l ms) (column : Column p (2 ^ l) xs)
+module _ (p w k l t : ℕ) (ms : List Bool) (c xs : List ℕ) (stripe : Parameters p w k l t) (enough : Enough l ms) (column : Column p (2 ^ l) xs)
     (agrees : Agrees ms (2 ^ suc l) (coded p w k l t xs) c) where
   h : 0 < p
   h = omega (arith, stripe .prime .big)
@@ -188,14 +188,14 @@ module _ (p w k l t : ℕ) (ms : List Bool) (c xs : List ℕ) (stripe : Stripe p
 -- THE DECODER FINDS a column that codes to all surviving words
 abbrev pub Solves : Type 0
 Solves =
-    (p w k l t : ℕ) (ms : List Bool) (c xs : List ℕ) → Stripe p w k l t → Enough l ms → Column p (2 ^ l) xs → Agrees ms (2 ^ suc l) (coded p w k l t xs) c →
+    (p w k l t : ℕ) (ms : List Bool) (c xs : List ℕ) → Parameters p w k l t → Enough l ms → Column p (2 ^ l) xs → Agrees ms (2 ^ suc l) (coded p w k l t xs) c →
     (isLowColumn p w k l t ms c ≡ true) × (solvedColumn p w k l t ms c ≡ xs)
 
 pub solves : Solves
 solves p w k l t ms c xs stripe enough column agrees = (is-low p w k l t ms c xs stripe enough column agrees, solved p w k l t ms c xs stripe enough column agrees)
 
 -- a column that passes the check
-module _ (p w k l t : ℕ) (ms : List Bool) (c : List ℕ) (stripe : Stripe p w k l t) (enough : Enough l ms) (column : Column p (2 ^ suc l) c)
+module _ (p w k l t : ℕ) (ms : List Bool) (c : List ℕ) (stripe : Parameters p w k l t) (enough : Enough l ms) (column : Column p (2 ^ suc l) c)
     (check : isLowColumn p w k l t ms c ≡ true) where
   positive : 0 < p
   positive = omega (arith, stripe .prime .big)
@@ -305,7 +305,7 @@ module _ (p w k l t : ℕ) (ms : List Bool) (c : List ℕ) (stripe : Stripe p w 
 -- WHERE THE CHECK PASSES there is a column that codes to all surviving words
 abbrev pub Low : Type 0
 Low =
-    (p w k l t : ℕ) (ms : List Bool) (c : List ℕ) → Stripe p w k l t → Enough l ms → Column p (2 ^ suc l) c → isLowColumn p w k l t ms c ≡ true →
+    (p w k l t : ℕ) (ms : List Bool) (c : List ℕ) → Parameters p w k l t → Enough l ms → Column p (2 ^ suc l) c → isLowColumn p w k l t ms c ≡ true →
     (xs : List ℕ) × Column p (2 ^ l) xs × Agrees ms (2 ^ suc l) (coded p w k l t xs) c
 
 pub low : Low

@@ -19,7 +19,7 @@ use Rattle.field.proofs.WordLists.{is-table, words-tail}
 use Rattle.code.specs.Transform.{transform, untransform, turned, scaled, reversed, bitReversed}
 use Rattle.decoder.specs.Decoding.{pointAt}
 use Rattle.decoder.specs.Decoder.{halfOf}
-use Rattle.decoder.specs.Promises.{Stripe}
+use Rattle.decoder.specs.Promises.{Parameters}
 use Rattle.code.specs.Rows.{Column}
 use Rattle.code.proofs.Shapes.{length-transform, length-untransform, length-scaled, length-turned, length-bitReversed, bitReversed-at, coded-low, coded-high, scaled-at, reversed-lt, words-untransform, column-reversed, column-turned}
 use Rattle.decoder.proofs.BitReversal.{bitReversed-twice}
@@ -60,7 +60,7 @@ module _ (p w k : ℕ) (P : Prime p) (R : Root p k w) where
       let b = v (power p (inverse p w) (reversed k t)) in
       ap₂ _∷_ (lin p h (a ⊗ (b ⊗ v x)) (v x) (v x) (a ⊗ b) (v 1) (of-eq p (power-inverse p k w P R (reversed k t))) h (u .word 0) (omega arith)) (returned (suc t) xs (words-tail u))
 
-module _ (p w k l t : ℕ) (stripe : Stripe p w k l t) where
+module _ (p w k l t : ℕ) (stripe : Parameters p w k l t) where
   positive : 0 < p
   positive = omega (arith, stripe .prime .big)
 

@@ -21,7 +21,7 @@ use Rattle.code.specs.Transform.{transform, untransform, turned, scaled, revers
 use Rattle.decoder.specs.Decoding.{pointAt}
 use Rattle.decoder.specs.Decoder.{split, lowTo, halfOf, derivedAt, derived, evaluated}
 use Rattle.decoder.specs.DecodeTrace.{allTo}
-use Rattle.decoder.specs.Promises.{Stripe}
+use Rattle.decoder.specs.Promises.{Parameters}
 use Rattle.decoder.proofs.Tests.{unless-same, same-unless, allTo-all, allTo-each}
 use Rattle.code.proofs.Shapes.{append-low, append-high, take-half, drop-half, length-scaled, length-bitReversed, bitReversed-at, scaled-at, reversed-lt, column-scaled, column-table}
 use Rattle.decoder.proofs.BitReversal.{reversed-twice}
@@ -67,7 +67,7 @@ length-scaled-reversed p g l cs = length-scaled p g (bitReversed l cs) ∙ lengt
 abbrev pub folded : (p l : ℕ) → (ℕ → ℕ) → List ℕ
 folded p l f = scaled p (2 ^ l) (bitReversed l (sums p (2 ^ l) f)) ++ scaled p (2 ^ l) (bitReversed l (differences p (2 ^ l) f))
 
-module _ (p w k l t : ℕ) (stripe : Stripe p w k l t) (f : ℕ → ℕ) where
+module _ (p w k l t : ℕ) (stripe : Parameters p w k l t) (f : ℕ → ℕ) where
   h : 0 < p
   h = omega (arith, stripe .prime .big)
 
@@ -172,7 +172,7 @@ pub length-unfolded : (p l e : ℕ) (a d : List ℕ) → length (unfolded p l e 
 unfolding unfolded
 length-unfolded p l e a d = length-append (table (2 ^ l) (sumOf p l a d)) (table e (differenceOf p l a d)) ∙ ap₂ _+_ (length-table (2 ^ l) _) (length-table e _)
 
-module _ (p w k l t : ℕ) (stripe : Stripe p w k l t) (e : ℕ) (few : e ≤ 2 ^ l) (a d : List ℕ)
+module _ (p w k l t : ℕ) (stripe : Parameters p w k l t) (e : ℕ) (few : e ≤ 2 ^ l) (a d : List ℕ)
     (same : (j : ℕ) → j < 2 ^ l → e ≤ reversed l j → getD a j 0 ≡ getD d j 0) where
   positive : 0 < p
   positive = omega (arith, stripe .prime .big)

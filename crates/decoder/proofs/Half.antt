@@ -19,12 +19,12 @@ use Rattle.field.proofs.Unity.{root-positive}
 use Rattle.code.specs.Transform.{reversed, bitReversed}
 use Rattle.code.specs.Stripe.{coded}
 use Rattle.decoder.specs.Decoding.{survivors, pointAt, valueAt}
-use Rattle.decoder.specs.Promises.{Stripe, Enough, HalfFixes}
+use Rattle.decoder.specs.Promises.{Parameters, Enough, HalfFixes}
 use Rattle.code.specs.Rows.{Column}
 use Rattle.code.proofs.Shapes.{reversed-lt, column-reversed}
 use Rattle.decoder.proofs.BitReversal.{bitReversed-twice}
 use Rattle.decoder.proofs.Survivors.{Survivors, survivors-are}
-use Rattle.decoder.proofs.Tests.{choice-lt}
+use Rattle.field.proofs.Booleans.{choice-lt}
 use Rattle.decoder.proofs.Points.{by-halves, point-lt, points-distinct}
 use Rattle.decoder.proofs.Values.{valuesX, valuesY}
 
@@ -48,7 +48,7 @@ unfolding valueAt
 value-lt p w k l t c i h b = choice-lt (ltb i (2 ^ l)) b (times-lt p h _ _)
 
 -- a coded word says the polynomial's value at its position's point
-module _ (p w k l t : ℕ) (xs : List ℕ) (S : Stripe p w k l t) (C : Column p (2 ^ l) xs) where
+module _ (p w k l t : ℕ) (xs : List ℕ) (S : Parameters p w k l t) (C : Column p (2 ^ l) xs) where
   pub value-is : (i : ℕ) → i < 2 ^ suc l → horner p (bitReversed l xs) (pointAt p w k l i) ≡ valueAt p w k l t (coded p w k l t xs) i
   value-is =
       by-halves l (λ (i : ℕ). horner p (bitReversed l xs) (pointAt p w k l i) ≡ valueAt p w k l t (coded p w k l t xs) i)
@@ -63,7 +63,7 @@ module _ (p w k l t : ℕ) (xs : List ℕ) (S : Stripe p w k l t) (C : Column p 
       ∙ lin p h (v (inverse p f) ⊗ (v f ⊗ v y)) (v y) (v y) (v f ⊗ v (inverse p f)) (v 1) (of-eq p u) h (horner-lt p h (bitReversed l xs) (pointAt p w k l (2 ^ l + i))) (omega arith)))
 
 -- two polynomials of 2 ^ l coefficients with the same values at the first 2 ^ l surviving positions
-pub same-polynomial : (p w k l t : ℕ) (ms : List Bool) (cs ds : List ℕ) → Stripe p w k l t → Enough l ms → Column p (2 ^ l) cs → Column p (2 ^ l) ds
+pub same-polynomial : (p w k l t : ℕ) (ms : List Bool) (cs ds : List ℕ) → Parameters p w k l t → Enough l ms → Column p (2 ^ l) cs → Column p (2 ^ l) ds
     → ((j : ℕ) → j < 2 ^ l → horner p cs (pointAt p w k l (getD (survivors l ms) j 0)) ≡ horner p ds (pointAt p w k l (getD (survivors l ms) j 0))) → cs ≡ ds
 same-polynomial p w k l t ms cs ds S E C D q =
     let s = survivors l ms in

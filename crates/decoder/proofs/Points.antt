@@ -17,7 +17,7 @@ use Rattle.field.proofs.Unity.{two-div, root-down, root-half, root-full, root-d
 use Rattle.field.proofs.WordLists.{words-table}
 use Rattle.decoder.specs.Decoding.{pointAt}
 use Rattle.decoder.specs.Promises.{PointsDistinct}
-use Rattle.decoder.proofs.Tests.{choice-lt}
+use Rattle.field.proofs.Booleans.{choice-lt}
 
 -- what holds at each position of X and of Y holds at each position
 pub by-halves : (l : ℕ) (P : ℕ → Type 0) → ((i : ℕ) → i < 2 ^ l → P i) → ((i : ℕ) → i < 2 ^ l → P (2 ^ l + i)) → (i : ℕ) → i < 2 ^ suc l → P i

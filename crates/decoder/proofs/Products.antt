@@ -18,7 +18,7 @@ use Rattle.field.proofs.Polynomials.{quotient, quotient-length, divide, lift-is
 use Rattle.field.proofs.Laws.{minus-lt}
 use Rattle.decoder.specs.Decoding.{pointAt}
 use Rattle.decoder.specs.Decoder.{weightTo}
-use Rattle.decoder.proofs.Tests.{either}
+use Rattle.field.proofs.Booleans.{either}
 use Rattle.decoder.proofs.Points.{point-lt}
 use Rattle.decoder.proofs.Survivors.{erasedTo, erased-zero, erased-true, erased-false}
 use Rattle.decoder.proofs.WeightLaws.{weight-zero, weight-survivor, weight-own, weight-other}

@@ -1,8 +1,8 @@
 -- The promises of specs/Promises and those of the decoder's steps (proofs/Decoder), each proved, under one roof. Assumes nothing.
-use Rattle.code.specs.declared.Stripe as Struct
+use Rattle.code.specs.declared.Stripe.{Stripe}
 use Rattle.code.specs.Stripe.{Numbers, modulusOf}
 use Rattle.field.proofs.Primes.{fermat-prime}
-use Rattle.decoder.specs.Promises.{Stripe, FindsBlocks, FoundBlocks, FindsStripe, FoundStripe, Promises}
+use Rattle.decoder.specs.Promises.{Parameters, FindsBlocks, FoundBlocks, FindsStripe, FoundStripe, Promises}
 use Rattle.decoder.proofs.Points.{points-distinct}
 use Rattle.decoder.proofs.Values.{valuesX, valuesY}
 use Rattle.decoder.proofs.Inverse.{untransforms, transforms, unscales}
@@ -12,7 +12,7 @@ use Rattle.decoder.proofs.BlockDecoding.{findsBlocks, foundBlocks}
 use Rattle.decoder.proofs.Decoder.{Solves, Low, solves, low}
 
 -- a stripe's numbers are what the promises for any prime ask
-numbered : {st : Struct.Stripe} → Numbers st → Stripe (modulusOf st) (st .root) (st .k) (st .level) (st .first)
+numbered : {st : Stripe} → Numbers st → Parameters (modulusOf st) (st .root) (st .k) (st .level) (st .first)
 numbered n = record { prime = fermat-prime; root = n .rooted; within = n .within; aligned = n .aligned }
 
 findsStripe : FindsStripe

@@ -10,7 +10,7 @@ use lib.ListN.{length, getD}
 use Rattle.decoder.specs.Decoding.{survivorsFrom}
 use Rattle.decoder.specs.Decoder.{erasedCount}
 use Rattle.decoder.specs.Promises.{Enough}
-use Rattle.decoder.proofs.Tests.{either}
+use Rattle.field.proofs.Booleans.{either}
 
 -- the positions of s are among the n from i on
 pub record Survivors (marks : List Bool) (i n : ℕ) (s : List ℕ) : Type 0 where

@@ -1,4 +1,4 @@
--- Laws of tests: of Booleans, of a number chosen by one, and of `allTo` of specs/DecodeTrace, a test for each number below n. Assumes nothing.
+-- Laws of tests: that two numbers are equal unless .., and of `allTo` of specs/DecodeTrace, a test for each number below n. Assumes nothing.
 use mathlib.Core.Path.{_≡_, refl, sym, ap₂, _∙_}
 use mathlib.Core.Bool.{Bool, true, false, false≢true, _&&_, _||_}
 use mathlib.Core.Logic.{_⊎_, inl, inr, ⊎-elim}
@@ -7,28 +7,8 @@ use native.Mathlib.Nat.{eq-or-lt-of-le}
 use native.Mathlib.Omega.{arith}
 use lib.Dec.{eqb}
 use borrow.Author.Tests.{eqb-true, eq-eqb}
+use Rattle.field.proofs.Booleans.{either, same-truth, both-true, first-true, second-true}
 use Rattle.decoder.specs.DecodeTrace.{allTo}
-
-pub either : (b : Bool) → (b ≡ true) ⊎ (b ≡ false)
-either true = inl refl
-either false = inr refl
-
-pub same-truth : (a b : Bool) → (a ≡ true → b ≡ true) → (b ≡ true → a ≡ true) → a ≡ b
-same-truth true b f g = sym (f refl)
-same-truth false true f g = g refl
-same-truth false false f g = refl
-
-pub both-true : (a b : Bool) → a ≡ true → b ≡ true → (a && b) ≡ true
-both-true true b e f = f
-both-true false b e f = e
-
-pub first-true : (a b : Bool) → (a && b) ≡ true → a ≡ true
-first-true true b e = refl
-first-true false b e = e
-
-pub second-true : (a b : Bool) → (a && b) ≡ true → b ≡ true
-second-true true b e = e
-second-true false b e = absurd (false≢true e)
 
 -- two numbers are equal unless b
 pub unless-same : (b : Bool) (x y : ℕ) → (b ≡ false → x ≡ y) → (b || eqb x y) ≡ true
@@ -39,16 +19,11 @@ pub same-unless : (b : Bool) (x y : ℕ) → (b || eqb x y) ≡ true → b ≡ f
 same-unless true x y e m = absurd (false≢true (sym m))
 same-unless false x y e m = eqb-true x y e
 
--- a number chosen by b
-pub choice-lt : {p : ℕ} (b : Bool) {x y : ℕ} → x < p → y < p → elim b [ true ↦ x | false ↦ y ] < p
-choice-lt true s t = s
-choice-lt false s t = t
-
 -- all tests are true, and each is
 pub allTo-all : (n : ℕ) (f : ℕ → Bool) → ((i : ℕ) → i < n → f i ≡ true) → allTo n f ≡ true
 unfolding allTo
 allTo-all zero f e = refl
-allTo-all (suc n) f e = both-true (f n) (allTo n f) (e n (omega arith)) (allTo-all n f (λ i h. e i (omega arith)))
+allTo-all (suc n) f e = both-true (e n (omega arith)) (allTo-all n f (λ i h. e i (omega arith)))
 
 pub allTo-each : (n : ℕ) (f : ℕ → Bool) → allTo n f ≡ true → (i : ℕ) → i < n → f i ≡ true
 unfolding allTo

@@ -17,8 +17,8 @@ use Rattle.field.proofs.Polynomials.{minus-zero, no-divisors}
 use Rattle.field.proofs.WordLists.{words-table}
 use Rattle.decoder.specs.Decoding.{pointAt}
 use Rattle.decoder.specs.Decoder.{weightTo}
-use Rattle.decoder.specs.Promises.{Stripe}
-use Rattle.decoder.proofs.Tests.{either, choice-lt}
+use Rattle.decoder.specs.Promises.{Parameters}
+use Rattle.field.proofs.Booleans.{either, choice-lt}
 use Rattle.decoder.proofs.Points.{point-lt, points-distinct}
 
 -- one position more: one that survives, the weight's own, or another
@@ -71,7 +71,7 @@ module _ (p w k l : ℕ) (ms : List Bool) (P : Prime p) (i : ℕ) where
           (minus-zero p h x a (point-lt p w k l (P .big) i) (point-lt p w k l (P .big) n)
           (no-divisors p P (weightTo p w k l ms i n) (minus p x a) (minus-lt p h x a) (weight-lt p (P .big) w k l ms i n) r (sym (weight-other p w k l ms i n m (ne-eqb n i q)) ∙ e)))
 
-pub weight-nonzero : (p w k l t : ℕ) (ms : List Bool) → Stripe p w k l t → (i : ℕ) → i < 2 ^ suc l → weightTo p w k l ms i (2 ^ suc l) ≢ 0
+pub weight-nonzero : (p w k l t : ℕ) (ms : List Bool) → Parameters p w k l t → (i : ℕ) → i < 2 ^ suc l → weightTo p w k l ms i (2 ^ suc l) ≢ 0
 weight-nonzero p w k l t ms stripe i b =
     nonzero-before p w k l ms (stripe .prime) i (2 ^ suc l)
     (λ j d n q. ne-cases j i ⊥ n (λ o. points-distinct p w k l t j i stripe o b (sym q)) (λ o. points-distinct p w k l t i j stripe o d q))

@@ -60,8 +60,8 @@ unfoldable pub decodedRows : (p w k level first width : ℕ) → (marks : List B
 decodedRows p w k l t width ms r = lifted width (2 ^ suc l) (2 ^ l) (decodedColumn p w k l t ms) r
 
 -- what decoding leaves of the stripe's rows: the blocks and zeros after them, or zeros where no blocks code to the surviving words
-unfoldable pub decodeLeaves : (p w k level first width : ℕ) → (marks : List Bool) → (rows : List ℕ) → List ℕ
-decodeLeaves p w k l t width ms r =
+unfoldable pub rowsLeft : (p w k level first width : ℕ) → (marks : List Bool) → (rows : List ℕ) → List ℕ
+rowsLeft p w k l t width ms r =
     elim (consistent p w k l t width ms r) [
       | true ↦ decodedRows p w k l t width ms r ++ replicate (2 ^ l * width) 0
       | false ↦ replicate (2 ^ suc l * width) 0
@@ -75,4 +75,4 @@ abbrev pub blocksIn : Stripe → (marks : List Bool) → (rows : List ℕ) → L
 blocksIn st ms r = decodedRows (modulusOf st) (st .root) (st .k) (st .level) (st .first) (st .width) ms r
 
 abbrev pub leftOf : Stripe → (marks : List Bool) → (rows : List ℕ) → List ℕ
-leftOf st ms r = decodeLeaves (modulusOf st) (st .root) (st .k) (st .level) (st .first) (st .width) ms r
+leftOf st ms r = rowsLeft (modulusOf st) (st .root) (st .k) (st .level) (st .first) (st .width) ms r

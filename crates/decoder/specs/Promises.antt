@@ -10,13 +10,13 @@ use Rattle.field.specs.Power.{power, inverse}
 use Rattle.field.specs.Polynomial.{horner}
 use Rattle.field.specs.Field.{Prime, Root}
 use Rattle.code.specs.Transform.{transform, untransform, scaled, reversed, bitReversed}
-use Rattle.code.specs.declared.Stripe as Struct
+use Rattle.code.specs.declared.Stripe.{Stripe}
 use Rattle.code.specs.Stripe.{coded, codedRows, Numbers, modulusOf, positionCount, blockWords, stripeWords, codedStripe}
 use Rattle.decoder.specs.Decoding.{survivors, pointAt, decodedColumn, consistentColumn, consistent, decodedRows, isConsistent, blocksIn}
 use Rattle.code.specs.Rows.{Column}
 
--- A STRIPE'S NUMBERS: a prime with a root of order 2n, a level up to k, and a t0 that a level or the full stripe (t0 = 0) can have
-pub record Stripe (p w k level first : ℕ) : Type 0 where
+-- THE PARAMETERS of a stripe's code: a prime with a root of order 2n, a level up to k, and a t0 that a level or the full stripe (t0 = 0) can have
+pub record Parameters (p w k level first : ℕ) : Type 0 where
   pub prime : Prime p
   pub root : Root p k w
   pub within : level ≤ k
@@ -36,62 +36,62 @@ pub record AgreesRows (marks : List Bool) (n width : ℕ) (a b : List ℕ) : Typ
 -- VALUES: position i of X, and of Y, is the value of one polynomial at a point of its own (Y's times w^rev(t0)). Its coefficient rev(j) is word j
 abbrev pub ValuesX : Type 0
 ValuesX =
-    (p w k l t : ℕ) (xs : List ℕ) (i : ℕ) → Stripe p w k l t → Column p (2 ^ l) xs → i < 2 ^ l →
+    (p w k l t : ℕ) (xs : List ℕ) (i : ℕ) → Parameters p w k l t → Column p (2 ^ l) xs → i < 2 ^ l →
     getD (coded p w k l t xs) i 0 ≡ horner p (bitReversed l xs) (pointAt p w k l i)
 
 abbrev pub ValuesY : Type 0
 ValuesY =
-    (p w k l t : ℕ) (xs : List ℕ) (i : ℕ) → Stripe p w k l t → Column p (2 ^ l) xs → i < 2 ^ l →
+    (p w k l t : ℕ) (xs : List ℕ) (i : ℕ) → Parameters p w k l t → Column p (2 ^ l) xs → i < 2 ^ l →
     getD (coded p w k l t xs) (2 ^ l + i) 0 ≡
     times p (power p w (reversed k t)) (horner p (bitReversed l xs) (pointAt p w k l (2 ^ l + i)))
 
 -- POINTS: the 2M points are distinct
 abbrev pub PointsDistinct : Type 0
 PointsDistinct =
-    (p w k l t i j : ℕ) → Stripe p w k l t → i < j → j < 2 ^ suc l → pointAt p w k l i ≡ pointAt p w k l j → ⊥
+    (p w k l t i j : ℕ) → Parameters p w k l t → i < j → j < 2 ^ suc l → pointAt p w k l i ≡ pointAt p w k l j → ⊥
 
 -- INVERSE: what is transformed comes back, either way round, but for the factor 2 ^ level, which has an inverse
 abbrev pub Untransforms : Type 0
 Untransforms =
-    (p w k l t : ℕ) (xs : List ℕ) → Stripe p w k l t → Column p (2 ^ l) xs →
+    (p w k l t : ℕ) (xs : List ℕ) → Parameters p w k l t → Column p (2 ^ l) xs →
     untransform p (inverse p w) k l (transform p w k l xs) ≡ scaled p (2 ^ l) xs
 
 abbrev pub Transforms : Type 0
 Transforms =
-    (p w k l t : ℕ) (xs : List ℕ) → Stripe p w k l t → Column p (2 ^ l) xs →
+    (p w k l t : ℕ) (xs : List ℕ) → Parameters p w k l t → Column p (2 ^ l) xs →
     transform p w k l (untransform p (inverse p w) k l xs) ≡ scaled p (2 ^ l) xs
 
 abbrev pub Unscales : Type 0
 Unscales =
-    (p w k l t : ℕ) (xs : List ℕ) → Stripe p w k l t → Column p (2 ^ l) xs → scaled p (inverse p (2 ^ l % p)) (scaled p (2 ^ l) xs) ≡ xs
+    (p w k l t : ℕ) (xs : List ℕ) → Parameters p w k l t → Column p (2 ^ l) xs → scaled p (inverse p (2 ^ l % p)) (scaled p (2 ^ l) xs) ≡ xs
 
 -- ANY HALF FIXES THE BLOCKS: two columns that code to the same words at half of the positions are equal
 abbrev pub HalfFixes : Type 0
 HalfFixes =
-    (p w k l t : ℕ) (ms : List Bool) (xs ys : List ℕ) → Stripe p w k l t → Enough l ms → Column p (2 ^ l) xs → Column p (2 ^ l) ys →
+    (p w k l t : ℕ) (ms : List Bool) (xs ys : List ℕ) → Parameters p w k l t → Enough l ms → Column p (2 ^ l) xs → Column p (2 ^ l) ys →
     Agrees ms (2 ^ suc l) (coded p w k l t xs) (coded p w k l t ys) → xs ≡ ys
 
 -- DECODING, both ways round: the column found is the one that codes to all surviving words, if there is one
 abbrev pub FindsColumn : Type 0
 FindsColumn =
-    (p w k l t : ℕ) (ms : List Bool) (c xs : List ℕ) → Stripe p w k l t → Enough l ms → Column p (2 ^ l) xs → Agrees ms (2 ^ suc l) (coded p w k l t xs) c →
+    (p w k l t : ℕ) (ms : List Bool) (c xs : List ℕ) → Parameters p w k l t → Enough l ms → Column p (2 ^ l) xs → Agrees ms (2 ^ suc l) (coded p w k l t xs) c →
     (consistentColumn p w k l t ms c ≡ true) × (decodedColumn p w k l t ms c ≡ xs)
 
 abbrev pub FoundColumn : Type 0
 FoundColumn =
-    (p w k l t : ℕ) (ms : List Bool) (c : List ℕ) → Stripe p w k l t → Enough l ms → Column p (2 ^ suc l) c → consistentColumn p w k l t ms c ≡ true →
+    (p w k l t : ℕ) (ms : List Bool) (c : List ℕ) → Parameters p w k l t → Enough l ms → Column p (2 ^ suc l) c → consistentColumn p w k l t ms c ≡ true →
     Column p (2 ^ l) (decodedColumn p w k l t ms c) × Agrees ms (2 ^ suc l) (coded p w k l t (decodedColumn p w k l t ms c)) c
 
 -- and so the blocks, rows of any width
 abbrev pub FindsBlocks : Type 0
 FindsBlocks =
-    (p w k l t width : ℕ) (ms : List Bool) (rows bs : List ℕ) → Stripe p w k l t → Enough l ms → Column p (2 ^ l * width) bs → length rows ≡ 2 ^ suc l * width →
+    (p w k l t width : ℕ) (ms : List Bool) (rows bs : List ℕ) → Parameters p w k l t → Enough l ms → Column p (2 ^ l * width) bs → length rows ≡ 2 ^ suc l * width →
     AgreesRows ms (2 ^ suc l) width (codedRows p w k l t width bs) rows →
     (consistent p w k l t width ms rows ≡ true) × (decodedRows p w k l t width ms rows ≡ bs)
 
 abbrev pub FoundBlocks : Type 0
 FoundBlocks =
-    (p w k l t width : ℕ) (ms : List Bool) (rows : List ℕ) → Stripe p w k l t → Enough l ms → Column p (2 ^ suc l * width) rows →
+    (p w k l t width : ℕ) (ms : List Bool) (rows : List ℕ) → Parameters p w k l t → Enough l ms → Column p (2 ^ suc l * width) rows →
     consistent p w k l t width ms rows ≡ true →
     Column p (2 ^ l * width) (decodedRows p w k l t width ms rows) ×
     AgreesRows ms (2 ^ suc l) width (codedRows p w k l t width (decodedRows p w k l t width ms rows)) rows
@@ -99,13 +99,13 @@ FoundBlocks =
 -- and so the blocks of a stripe by its numbers, with the words of `decoder::decoding::decode`
 abbrev pub FindsStripe : Type 0
 FindsStripe =
-    (st : Struct.Stripe) (ms : List Bool) (rows bs : List ℕ) → Numbers st → Enough (st .level) ms → Column (modulusOf st) (blockWords st) bs → length rows ≡ stripeWords st →
+    (st : Stripe) (ms : List Bool) (rows bs : List ℕ) → Numbers st → Enough (st .level) ms → Column (modulusOf st) (blockWords st) bs → length rows ≡ stripeWords st →
     AgreesRows ms (positionCount st) (st .width) (codedStripe st bs) rows →
     (isConsistent st ms rows ≡ true) × (blocksIn st ms rows ≡ bs)
 
 abbrev pub FoundStripe : Type 0
 FoundStripe =
-    (st : Struct.Stripe) (ms : List Bool) (rows : List ℕ) → Numbers st → Enough (st .level) ms → Column (modulusOf st) (stripeWords st) rows →
+    (st : Stripe) (ms : List Bool) (rows : List ℕ) → Numbers st → Enough (st .level) ms → Column (modulusOf st) (stripeWords st) rows →
     isConsistent st ms rows ≡ true →
     Column (modulusOf st) (blockWords st) (blocksIn st ms rows) × AgreesRows ms (positionCount st) (st .width) (codedStripe st (blocksIn st ms rows)) rows
 

@@ -1,3 +1,4 @@
+pub mod Booleans
 pub mod Congruence
 pub mod Ring
 pub mod Laws

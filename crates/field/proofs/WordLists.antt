@@ -124,6 +124,16 @@ two-tables l n m f g long low high = ext-getD 0 l (table n f ++ table m g) (simp
         let b′ : k - n < m = omega arith in
         subst (λ (j : ℕ). getD l j 0 ≡ getD (table n f ++ table m g) j 0) e (high (k - n) b′ ∙ sym (table-high n m f g (k - n) b′))
 
+-- a table is one of its first elements and one of the rest
+pub table-append : (n m : ℕ) (f g : ℕ → ℕ) → ((i : ℕ) → i < m → g i ≡ f (n + i)) → table (n + m) f ≡ table n f ++ table m g
+table-append n m f g e =
+    two-tables (table (n + m) f) n m f g (length-table (n + m) f) (λ k b. getD-table (n + m) k f (omega arith))
+    (λ k b. getD-table (n + m) (n + k) f (omega arith) ∙ sym (e k b))
+
+pub words-sets : (p : ℕ) → 0 < p → (xs : List ℕ) {l : List ℕ} (i : ℕ) → Words p l → Words p xs → Words p (sets l i xs)
+words-sets p h [] i u v = u
+words-sets p h (x ∷ xs) i u v = words-sets p h xs (suc i) (words-set p h i u (v .word 0)) (words-tail v)
+
 -- STORES of one list after the other
 pub sets-append : (l : List ℕ) (i : ℕ) (xs ys : List ℕ) → sets l i (xs ++ ys) ≡ sets (sets l i xs) (i + length xs) ys
 sets-append l i [] ys = ap (λ (k : ℕ). sets l k ys) {x = i} {y = i + 0} (omega arith)

@@ -19,50 +19,7 @@ use Rattle.layout.specs.declared.Header.{Header}
 use Rattle.layout.specs.Header.{width, stripeSize, stripeAt}
 use Rattle.image.specs.Image.{numberOf, numberAt, wordAt, wordsOf}
 use Rattle.image.specs.Loading.{stripeIn, survivingAt, surviving, areBelow, columnsWord, columnsOf}
-use Rattle.image.specs.LoadTrace.{rowWord, laid}
-
--- ROWS LAID OVER A LIST
-laid-none : (to : ℕ) (f : ℕ → ℕ) (l : List ℕ) → laid to 0 f l ≡ l
-unfolding laid table
-laid-none to f l = ap (λ (n : ℕ). take to l ++ drop n l) (add-zero to) ∙ take-append-drop to l
-
-table-more : (n : ℕ) (f : ℕ → ℕ) → table n f ++ (f n ∷ []) ≡ table (suc n) f
-unfolding table
-table-more zero f = refl
-table-more (suc n) f = ap (λ (l : List ℕ). f 0 ∷ l) (table-more n (λ k. f (suc k)))
-
-laid-more : (to n : ℕ) (f : ℕ → ℕ) (l : List ℕ) → to + n < length l → set (laid to n f l) (to + n) (f n) ≡ laid to (n + 1) f l
-unfolding laid
-laid-more to n f l h =
-    let long : length (take to l ++ table n f) ≡ to + n = simp (length-append, length-table, length-take) (omega arith) in
-    let e : suc (to + n) ≡ to + suc n = omega arith in
-    rw (
-      drop-cons l (to + n) 0 h,
-      ← append-assoc,
-      set-at (take to l ++ table n f) (getD l (to + n) 0) (drop (suc (to + n)) l) (f n) (to + n) long,
-      append-assoc,
-      add-one n,
-      ← table-more n f,
-      append-assoc (table n f),
-    ) (ap (λ (m : ℕ). take to l ++ (table n f ++ (f n ∷ drop m l))) e)
-
-pub record LaidLoop (to n : ℕ) (f : ℕ → ℕ) (entry part : List ℕ) (j : ℕ) : Type 0 where
-  pub within : j ≤ n
-  pub same : length part ≡ length entry
-  pub laid-so : part ≡ laid to j f entry
-
-pub laid-start : (to n : ℕ) (f : ℕ → ℕ) (entry : List ℕ) → LaidLoop to n f entry entry 0
-laid-start to n f entry = record { within = omega arith; same = refl; laid-so = sym (laid-none to f entry) }
-
-pub laid-turn : {to n : ℕ} {f : ℕ → ℕ} {entry part : List ℕ} {j x : ℕ} → LaidLoop to n f entry part j → j < n → to + n ≤ length entry → x ≡ f j
-    → LaidLoop to n f entry (set part (to + j) x) (j + 1)
-laid-turn {to} {n} {f} {entry} {part} {j} {x} r h fit e =
-    record { within = omega arith; same = length-set part (to + j) x ∙ r .same; laid-so = rw (e, r .laid-so) (laid-more to j f entry (omega arith)) }
-
-pub laid-end : {to n : ℕ} {f : ℕ → ℕ} {entry part : List ℕ} {j : ℕ} → LaidLoop to n f entry part j → n ≤ j → part ≡ laid to n f entry
-laid-end {to} {n} {f} {entry} {part} {j} r h =
-    let e : j ≡ n = omega (arith, r .within) in
-    rw (← e) (r .laid-so)
+use Rattle.image.specs.LoadTrace.{rowWord}
 
 -- WORDS BELOW p
 below-append : (p : ℕ) (a b : List ℕ) → areBelow p (a ++ b) ≡ (areBelow p a && areBelow p b)
@@ -122,10 +79,6 @@ row-of n k m f g h e =
 
     at : (j : ℕ) → j < m → getD (take m (drop k (table n f))) j 0 ≡ g j
     at j b = getD-take m (drop k (table n f)) j 0 b ∙ getD-drop k (table n f) j 0 ∙ getD-table n (k + j) f (omega arith) ∙ e j b
-
-table-and : (k m : ℕ) (f g : ℕ → ℕ) → ((j : ℕ) → j < m → f (k + j) ≡ g j) → table (k + m) f ≡ table k f ++ table m g
-table-and k m f g e =
-    two-tables (table (k + m) f) k m f g (length-table (k + m) f) (λ j b. getD-table (k + m) j f (omega arith)) (λ j b. getD-table (k + m) (k + j) f (omega arith) ∙ e j b)
 
 -- a marked row is zeros, and a row that is kept is the stripe's words
 module _ (w : ℕ) (ms : List Bool) (r : List ℕ) (i j : ℕ) (h : j < w) where
@@ -196,36 +149,6 @@ rows-end {p} {rows} {width} {f} {i} r h =
     let e : i ≡ rows = omega (arith, r .within) in
     let d : drop (i * width) (table (rows * width) f) ≡ [] = drop-of-length-le (table (rows * width) f) {i = i * width} (rw (e, length-table) (omega arith)) in
     rw d at (r .left)
-
--- THE LOOP over the rows of a stripe that are loaded
-pub record LoadLoop (rows cols : ℕ) (f : ℕ → ℕ) (entry part : List ℕ) (i : ℕ) : Type 0 where
-  pub within : i ≤ rows
-  pub same : length part ≡ length entry
-  pub loaded-so : part ≡ table (i * cols) f ++ drop (i * cols) entry
-
-pub load-start : (rows cols : ℕ) (f : ℕ → ℕ) (entry : List ℕ) → LoadLoop rows cols f entry entry 0
-unfolding table
-load-start rows cols f entry = record { within = omega arith; same = refl; loaded-so = sym (rw (zero-mul cols)) }
-
-laid-next : (k m : ℕ) (f g : ℕ → ℕ) (entry : List ℕ) → ((j : ℕ) → j < m → f (k + j) ≡ g j) → laid k m g (table k f ++ drop k entry) ≡ table (k + m) f ++ drop (k + m) entry
-unfolding laid
-laid-next k m f g entry e = rw (take-at (table k f) (drop k entry) k (length-table k f), table-and k m f g e, append-assoc (table k f), behind)
-  where
-    behind : drop (k + m) (table k f ++ drop k entry) ≡ drop (k + m) entry
-    behind = ap (λ (n : ℕ). drop (n + m) (table k f ++ drop k entry)) (sym (length-table k f)) ∙ drop-append-add (table k f) (drop k entry) m ∙ drop-drop m k entry
-
-pub load-turn : {rows cols : ℕ} {f : ℕ → ℕ} {entry part after : List ℕ} {i : ℕ} → LoadLoop rows cols f entry part i → i < rows → rows * cols ≤ length entry
-    → (g : ℕ → ℕ) → ((j : ℕ) → j < cols → f (i * cols + j) ≡ g j) → after ≡ laid (i * cols) cols g part → LoadLoop rows cols f entry after (i + 1)
-load-turn {rows} {cols} {f} {entry} {part} {after} {i} r h fit g e a =
-    let b : i * cols + cols ≤ length entry = omega (arith, row-in cols h) in
-    let t : after ≡ table ((i + 1) * cols) f ++ drop ((i + 1) * cols) entry = rw (a, r .loaded-so, row-next i cols) (laid-next (i * cols) cols f g entry e) in
-    let q : (i + 1) * cols ≤ length entry = omega (arith, row-next i cols) in
-    record { within = omega arith; same = ap length t ∙ simp (length-append, length-table, length-drop) (omega arith); loaded-so = t }
-
-pub load-end : {rows cols : ℕ} {f : ℕ → ℕ} {entry part : List ℕ} {i : ℕ} → LoadLoop rows cols f entry part i → rows ≤ i → part ≡ table (rows * cols) f ++ drop (rows * cols) entry
-load-end {rows} {cols} {f} {entry} {part} {i} r h =
-    let e : i ≡ rows = omega (arith, r .within) in
-    rw (← e) (r .loaded-so)
 
 -- WORDS OF THE FIELD, in all rows and in a range of columns
 pub columns-words : (p width from cols n : ℕ) (r : List ℕ) → 0 < p → areBelow p r ≡ true → Words p (columnsOf width from cols n r)

@@ -9,9 +9,10 @@ ghost use lib.ListN.{length, drop};
 ghost use Rattle.field.specs.Field.{fermat};
 ghost use Rattle.field.specs.Words.{table};
 ghost use Rattle.code.specs.Stripe.{modulusOf, positionCount, stripeWords};
+ghost use Rattle.code.specs.RowTrace.{stored};
 ghost use Rattle.layout.specs.Header.{headerFits, imageSize};
 ghost use Rattle.image.specs.Loading.{stripeIn, rowsIn, areBelow, columnsOf};
-ghost use Rattle.image.specs.LoadTrace.{rowWord, laid};
+ghost use Rattle.image.specs.LoadTrace.{rowWord};
 
 // The bytes of a stripe, a part of the image.
 pub fn stripe_bytes<'a>(header: Header, image: &'a [u8], level: usize) -> &'a [u8]
@@ -62,7 +63,7 @@ pub fn in_field(bytes: &[u8], marks: &[bool], st: Stripe) -> bool
 // Loads the `cols` words from the byte `from` on to the index `to` on.
 fn load_row(part: &mut [u32], to: usize, bytes: &[u8], from: usize, cols: usize)
     requires { ⌜ (to + cols ≤ length (now part)) × (from + 4 * cols ≤ length (now bytes)) ⌝ }
-    ensures { λ _. ⌜ now (part .exit) ≡ laid to cols (rowWord (now (bytes .entry)) from) (now (part .entry)) ⌝ }
+    ensures { λ _. ⌜ now (part .exit) ≡ stored to (rowWord (now (bytes .entry)) from) cols (now (part .entry)) ⌝ }
 {
     let mut j = 0;
     while j < cols {
@@ -74,7 +75,7 @@ fn load_row(part: &mut [u32], to: usize, bytes: &[u8], from: usize, cols: usize)
 // Stores `cols` zeros from the index `to` on.
 fn clear_row(part: &mut [u32], to: usize, cols: usize)
     requires { ⌜ to + cols ≤ length (now part) ⌝ }
-    ensures { λ _. ⌜ now (part .exit) ≡ laid to cols (λ j. 0) (now (part .entry)) ⌝ }
+    ensures { λ _. ⌜ now (part .exit) ≡ stored to (λ j. 0) cols (now (part .entry)) ⌝ }
 {
     let mut j = 0;
     while j < cols {

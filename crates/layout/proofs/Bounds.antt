@@ -9,7 +9,7 @@ use lib.Dec.{leb, ltb}
 use lib.Pow.{pow-mono}
 use Rattle.layout.specs.declared.Header.{Header}
 use Rattle.layout.specs.Header.{count, width, isIn, headerFits, rawSize, fullSize, logSize, outSize, scratchSize, imageSize}
-use Rattle.layout.proofs.Refusals.{first, second}
+use Rattle.field.proofs.Booleans.{first-true, second-true}
 
 -- THE SIZES of a header that fits. The equations say the products as sums of one product, for `omega`
 pub record Fits (h : Header) : Type 0 where
@@ -51,13 +51,13 @@ size-image (suc n) s l = let e : 4 * suc n - 2 ≡ 4 * n + 2 = omega arith in rw
 
 pub fits : (h : Header) → headerFits h ≡ true → Fits h
 fits h e =
-    let a : isIn 1 10 (h .k) ≡ true = first (isIn 1 10 (h .k)) (isIn 1 128 (h .s) && ltb (h .c) (count h)) e in
-    let b : (isIn 1 128 (h .s) && ltb (h .c) (count h)) ≡ true = second (isIn 1 10 (h .k)) (isIn 1 128 (h .s) && ltb (h .c) (count h)) e in
-    let c : isIn 1 128 (h .s) ≡ true = first (isIn 1 128 (h .s)) (ltb (h .c) (count h)) b in
-    let kl : 1 ≤ h .k = leb-true 1 (h .k) (first (leb 1 (h .k)) (leb (h .k) 10) a) in
-    let kh : h .k ≤ 10 = leb-true (h .k) 10 (second (leb 1 (h .k)) (leb (h .k) 10) a) in
-    let sl : 1 ≤ h .s = leb-true 1 (h .s) (first (leb 1 (h .s)) (leb (h .s) 128) c) in
-    let sh : h .s ≤ 128 = leb-true (h .s) 128 (second (leb 1 (h .s)) (leb (h .s) 128) c) in
+    let a : isIn 1 10 (h .k) ≡ true = first-true (isIn 1 10 (h .k)) (isIn 1 128 (h .s) && ltb (h .c) (count h)) e in
+    let b : (isIn 1 128 (h .s) && ltb (h .c) (count h)) ≡ true = second-true (isIn 1 10 (h .k)) (isIn 1 128 (h .s) && ltb (h .c) (count h)) e in
+    let c : isIn 1 128 (h .s) ≡ true = first-true (isIn 1 128 (h .s)) (ltb (h .c) (count h)) b in
+    let kl : 1 ≤ h .k = leb-true 1 (h .k) (first-true (leb 1 (h .k)) (leb (h .k) 10) a) in
+    let kh : h .k ≤ 10 = leb-true (h .k) 10 (second-true (leb 1 (h .k)) (leb (h .k) 10) a) in
+    let sl : 1 ≤ h .s = leb-true 1 (h .s) (first-true (leb 1 (h .s)) (leb (h .s) 128) c) in
+    let sh : h .s ≤ 128 = leb-true (h .s) 128 (second-true (leb 1 (h .s)) (leb (h .s) 128) c) in
     let low : 2 ≤ count h = pow-mono {i = 1} {j = h .k} kl in
     let high : count h ≤ 1024 = pow-mono {i = h .k} {j = 10} kh in
     let d : 2 ^ suc (h .k) ≡ count h + count h = omega arith in
@@ -71,7 +71,7 @@ fits h e =
       k-high = kh;
       s-low = sl;
       s-high = sh;
-      c-low = ltb-true (h .c) (count h) (second (isIn 1 128 (h .s)) (ltb (h .c) (count h)) b);
+      c-low = ltb-true (h .c) (count h) (second-true (isIn 1 128 (h .s)) (ltb (h .c) (count h)) b);
       some = low;
       few = high;
       double = d;

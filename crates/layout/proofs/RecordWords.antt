@@ -2,30 +2,30 @@
 use mathlib.Core.Path.{_≡_, refl, sym, ap, _∙_}
 use mathlib.Core.Bool.{true, false, _&&_, and-assoc}
 use mathlib.Core.Logic.{⊎-elim}
-use mathlib.Core.List.{List, [], _∷_, _++_}
+use mathlib.Core.List.{List, [], _∷_, _++_, append-assoc}
 use Prim.Native.Nat.{ℕ, zero, suc, _+_, _*_, _≤_, _<_}
 use native.Mathlib.Nat.{eq-or-lt-of-le, mul-le-mul-right, zero-mul}
 use native.Mathlib.Omega.{arith}
 use lib.Dec.{lit<}
 use lib.ListN.{length, take, drop, length-append, length-drop}
-use lib.Seq.{length-take-le, take-add, take-all}
+use lib.Seq.{sets-eq, length-take-le, take-add, take-all}
 use borrow.Author.Tests.{leb-true, le-leb}
 use Rattle.field.specs.Words.{Words}
 use Rattle.field.proofs.WordLists.{words-nil, words-cons, words-tail, words-take, words-drop, words-append}
 use Rattle.layout.specs.Records.{isData, areData, recordIn, replaced, recordsFit}
-use Rattle.layout.proofs.Refusals.{both, first, second, not-first, not-second}
+use Rattle.field.proofs.Booleans.{both-true, first-true, second-true, first-false, second-false}
 
 -- data words are words below 65536, and so words of the field
 pub data-words : (l : List ℕ) → areData l ≡ true → Words 65536 l
 unfolding areData
 data-words [] e = words-nil 65536 (lit< tt)
 data-words (x ∷ l) e =
-    words-cons 65536 (lit< tt) (omega (arith, leb-true x _ (first (isData x) (areData l) e))) (data-words l (second (isData x) (areData l) e))
+    words-cons 65536 (lit< tt) (omega (arith, leb-true x _ (first-true (isData x) (areData l) e))) (data-words l (second-true (isData x) (areData l) e))
 
 pub are-data : (l : List ℕ) → Words 65536 l → areData l ≡ true
 unfolding areData
 are-data [] u = refl
-are-data (x ∷ l) u = both (le-leb x 65535 (omega (arith, u .word 0))) (are-data l (words-tail u))
+are-data (x ∷ l) u = both-true (le-leb x 65535 (omega (arith, u .word 0))) (are-data l (words-tail u))
 
 pub field-words : {l : List ℕ} → Words 65536 l → Words 65537 l
 field-words u = record { word = λ i. omega (arith, u .word i) }
@@ -37,14 +37,10 @@ record-end n s i h = omega (arith, mul-le-mul-right s h)
 pub length-record : (n s : ℕ) (r : List ℕ) (i : ℕ) → length r ≡ n * s → i < n → length (recordIn s r i) ≡ s
 length-record n s r i e h = length-take-le s (drop (i * s) r) (rw length-drop (omega (arith, record-end n s i h)))
 
-pub length-replaced : (n s : ℕ) (r : List ℕ) (i : ℕ) (b : List ℕ) → length r ≡ n * s → i < n → length b ≡ s → length (replaced s r i b) ≡ n * s
-length-replaced n s r i b e h l =
-    let f : length (take (i * s) r) ≡ i * s = length-take-le (i * s) r (omega (arith, record-end n s i h)) in
-    length-append (take (i * s) r) (b ++ drop (suc i * s) r) ∙ omega (arith, length-append b (drop (suc i * s) r), length-drop (suc i * s) r, record-end n s i h)
-
-pub words-replaced : (p s : ℕ) → 0 < p → (r : List ℕ) (i : ℕ) (b : List ℕ) → Words p r → Words p b → Words p (replaced s r i b)
-words-replaced p s h r i b u v =
-    words-append p h {a = take (i * s) r} (words-take p h (i * s) u) (words-append p h {a = b} v (words-drop p h (suc i * s) u))
+pub replaced-is : (s : ℕ) (r : List ℕ) (i : ℕ) (b : List ℕ) → length b ≡ s → suc i * s ≤ length r → replaced s r i b ≡ take (i * s) r ++ (b ++ drop (suc i * s) r)
+replaced-is s r i b e h =
+    sets-eq b r (i * s) (omega arith) ∙ append-assoc (take (i * s) r) b (drop (i * s + length b) r)
+    ∙ ap (λ (n : ℕ). take (i * s) r ++ (b ++ drop n r)) {x = i * s + length b} {y = suc i * s} (omega arith)
 
 -- data words of two lists
 data-append : (a b : List ℕ) → areData (a ++ b) ≡ (areData a && areData b)
@@ -59,14 +55,14 @@ fit-none s r = refl
 
 pub fit-one : (s : ℕ) (r : List ℕ) (n : ℕ) → recordsFit s r n ≡ true → areData (recordIn s r n) ≡ true → recordsFit s r (suc n) ≡ true
 unfolding recordsFit
-fit-one s r n e d = both e d
+fit-one s r n e d = both-true e d
 
 -- not with one that does not
 pub unfit-one : (s : ℕ) (r : List ℕ) (n i : ℕ) → i < n → areData (recordIn s r i) ≡ false → recordsFit s r n ≡ false
 unfolding recordsFit
 unfit-one s r zero i h e = absurd (omega arith)
 unfit-one s r (suc n) i h e =
-    ⊎-elim (λ q. not-second (recordsFit s r n) (ap (λ (j : ℕ). areData (recordIn s r j)) (sym q) ∙ e)) (λ b. not-first (areData (recordIn s r n)) (unfit-one s r n i b e))
+    ⊎-elim (λ q. second-false (recordsFit s r n) (ap (λ (j : ℕ). areData (recordIn s r j)) (sym q) ∙ e)) (λ b. first-false (areData (recordIn s r n)) (unfit-one s r n i b e))
     (eq-or-lt-of-le (omega arith))
 
 -- they fit if all their words do

@@ -1,43 +1,21 @@
--- Tests that hold or fail: both of two, those of three sizes, and what they make of a call's number and of what it leaves. Assumes nothing.
+-- Tests that hold or fail: those of three sizes, and what tests make of a call's number and of what it leaves. Assumes nothing.
 use mathlib.Core.Path.{_≡_, refl}
 use mathlib.Core.Bool.{Bool, true, false, _&&_}
 use Prim.Native.Nat.{ℕ, _<_}
 use native.Mathlib.Omega.{arith}
 use borrow.Author.Tests.{eqb-true, eq-eqb, ne-eqb}
 use lib.Dec.{eqb}
+use Rattle.field.proofs.Booleans.{both-true, first-true, second-true}
 use Rattle.layout.specs.Refusals.{Tests, done, test, refusal, ifTaken}
-
--- BOTH OF TWO TESTS
-pub both : {a b : Bool} → a ≡ true → b ≡ true → (a && b) ≡ true
-both p q = rw (p, q)
-
-pub first : (a b : Bool) → (a && b) ≡ true → a ≡ true
-first true b e = refl
-first false b e = e
-
-pub second : (a b : Bool) → (a && b) ≡ true → b ≡ true
-second true b e = e
-second false b e = absurd (let z : _≡_ {A = ℕ} 0 1 = cc in omega arith)
-
-pub not-first : {a : Bool} (b : Bool) → a ≡ false → (a && b) ≡ false
-not-first b e = rw e
-
-pub not-second : (a : Bool) {b : Bool} → b ≡ false → (a && b) ≡ false
-not-second true e = e
-not-second false e = refl
-
-pub is-false : (b : Bool) → (b ≡ true → ⊥) → b ≡ false
-is-false true d = absurd (d refl)
-is-false false d = refl
 
 -- the tests of three sizes
 pub equal-three : (a a′ b b′ c c′ : ℕ) → a ≡ a′ → b ≡ b′ → c ≡ c′ → (eqb a a′ && (eqb b b′ && eqb c c′)) ≡ true
-equal-three a a′ b b′ c c′ p q r = both (eq-eqb a a′ p) (both (eq-eqb b b′ q) (eq-eqb c c′ r))
+equal-three a a′ b b′ c c′ p q r = both-true (eq-eqb a a′ p) (both-true (eq-eqb b b′ q) (eq-eqb c c′ r))
 
 pub three-equal : (a a′ b b′ c c′ : ℕ) → (eqb a a′ && (eqb b b′ && eqb c c′)) ≡ true → (a ≡ a′) × (b ≡ b′) × (c ≡ c′)
 three-equal a a′ b b′ c c′ e =
-    let t = second (eqb a a′) (eqb b b′ && eqb c c′) e in
-    (eqb-true a a′ (first (eqb a a′) (eqb b b′ && eqb c c′) e), eqb-true b b′ (first (eqb b b′) (eqb c c′) t), eqb-true c c′ (second (eqb b b′) (eqb c c′) t))
+    let t = second-true (eqb a a′) (eqb b b′ && eqb c c′) e in
+    (eqb-true a a′ (first-true (eqb a a′) (eqb b b′ && eqb c c′) e), eqb-true b b′ (first-true (eqb b b′) (eqb c c′) t), eqb-true c c′ (second-true (eqb b b′) (eqb c c′) t))
 
 -- A CALL'S NUMBER
 pub test-holds : {b : Bool} (n : ℕ) (ts : Tests) → b ≡ true → refusal (test b n ts) ≡ refusal ts
@@ -59,13 +37,3 @@ if-taken {n} x y e = rw (eq-eqb n 0 e, ifTaken)
 
 pub if-refused : {A : Type 0} {n : ℕ} (x y : A) → (n ≡ 0 → ⊥) → ifTaken n x y ≡ y
 if-refused {n} x y d = rw (ne-eqb n 0 d, ifTaken)
-
--- a choice by a test, as `ifTaken` is
-abbrev pub choose : {A : Type 0} → Bool → (x y : A) → A
-choose b x y = elim b [ true ↦ x | false ↦ y ]
-
-pub chosen-first : {A : Type 0} (b : Bool) (x y : A) → b ≡ true → choose b x y ≡ x
-chosen-first b x y e = rw (e, choose)
-
-pub chosen-second : {A : Type 0} (b : Bool) (x y : A) → b ≡ false → choose b x y ≡ y
-chosen-second b x y e = rw (e, choose)

@@ -1,9 +1,10 @@
 -- Records in a raw buffer, and which data a record may hold. Assumes nothing: these are definitions.
 use mathlib.Core.Bool.{Bool, true, _&&_}
-use mathlib.Core.List.{List, [], _∷_, _++_}
+use mathlib.Core.List.{List, [], _∷_}
 use Prim.Native.Nat.{ℕ, zero, suc, _*_}
 use lib.Dec.{leb}
 use lib.ListN.{take, drop}
+use lib.Seq.{sets}
 
 -- a data word is 0 to 65535
 abbrev pub isData : ℕ → Bool
@@ -19,7 +20,7 @@ abbrev pub recordIn : (s : ℕ) → (raw : List ℕ) → (i : ℕ) → List ℕ
 recordIn s r i = take s (drop (i * s) r)
 
 abbrev pub replaced : (s : ℕ) → (raw : List ℕ) → (i : ℕ) → (block : List ℕ) → List ℕ
-replaced s r i b = take (i * s) r ++ (b ++ drop (suc i * s) r)
+replaced s r i b = sets r (i * s) b
 
 -- whether each of the first n records holds such data
 unfoldable pub recordsFit : (s : ℕ) → (raw : List ℕ) → (n : ℕ) → Bool

@@ -10,18 +10,16 @@ use lib.Seq.{length-take-le, getD-take, getD-drop}
 use Rattle.field.specs.Words.{table}
 use Rattle.field.proofs.WordLists.{is-table}
 use Rattle.code.specs.RowTrace.{stored, wordFrom}
-use Rattle.code.proofs.RowLaws.{length-stored, stored-is}
+use Rattle.code.proofs.RowLaws.{length-stored, stored-list}
 use Rattle.layout.specs.Records.{replaced}
 use Rattle.recovery.specs.Recovery.{laid}
 
 -- a row that is copied to a record's place
-row-put : (s i from : ℕ) (bs r : List ℕ) → i * s + s ≤ length r → from + s ≤ length bs → stored (i * s) (wordFrom bs from) s r ≡ replaced s r i (take s (drop from bs))
+row-put : (s i from : ℕ) (bs r : List ℕ) → from + s ≤ length bs → stored (i * s) (wordFrom bs from) s r ≡ replaced s r i (take s (drop from bs))
 unfolding wordFrom
-row-put s i from bs r a b =
-    let t : take s (drop from bs) ≡ table s (wordFrom bs from) =
-    is-table (take s (drop from bs)) s (wordFrom bs from) (length-take-le s (drop from bs) (rw length-drop (omega arith))) (λ k c. getD-take s (drop from bs) k 0 c ∙ getD-drop from bs k 0) in
-    stored-is (i * s) (wordFrom bs from) s r a ∙ append-assoc (take (i * s) r) (table s (wordFrom bs from)) (drop (i * s + s) r)
-    ∙ ap₂ (λ (x : List ℕ) (n : ℕ). take (i * s) r ++ (x ++ drop n r)) {u = i * s + s} {v = suc i * s} (sym t) (omega arith)
+row-put s i from bs r b =
+    stored-list (i * s) (wordFrom bs from) s (take s (drop from bs)) r (length-take-le s (drop from bs) (rw length-drop (omega arith)))
+    (λ k c. getD-take s (drop from bs) k 0 c ∙ getD-drop from bs k 0)
 
 -- THE LOOP after j blocks of s data words
 pub record Laying (s : ℕ) (bs : List ℕ) (rows : ℕ) (r o : List ℕ) (at j : ℕ) : Type 0 where
@@ -46,7 +44,7 @@ module _ {s : ℕ} {bs : List ℕ} {rows : ℕ} {r o : List ℕ} {at j : ℕ} (L
     turns = omega arith;
     same = ap length q ∙ length-stored (i * s) (wordFrom bs (at + 1)) s o ∙ L .same;
     stands = omega (arith, L .stands);
-    now = q ∙ row-put s i (at + 1) bs o f (laying-reads e) ∙ rw (add-one j, add-one at, n, L .stands, ← L .now);
+    now = q ∙ row-put s i (at + 1) bs o (laying-reads e) ∙ rw (add-one j, add-one at, n, L .stands, ← L .now);
   }
 
 pub laying-done : {s : ℕ} {bs : List ℕ} {rows : ℕ} {r o : List ℕ} {at j : ℕ} → Laying s bs rows r o at j → rows ≤ j → o ≡ laid s bs rows r

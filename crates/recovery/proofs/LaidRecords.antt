@@ -7,12 +7,13 @@ use native.Mathlib.Nat.{zero-mul, mul-le-mul-right}
 use native.Mathlib.Omega.{arith}
 use borrow.Author.Tests.{eqb-true}
 use lib.Dec.{eqb}
-use lib.ListN.{length, take, drop, replicate, length-replicate, drop-of-length-le}
-use lib.Seq.{take-at, drop-drop, drop-append-add}
+use lib.ListN.{length, take, drop, replicate, length-replicate, drop-of-length-le, length-append, length-drop}
+use lib.Seq.{take-at, drop-drop, drop-append-add, length-take-le}
+use Rattle.layout.proofs.RecordWords.{replaced-is}
 use Rattle.code.specs.declared.Stripe.{Stripe}
 use Rattle.code.specs.Stripe.{blockCount, positionCount, blockWords, stripeWords}
 use Rattle.decoder.specs.Decoding.{isConsistent, blocksIn}
-use Rattle.layout.proofs.Refusals.{first, second}
+use Rattle.field.proofs.Booleans.{first-true, second-true}
 use Rattle.layout.specs.Records.{recordsFit}
 use Rattle.image.specs.Loading.{columnsOf}
 use Rattle.rows.specs.Decoding.{Decoded, failed, decoded, blockNumber, blockData, areRecords, decodedNumber, decodedWords, solved}
@@ -37,7 +38,7 @@ solved-zero st ms r z = by (isConsistent st ms r) refl (areRecords st (blocksIn 
     by true c false a = absurd (omega (arith, sym z ∙ ap decodedNumber (solved-ten st ms r c a)))
     by true c true a = (solved-blocks st ms r c a, a)
 
--- ON A LEVEL the blocks stand in the first words of the part that it was decoded in
+-- ON A LEVEL the blocks stand in the first-true words of the part that it was decoded in
 pub level-front : (st : Stripe) (ms : List Bool) (r : List ℕ) {x : List ℕ} (rest : List ℕ) → x ≡ decodedWords (solved st ms r) (stripeWords st + positionCount st) ++ rest
     → decodedNumber (solved st ms r) ≡ 0 → {n : ℕ} → n ≡ blockWords st → take n x ≡ blocksIn st ms r
 level-front st ms r {x} rest q z e =
@@ -82,19 +83,23 @@ module _ (st : Stripe) (full : st .level ≡ st .k) (thick : 0 < st .width) (bs 
   unfolding laid placesTo
   laid-full zero r b c e = rw (columns-none, zero-mul)
   laid-full (suc n) r b c e =
-      let p : blockNumber w bs n ≡ n = eqb-true (blockNumber w bs n) n (first (eqb (blockNumber w bs n) n) (placesTo w bs n) e) in
+      let p : blockNumber w bs n ≡ n = eqb-true (blockNumber w bs n) n (first-true (eqb (blockNumber w bs n) n) (placesTo w bs n) e) in
       let x = columnsOf w 1 s n bs in
       let t : length x ≡ n * s = length-columns w 1 s n bs in
-      let i : laid s bs n r ≡ x ++ drop (n * s) r = laid-full n r (omega arith) (omega arith) (second (eqb (blockNumber w bs n) n) (placesTo w bs n) e) in
+      let i : laid s bs n r ≡ x ++ drop (n * s) r = laid-full n r (omega arith) (omega arith) (second-true (eqb (blockNumber w bs n) n) (placesTo w bs n) e) in
       let d : drop (suc n * s) (x ++ drop (n * s) r) ≡ drop (suc n * s) r =
       ap (λ (m : ℕ). drop m (x ++ drop (n * s) r)) {x = suc n * s} {y = length x + s} (omega arith) ∙ drop-append-add x (drop (n * s) r) s
       ∙ drop-drop s (n * s) r ∙ ap (λ (m : ℕ). drop m r) {x = n * s + s} {y = suc n * s} (omega arith) in
-      rw (wide, i, p, take-at x (drop (n * s) r) (n * s) t, d, data-row st full thick bs n b) (sym (append-assoc x (blockData w bs n) (drop (suc n * s) r)))
+      let long : length (blockData w bs n) ≡ s = length-take-le s (drop (suc (n * w)) bs) (rw length-drop (omega (arith, wide))) in
+      let room : suc n * s ≤ length (x ++ drop (n * s) r) = omega (arith, length-append x (drop (n * s) r), length-drop (n * s) r) in
+      rw (wide, i, p)
+      (replaced-is s (x ++ drop (n * s) r) n (blockData w bs n) long room
+      ∙ rw (take-at x (drop (n * s) r) (n * s) t, d, data-row st full thick bs n b) (sym (append-assoc x (blockData w bs n) (drop (suc n * s) r))))
 
   full-laid : blockCount st * w ≤ length bs → areRecords st bs (blockCount st) ≡ true → dataOf st bs ≡ laid s bs (blockCount st) (replicate (blockCount st * s) 0)
   full-laid b a =
       let n = blockCount st in
-      let p : placesTo w bs n ≡ true = first (placesTo w bs n) (recordsFit s (dataOf st bs) n) (sym (records-full st full thick bs n b n (omega arith)) ∙ a) in
+      let p : placesTo w bs n ≡ true = first-true (placesTo w bs n) (recordsFit s (dataOf st bs) n) (sym (records-full st full thick bs n b n (omega arith)) ∙ a) in
       let z : length {A = ℕ} (replicate (n * s) 0) ≡ n * s = length-replicate (n * s) 0 in
       sym (laid-full n (replicate (n * s) 0) b (omega arith) p
       ∙ ap (λ (y : List ℕ). columnsOf w 1 s n bs ++ y) (drop-of-length-le (replicate (n * s) 0) {i = n * s} (omega arith)) ∙ append-nil (columnsOf w 1 s n bs))

@@ -26,9 +26,9 @@ abbrev pub answerOf : Recovered → Recovery
 answerOf (stopped n l) = record { number = n; named = true; stripe = l }
 answerOf (recovered r) = unnamed 0
 
-abbrev pub wordsOf : Recovered → (size : ℕ) → List ℕ
-wordsOf (stopped n l) size = replicate size 0
-wordsOf (recovered r) size = r
+abbrev pub recoveredWords : Recovered → (size : ℕ) → List ℕ
+recoveredWords (stopped n l) size = replicate size 0
+recoveredWords (recovered r) size = r
 
 abbrev pub recoverAnswer : Header → (image erasures out scratch : List ℕ) → Recovery
 recoverAnswer h m e o s =
@@ -36,7 +36,7 @@ recoverAnswer h m e o s =
     ifTaken n (answerOf (recover h (decodeStripe h m (erasuresIn e)))) (unnamed n)
 
 abbrev pub recoverLeaves : Header → (image erasures out scratch : List ℕ) → List ℕ
-recoverLeaves h m e o s = ifTaken (recoverEarly h m e o s) (wordsOf (recover h (decodeStripe h m (erasuresIn e))) (rawSize h)) o
+recoverLeaves h m e o s = ifTaken (recoverEarly h m e o s) (recoveredWords (recover h (decodeStripe h m (erasuresIn e))) (rawSize h)) o
 
 abbrev pub recoverScratch : Header → (image erasures out scratch : List ℕ) → List ℕ
 recoverScratch h m e o s = ifTaken (recoverEarly h m e o s) (replicate (scratchSize h) 0) s

@@ -14,7 +14,7 @@ ghost use Rattle.rows.specs.Decoding.{blockNumber, decodedNumber, solved};
 ghost use Rattle.rows.specs.Ready.{Ready};
 ghost use Rattle.stripe.specs.Decoding.{decodeStripe};
 ghost use Rattle.recovery.specs.Recovery.{laid, laidFrom, levelsOver, recover};
-ghost use Rattle.recovery.specs.RecoveryCall.{answerOf, wordsOf, recoverAnswer, recoverLeaves, recoverScratch};
+ghost use Rattle.recovery.specs.RecoveryCall.{answerOf, recoveredWords, recoverAnswer, recoverLeaves, recoverScratch};
 
 // Lays blocks of s data words over the records, one after the other.
 fn lay(blocks: &[u32], s: usize, rows: usize, out: &mut [u32])
@@ -116,7 +116,7 @@ fn recover_levels(
     ensures { λ r. ⌜ r ≡ answerOf (levelsOver (header .k) header (decodeStripe header (now (image .entry)) (erasuresIn (now (erasures .entry)))) (now (out .entry))) ⌝ }
     ensures { λ r. ⌜ (r .number ≡ 0 →
         now (out .exit) ≡
-        wordsOf (levelsOver (header .k) header (decodeStripe header (now (image .entry)) (erasuresIn (now (erasures .entry)))) (now (out .entry))) (rawSize header)) ⌝ }
+        recoveredWords (levelsOver (header .k) header (decodeStripe header (now (image .entry)) (erasuresIn (now (erasures .entry)))) (now (out .entry))) (rawSize header)) ⌝ }
 {
     let mut level = header.k as usize;
     while 0 < level {
@@ -151,7 +151,7 @@ fn recover_all(
     requires { ⌜ (length (now image) ≡ imageSize header) × (length (now out) ≡ rawSize header) × (length (now scratch) ≡ scratchSize header) ⌝ }
     ensures { λ r. ⌜ r ≡ answerOf (recover header (decodeStripe header (now (image .entry)) (erasuresIn (now (erasures .entry))))) ⌝ }
     ensures { λ r. ⌜ (r .number ≡ 0 →
-        now (out .exit) ≡ wordsOf (recover header (decodeStripe header (now (image .entry)) (erasuresIn (now (erasures .entry))))) (rawSize header)) ⌝ }
+        now (out .exit) ≡ recoveredWords (recover header (decodeStripe header (now (image .entry)) (erasuresIn (now (erasures .entry))))) (rawSize header)) ⌝ }
 {
     let number = recover_full(header, image, erasures, out, scratch);
     if number != 0 {

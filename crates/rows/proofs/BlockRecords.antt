@@ -13,14 +13,14 @@ use lib.ListN.{getD, take, drop}
 use Rattle.layout.specs.Records.{areData}
 use Rattle.code.specs.declared.Stripe.{Stripe}
 use Rattle.rows.specs.Decoding.{numberFits, blockNumber, blockData, isRecord, areRecords}
-use Rattle.layout.proofs.Refusals.{first, second, both, not-first, not-second}
+use Rattle.field.proofs.Booleans.{first-true, second-true, both-true, first-false, second-false}
 
 -- THE RECORDS of a list of blocks
 module _ (st : Stripe) (bs : List ℕ) where
   pub record-at : (n : ℕ) → areRecords st bs n ≡ true → (j : ℕ) → j < n → isRecord st bs j ≡ true
   unfolding areRecords
   record-at zero e j b = absurd (omega arith)
-  record-at (suc n) e j b = at (decLt j n) (first (isRecord st bs n) (areRecords st bs n) e) (record-at n (second (isRecord st bs n) (areRecords st bs n) e) j)
+  record-at (suc n) e j b = at (decLt j n) (first-true (isRecord st bs n) (areRecords st bs n) e) (record-at n (second-true (isRecord st bs n) (areRecords st bs n) e) j)
     where
       at : Dec (j < n) → isRecord st bs n ≡ true → (j < n → isRecord st bs j ≡ true) → isRecord st bs j ≡ true
       at (yes y) last rest = rest y
@@ -32,8 +32,8 @@ module _ (st : Stripe) (bs : List ℕ) where
   no-record (suc n) j b e = at (decLt j n) (no-record n j)
     where
       at : Dec (j < n) → (j < n → isRecord st bs j ≡ false → areRecords st bs n ≡ false) → (isRecord st bs n && areRecords st bs n) ≡ false
-      at (yes y) rest = not-second (isRecord st bs n) (rest y e)
-      at (no y) rest = let s : isRecord st bs n ≡ false = ap (isRecord st bs) {x = n} {y = j} (omega arith) ∙ e in not-first (areRecords st bs n) s
+      at (yes y) rest = second-false (isRecord st bs n) (rest y e)
+      at (no y) rest = let s : isRecord st bs n ≡ false = ap (isRecord st bs) {x = n} {y = j} (omega arith) ∙ e in first-false (areRecords st bs n) s
 
 -- what a block's number has to be: below n on a level, its place on the full stripe
 number-level : (st : Stripe) (j x : ℕ) → st .level < st .k → numberFits st j x ≡ ltb x (2 ^ st .k)
@@ -45,7 +45,7 @@ number-full st j x e = rw (eq-eqb (st .level) (st .k) e, numberFits)
 pub number-low : (st : Stripe) (bs : List ℕ) (j : ℕ) → st .level < st .k → isRecord st bs j ≡ true → blockNumber (st .width) bs j < 2 ^ st .k
 number-low st bs j b e =
     ltb-true (blockNumber (st .width) bs j) (2 ^ st .k)
-    (sym (number-level st j (blockNumber (st .width) bs j) b) ∙ first (numberFits st j (blockNumber (st .width) bs j)) (areData (blockData (st .width) bs j)) e)
+    (sym (number-level st j (blockNumber (st .width) bs j) b) ∙ first-true (numberFits st j (blockNumber (st .width) bs j)) (areData (blockData (st .width) bs j)) e)
 
 -- what is tested of a block that begins at an index
 abbrev fitsNumber : (l k n : ℕ) → (bs : List ℕ) → (at j : ℕ) → Bool
@@ -79,15 +79,15 @@ module _ {l k n w : ℕ} {bs : List ℕ} {rows at j : ℕ} (T : Testing l k n w 
   testing-turn b e d = record {
     turns = omega arith;
     stands = omega (arith, T .stands);
-    records = λ st x y z u. rw add-one (both (record-is st x y z u ∙ both e d) (T .records st x y z u));
+    records = λ st x y z u. rw add-one (both-true (record-is st x y z u ∙ both-true e d) (T .records st x y z u));
   }
 
   module _ (st : Stripe) (x : st .level ≡ l) (y : st .k ≡ k) (z : 2 ^ st .k ≡ n) (u : st .width ≡ w) where
     pub testing-number : j < rows → fitsNumber l k n bs at j ≡ false → areRecords st bs rows ≡ false
-    testing-number b e = no-record st bs rows j b (record-is st x y z u ∙ not-first (areData (dataAt w bs at)) e)
+    testing-number b e = no-record st bs rows j b (record-is st x y z u ∙ first-false (areData (dataAt w bs at)) e)
 
     pub testing-data : j < rows → areData (dataAt w bs at) ≡ false → areRecords st bs rows ≡ false
-    testing-data b e = no-record st bs rows j b (record-is st x y z u ∙ not-second (fitsNumber l k n bs at j) e)
+    testing-data b e = no-record st bs rows j b (record-is st x y z u ∙ second-false (fitsNumber l k n bs at j) e)
 
     pub testing-done : rows ≤ j → areRecords st bs rows ≡ true
     testing-done b = let e : j ≡ rows = omega (arith, T .turns) in rw e at (T .records st x y z u)

@@ -1,4 +1,4 @@
--- Decoding of a stripe's words and marks, both ways round: the promises of specs/Promises. Assumes nothing.
+-- Decoding of a stripe's words and marks, both-true ways round: the promises of specs/Promises. Assumes nothing.
 use mathlib.Core.Path.{_≡_, refl, sym, ap, _∙_}
 use mathlib.Core.Bool.{Bool, true, false, _&&_, false≢true}
 use mathlib.Core.List.{List, [], _∷_}
@@ -17,7 +17,7 @@ use Rattle.code.specs.Rows.{Column}
 use Rattle.decoder.specs.Decoding.{survivors, isConsistent, blocksIn}
 use Rattle.decoder.specs.Promises.{AgreesRows}
 use Rattle.decoder.proofs.Proved as Decoder
-use Rattle.layout.proofs.Refusals.{both, is-false}
+use Rattle.field.proofs.Booleans.{both-true, is-false}
 use Rattle.image.specs.Loading.{survivingAt, surviving, areBelow}
 use Rattle.image.proofs.StripeLoads.{below-words, surviving-marked, surviving-kept}
 use Rattle.rows.specs.Decoding.{Decoded, failed, decoded, areRecords, solved, decodeMarked, decodeRows}
@@ -28,7 +28,7 @@ use Rattle.rows.proofs.StripeTests.{solved-nine, solved-ten, solved-blo
 words-below : (p : ℕ) (xs : List ℕ) → Words p xs → areBelow p xs ≡ true
 unfolding areBelow
 words-below p [] w = refl
-words-below p (x ∷ xs) w = both (lt-ltb x p (w .word 0)) (words-below p xs (words-tail w))
+words-below p (x ∷ xs) w = both-true (lt-ltb x p (w .word 0)) (words-below p xs (words-tail w))
 
 -- a word that is not, where the test fails
 not-below : (p n : ℕ) (f : ℕ → ℕ) → areBelow p (table n f) ≡ false → (q : ℕ) × (q < n) × (p ≤ f q)

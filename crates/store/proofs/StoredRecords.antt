@@ -9,6 +9,7 @@ use Rattle.field.specs.Words.{Words}
 use Rattle.field.proofs.WordLists.{words-nil, words-cons, words-tail, words-append}
 use Rattle.code.specs.Stripe.{coded, codedRows}
 use Rattle.code.proofs.Lifting.{length-lifted}
+use Rattle.code.proofs.CodedRows.{length-coded-rows}
 use Rattle.layout.specs.declared.Header.{Header}
 use Rattle.layout.specs.Header.{primeOf, vaultRoot, width, fullSize}
 use Rattle.layout.specs.Records.{recordIn}
@@ -46,10 +47,6 @@ words-blocks p s h r i (suc n) l =
     words-cons p h (omega arith)
     (words-append p h {a = reduced p (recordIn s r i)} (words-reduced p h (recordIn s r i)) (words-blocks p s h r (suc i) n (omega arith)))
 
--- CODED ROWS, and so the full stripe
-pub length-coded-rows : (p w k l t width : ℕ) (bs : List ℕ) → length (codedRows p w k l t width bs) ≡ 2 ^ suc l * width
-unfolding codedRows
-length-coded-rows p w k l t width bs = length-lifted width (2 ^ l) (2 ^ suc l) (coded p w k l t) bs
-
+-- THE FULL STRIPE
 pub length-full : (h : Header) (r : List ℕ) → length (fullStripe h r) ≡ fullSize h
 length-full h r = length-coded-rows (primeOf h) (vaultRoot h) (h .k) (h .k) 0 (width h) (blocksOf h r)

@@ -1,21 +1,12 @@
--- Laws of stores: a loop that stores the words of a list, what stands before them, records replaced, words copied modulo p. Assumes nothing.
+-- Laws of stores: what stands before them, a part of a part, words copied modulo p. Assumes nothing.
 use mathlib.Core.Path.{_≡_, refl, sym, ap, _∙_}
 use mathlib.Core.List.{List, [], _∷_, _++_, append-assoc}
 use Prim.Native.Nat.{ℕ, zero, suc, _+_, _*_, _%_, _≤_, _<_}
 use native.Mathlib.Omega.{arith}
 use lib.ListN.{length, getD, set, take, drop, length-drop}
 use lib.Seq.{sets, sets-eq, length-take-le, getD-take, getD-drop, take-set-le, take-take}
-use Rattle.field.proofs.WordLists.{is-table}
-use Rattle.code.specs.RowTrace.{stored}
-use Rattle.code.proofs.RowLaws.{stored-is}
-use Rattle.layout.specs.Records.{replaced}
 use Rattle.store.specs.Buffers.{reduced}
 use Rattle.store.proofs.StoredRecords.{length-reduced}
-
--- a loop that stores the words of a list
-pub stored-list : (at : ℕ) (f : ℕ → ℕ) (n : ℕ) (new l : List ℕ) → at + n ≤ length l → length new ≡ n → ((i : ℕ) → i < n → getD new i 0 ≡ f i) → stored at f n l ≡ sets l at new
-stored-list at f n new l h e g =
-    stored-is at f n l h ∙ rw (← is-table new n f e g, ← e) (sym (sets-eq new l at (omega arith)))
 
 -- what stands before is as it was
 pub take-sets : (n : ℕ) (l : List ℕ) (at : ℕ) (ws : List ℕ) → n ≤ at → take n (sets l at ws) ≡ take n l
@@ -28,12 +19,6 @@ part-inside zero n m l h = take-take n m l (omega arith)
 part-inside (suc from) n zero l h = absurd (omega arith)
 part-inside (suc from) n (suc m) [] h = refl
 part-inside (suc from) n (suc m) (x ∷ l) h = part-inside from n m l (omega arith)
-
--- a block that is stored in the place of a record
-pub record-put : (s i : ℕ) (b r : List ℕ) → length b ≡ s → suc i * s ≤ length r → sets r (i * s) b ≡ replaced s r i b
-record-put s i b r e h =
-    sets-eq b r (i * s) (omega arith) ∙ append-assoc (take (i * s) r) b (drop (i * s + length b) r)
-    ∙ ap (λ (n : ℕ). take (i * s) r ++ (b ++ drop n r)) {x = i * s + length b} {y = suc i * s} (omega arith)
 
 -- words that are copied modulo p
 module _ (p from n : ℕ) (l : List ℕ) (h : from + n ≤ length l) where

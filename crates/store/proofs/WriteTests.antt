@@ -14,7 +14,8 @@ use Rattle.store.specs.Buffers.{buffers}
 use Rattle.layout.specs.Refusals.{Tests, done, test}
 use Rattle.store.specs.StoreCalls.{buffersFit, writeNumber}
 use Rattle.store.proofs.BufferTests.{lengths}
-use Rattle.layout.proofs.Refusals.{first, second, passes}
+use Rattle.field.proofs.Booleans.{first-true, second-true}
+use Rattle.layout.proofs.Refusals.{passes}
 
 module _ (h : Header) (r f g : List ℕ) (i : ℕ) (b : List ℕ) where
   pub record WriteTaken : Type 0 where
@@ -34,13 +35,13 @@ module _ (h : Header) (r f g : List ℕ) (i : ℕ) (b : List ℕ) where
       let one = passes (headerFits h) 1 (test sized 2 last) e (omega arith) in
       let two = passes sized 2 last (one .1) (omega arith) in
       let four = passes (ltb i (count h)) 4 (test (areData b) 5 done) (two .1) (omega arith) in
-      let t = lengths h u (first (buffersFit h u) (eqb (length b) (h .s)) (two .0)) in
+      let t = lengths h u (first-true (buffersFit h u) (eqb (length b) (h .s)) (two .0)) in
       record {
         fitting = one .0;
         raw-long = t .0;
         full-long = t .1;
         log-long = t .2;
-        block-long = eqb-true (length b) (h .s) (second (buffersFit h u) (eqb (length b) (h .s)) (two .0));
+        block-long = eqb-true (length b) (h .s) (second-true (buffersFit h u) (eqb (length b) (h .s)) (two .0));
         within = ltb-true i (count h) (four .0);
         words = passes (areData b) 5 done (four .1) (omega arith) .0;
       }

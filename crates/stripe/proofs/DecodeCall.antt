@@ -14,7 +14,8 @@ use Rattle.rows.specs.Decoding.{Decoded, decodedNumber, decodedWords}
 use Rattle.stripe.specs.Decoding.{decodeStripe}
 use Rattle.layout.specs.Refusals.{Tests, done, test, refusal}
 use Rattle.stripe.specs.StripeCall.{decodeEarly, decodeNumber, decodeLeaves, decodeScratch}
-use Rattle.layout.proofs.Refusals.{first, passes, if-taken, if-refused}
+use Rattle.field.proofs.Booleans.{first-true}
+use Rattle.layout.proofs.Refusals.{passes, if-taken, if-refused}
 use Rattle.image.proofs.ImageTests.{imageTests, Lent, lent, passed, none-before}
 
 -- a stripe that passes test 6 is one of the header's
@@ -24,7 +25,7 @@ stripe-within h l e = by (isFull h l) refl
     by : (b : Bool) → isFull h l ≡ b → l ≤ h .k
     by true f = let s : l ≡ h .k = eqb-true l (h .k) f in omega arith
     by false f =
-        let t : l < h .k = ltb-true l (h .k) (first (ltb l (h .k)) (isFilled h l) (rw f at e)) in
+        let t : l < h .k = ltb-true l (h .k) (first-true (ltb l (h .k)) (isFilled h l) (rw f at e)) in
         omega arith
 
 module _ (h : Header) (m e : List ℕ) (l : ℕ) (o s : List ℕ) where

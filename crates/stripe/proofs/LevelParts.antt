@@ -13,7 +13,7 @@ use Rattle.field.proofs.WordLists.{is-table}
 use Rattle.code.specs.declared.Stripe.{Stripe}
 use Rattle.code.specs.Stripe.{blockCount, positionCount, blockWords, stripeWords}
 use Rattle.code.specs.RowTrace.{stored, wordFrom}
-use Rattle.code.proofs.RowLaws.{stored-is}
+use Rattle.code.proofs.RowLaws.{stored-front}
 use Rattle.decoder.specs.Decoding.{isConsistent, blocksIn}
 use Rattle.rows.specs.Decoding.{Decoded, failed, decoded, areRecords, decodedWords, solved}
 use Rattle.rows.specs.Ready.{StripeFits}
@@ -85,7 +85,7 @@ unfolding wordFrom
 copied-front n l o m a b e =
     let t : take n l ≡ table n (wordFrom l 0) = is-table (take n l) n (wordFrom l 0) (length-take-le n l a) (λ i c. getD-take n l i 0 c ∙ ap (λ (x : ℕ). getD l x 0) {x = i} {y = 0 + i} (omega arith)) in
     let len : length o ≡ m = ap length e ∙ length-replicate m 0 in
-    stored-is 0 (wordFrom l 0) n o (omega arith) ∙ ap (λ (k : ℕ). table n (wordFrom l 0) ++ drop k o) {x = 0 + n} {y = n} (omega arith)
+    stored-front (wordFrom l 0) n o (omega arith)
     ∙ ap₂ _++_ (sym t) (ap (drop n) e ∙ zeros)
   where
     zeros : drop {A = ℕ} n (replicate m 0) ≡ replicate (m - n) 0

@@ -20,7 +20,8 @@ use Rattle.store.specs.StoreCalls.{readNumber}
 use Rattle.recovery.specs.RecoveryCall.{recoverEarly, recoverAnswer, unnamed, answerOf}
 use Rattle.vault.specs.Boundary.{PartIs, noShelf, shelfOf, NoneNamed}
 use Rattle.layout.proofs.Bounds.{fits}
-use Rattle.layout.proofs.Refusals.{is-false, passes, choose, chosen-first}
+use Rattle.field.proofs.Booleans.{is-false, choose, chosen-first}
+use Rattle.layout.proofs.Refusals.{passes}
 
 -- READING
 chosen-part : (b : Bool) (i n : ℕ) (l : List ℕ) → take (choose b n 0) (drop (choose b i 0) l) ≡ choose b (take n (drop i l)) []

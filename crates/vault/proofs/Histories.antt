@@ -22,8 +22,9 @@ use Rattle.vault.specs.History.{Vault, vault, numberOn, step, after, Ope
 use Rattle.vault.specs.Model.{Model, writes, wordsFit, tableNumber, put, fed, fedAll, openedModel, modelOf}
 use Rattle.vault.specs.Round.{Entry, Round, putAll, beforeEach, recordsIn, modelIn, startOf, grown, turnRound, roundAfter, openedRound, roundOf, roundHeader, represent}
 use Rattle.vault.specs.Promises.{HeaderIs, SizesStay, RecordsLong, NumbersAre, WordsAre, RawIs, ModelIs, BeforeIs}
-use Rattle.layout.proofs.Refusals.{passes, choose, chosen-first, chosen-second}
-use Rattle.layout.proofs.RecordWords.{data-words}
+use Rattle.field.proofs.Booleans.{choose, chosen-first, chosen-second}
+use Rattle.layout.proofs.Refusals.{passes}
+use Rattle.layout.proofs.RecordWords.{data-words, replaced-is, record-end}
 use Rattle.store.proofs.OpenTests.{open-taken, open-data}
 use Rattle.store.proofs.StoredRecords.{length-full}
 use Rattle.vault.proofs.Levels.{length-log, log-empty}
@@ -124,6 +125,11 @@ module _ (a : Round) (good : Good a) (i : ℕ) (b : List ℕ) where
     unfolding putAll
     put-now = sym (put-append (a .s) (a .base) (a .since) (x ∷ []))
 
+    -- and so in the model's words
+    put-model : put (modelIn a) i b .records ≡ putAll (a .s) (a .base) now
+    put-model =
+        sym (replaced-is (a .s) (recordsIn a) i b (t .long) (omega (arith, records-long good, record-end (2 ^ a .k) (a .s) i (t .within)))) ∙ put-now
+
     all-taken : AllTaken (a .k) (a .s) now
     all-taken = taken-append (good .taken) (more t none)
 
@@ -165,7 +171,7 @@ module _ (a : Round) (good : Good a) (i : ℕ) (b : List ℕ) where
         along (chosen-first last ended longer e)
         (ap₂ vault (ap (headerOf (a .k) (a .s)) (chosen-first last 0 (suc (h .c)) e))
         (chosen-first last opened-again added e ∙ ap (opened h) put-now ∙ sym (start (a .k) (a .s) (ended .base))))
-        (ap₂ model put-now (chosen-first lastOf [] remembered (same-last ∙ e)))
+        (ap₂ model put-model (chosen-first lastOf [] remembered (same-last ∙ e)))
         (record {
           good = record {
             sizes = good .sizes;
@@ -185,7 +191,7 @@ module _ (a : Round) (good : Good a) (i : ℕ) (b : List ℕ) where
         along (chosen-second last ended longer e)
         (ap₂ vault (ap (headerOf (a .k) (a .s)) (chosen-second last 0 (suc (h .c)) e ∙ now-long))
         (chosen-second last opened-again added e ∙ ap₂ (λ (r g : List ℕ). buffers r (u .full) g) put-now (log-written good t fewer)))
-        (ap₂ model put-now (chosen-second lastOf [] remembered (same-last ∙ e) ∙ sym (before-append (a .s) (a .base) (a .since) x)))
+        (ap₂ model put-model (chosen-second lastOf [] remembered (same-last ∙ e) ∙ sym (before-append (a .s) (a .base) (a .since) x)))
         (record {
           good = record {
             sizes = good .sizes;

@@ -4,7 +4,7 @@ use mathlib.Core.List.{List, [], _∷_, _++_, append-assoc, append-nil}
 use Prim.Native.Nat.{ℕ, zero, suc, _+_, _*_, _^_, _≤_, _<_}
 use native.Mathlib.Nat.{zero-mul, suc-mul, add-zero}
 use native.Mathlib.Omega.{arith}
-use lib.ListN.{length, getD, take, drop, drop-of-length-le}
+use lib.ListN.{length, getD, take, drop, drop-of-length-le, length-append, length-drop}
 use lib.Dec.{lit<}
 use lib.Seq.{take-all, drop-nil, take-suc, drop-cons, take-at, drop-at, drop-append-add, getD-drop, drop-drop, take-add, length-take-le}
 use Rattle.field.specs.Words.{Words}
@@ -16,7 +16,7 @@ use Rattle.recovery.specs.Recovery.{laid}
 use Rattle.vault.specs.Round.{Entry, putAll, rowsOf}
 use Rattle.vault.proofs.Rounds.{Taken, AllTaken, none, more, put-append}
 use Rattle.store.proofs.StoredRecords.{reduced-same}
-use Rattle.layout.proofs.RecordWords.{length-record, record-end}
+use Rattle.layout.proofs.RecordWords.{length-record, record-end, replaced-is}
 
 -- entry j
 abbrev pub noEntry : Entry
@@ -101,7 +101,9 @@ module _ (k s : ℕ) (r : List ℕ) (long : length r ≡ 2 ^ k * s) where
     put-next : (i : ℕ) → i < 2 ^ k → replaced s (upTo i) i (recordIn s r i) ≡ upTo (suc i)
     put-next i b =
         let front : length (take (i * s) r) ≡ i * s = length-take-le (i * s) r (omega (arith, record-end (2 ^ k) s i b)) in
-        rw (
+        let whole : length (upTo i) ≡ 2 ^ k * s = length-append (take (i * s) r) (drop (i * s) z) ∙ omega (arith, front, length-drop (i * s) z, record-end (2 ^ k) s i b) in
+        replaced-is s (upTo i) i (recordIn s r i) (length-record (2 ^ k) s r i long b) (omega (arith, whole, record-end (2 ^ k) s i b))
+        ∙ rw (
           suc-mul i s,
           take-at (take (i * s) r) (drop (i * s) z) (i * s) front,
           ← drop-drop s (i * s) (upTo i),

@@ -10,20 +10,18 @@ use lib.Seq.{take-all, take-append-le, drop-append-le, drop-at}
 use lib.Pow.{pow-pos, pow-mono}
 use borrow.Author.Tests.{ne-eqb, eqb-true}
 use mathlib.Core.Logic.{⊎-elim}
+use Rattle.layout.proofs.StripePlaces.{first-level}
 use Rattle.code.specs.Stripe.{codedRows}
 use Rattle.layout.specs.declared.Header.{Header}
 use Rattle.layout.specs.Header.{primeOf, vaultRoot, width, isFilled, firstOf, levelAt, stripeSize}
 use Rattle.layout.proofs.Counting.{bit-in}
-use Rattle.store.proofs.StoredRecords.{length-coded-rows}
+use Rattle.code.proofs.CodedRows.{length-coded-rows}
 use Rattle.vault.specs.Round.{Entry, rowsOf, levelEntries, levelWords, logWords}
 
 -- a level's t0
-pub first-level : (h : Header) (l : ℕ) → l < h .k → firstOf h l ≡ h .c / 2 ^ suc l * 2 ^ suc l
-first-level h l b = rw (ne-eqb l (h .k) (λ e. omega arith), firstOf)
-
 -- a filled level's 2^l writes are among the c: t0 + 2^l ≤ c
 pub filled-in : (h : Header) (l : ℕ) → l < h .k → isFilled h l ≡ true → firstOf h l + 2 ^ l ≤ h .c
-filled-in h l b e = rw (first-level h l b) (bit-in (h .c) l (eqb-true (h .c / 2 ^ l % 2) 1 e))
+filled-in h l b e = rw (first-level h l (λ e. omega arith)) (bit-in (h .c) l (eqb-true (h .c / 2 ^ l % 2) 1 e))
 
 -- LENGTHS
 pub level-filled : (h : Header) (xs : List Entry) (l : ℕ) → isFilled h l ≡ true

@@ -1,6 +1,5 @@
 pub mod Boundary
 pub mod Demand3
-pub mod Halves
 pub mod Histories
 pub mod Laying
 pub mod Levels

@@ -6,6 +6,7 @@ use Prim.Native.Nat.{ℕ, suc, _+_, _*_, _^_, _≤_, _<_}
 use lib.Arith.{digits-lt}
 use lib.Dec.{lit<}
 use lib.ListN.{length, getD}
+use Rattle.code.proofs.CodedRows.{words-coded-rows}
 use Rattle.field.specs.Words.{Words}
 use Rattle.decoder.specs.Decoding.{survivors}
 use Rattle.code.specs.Stripe.{coded, codedRows, codedStripe}
@@ -20,11 +21,6 @@ use Rattle.rows.specs.Decoding.{decoded, areRecords}
 use Rattle.stripe.specs.Decoding.{decodeStripe}
 use Rattle.vault.specs.Promises.{marks, wordsIn}
 use Rattle.vault.proofs.StripeDecoding.{wordsStand, decodesIff}
-
-pub words-coded-rows : (p w k l t width : ℕ) {bs : List ℕ} → 0 < p → Words p bs → Words p (codedRows p w k l t width bs)
-unfolding codedRows
-words-coded-rows p w k l t width {bs} z u =
-    words-lifted p width (2 ^ l) (2 ^ suc l) (coded p w k l t) bs z (λ j b. words-coded p z w k l t (words-column p width (2 ^ l) j u))
 
 module _ (h : Header) (m e : List ℕ) (l : ℕ) (bs : List ℕ) where
   abbrev stripe : List ℕ

@@ -21,10 +21,11 @@ use Rattle.store.specs.Buffers.{reduced}
 use Rattle.store.specs.Writing.{halfAt, newRow, rebuiltHalf, rebuilt, logWith}
 use Rattle.vault.specs.Round.{Entry, Round, rowsOf, roundHeader, levelEntries, levelWords, logWords}
 use Rattle.store.proofs.StoredRecords.{reduced-same}
-use Rattle.vault.proofs.Levels.{first-level, filled-in, level-filled, level-empty, level-end, length-log, level-in, level-place, log-empty}
+use Rattle.layout.proofs.StripePlaces.{first-level}
+use Rattle.vault.proofs.Levels.{filled-in, level-filled, level-empty, level-end, length-log, level-in, level-place, log-empty}
 use Rattle.vault.proofs.Rounds.{Taken, Good, taken-take, taken-drop, rows-append, length-rows, level-column}
 use Rattle.layout.proofs.Counting.{Carry, Carried, carried, filled-now, first-now, same-above, filled-before, first-before, empty-below}
-use Rattle.vault.proofs.Halves.{halfRows, length-half, words-half, coded-halves, mixed-half, half-block, half-scaled}
+use Rattle.code.proofs.CodedRows.{halfRows, length-half, words-half, coded-halves, mixed-half, half-block, half-scaled}
 
 -- a part of a list's first words
 part : (m n size : ℕ) (d : List ℕ) → n + m ≤ size → take m (drop n (take size d)) ≡ take m (drop n d)
@@ -148,10 +149,10 @@ module _ {a : Round} {x : Entry} (good : Good a) (last : Taken (a .k) (a .s) x) 
             let e : isFilled h i ≡ true = ap (λ (n : ℕ). eqb n 1) (filled-before carry i d) in
             let f : i < a .k = omega arith in
             half-is h (a .since) i f e y z (level-column good i f e .words)
-            ∙ ap (λ (t : ℕ). halfIn h y i t (rowsOf (take (2 ^ i) (drop t (a .since))))) {x = firstOf h i} {y = suc c - 2 ^ suc i} (first-level h i f ∙ omega (arith, first-before carry i d))
+            ∙ ap (λ (t : ℕ). halfIn h y i t (rowsOf (take (2 ^ i) (drop t (a .since))))) {x = firstOf h i} {y = suc c - 2 ^ suc i} (first-level h i (λ e. omega arith) ∙ omega (arith, first-before carry i d))
 
         first : suc c - 2 ^ l ≡ firstOf h′ l
-        first = omega (arith, first-now carry) ∙ sym (first-level h′ l b)
+        first = omega (arith, first-now carry) ∙ sym (first-level h′ l (λ e. omega arith))
 
         entries : drop (suc c - 2 ^ l) now ≡ levelEntries h′ now l
         entries =
@@ -171,7 +172,7 @@ module _ {a : Round} {x : Entry} (good : Good a) (last : Taken (a .k) (a .s) x) 
         same = ap (λ (n : ℕ). eqb (n % 2) 1) (same-above carry i d)
 
         first : firstOf h′ i ≡ firstOf h i
-        first = first-level h′ i f ∙ ap (λ (n : ℕ). n * 2 ^ suc i) (same-above carry (suc i) (omega arith)) ∙ sym (first-level h i f)
+        first = first-level h′ i (λ e. omega arith) ∙ ap (λ (n : ℕ). n * 2 ^ suc i) (same-above carry (suc i) (omega arith)) ∙ sym (first-level h i (λ e. omega arith))
 
         go : (v : Bool) → isFilled h i ≡ v → levelWords h′ now i ≡ levelWords h (a .since) i
         go true e =

@@ -15,7 +15,7 @@ use borrow.Author.Tests.{lt-ltb, eq-eqb, ne-eqb}
 use Rattle.field.specs.Words.{Words}
 use Rattle.field.proofs.WordLists.{words-nil, words-append, words-replicate}
 use Rattle.code.specs.Stripe.{codedRows, codedStripe}
-use Rattle.decoder.proofs.BlockDecoding.{both-true}
+use Rattle.field.proofs.Booleans.{both-true}
 use Rattle.layout.specs.declared.Header.{Header}
 use Rattle.layout.specs.Header.{vaultRoot, width, fullSize, isFull, isFilled, firstOf, levelAt, stripeSize, stripeAt, stripeOf}
 use Rattle.layout.specs.Records.{areData}
@@ -31,7 +31,8 @@ use Rattle.store.proofs.StoredRecords.{length-full}
 use Rattle.vault.proofs.Levels.{level-filled, level-empty, level-place}
 use Rattle.layout.proofs.StripePlaces.{first-full}
 use Rattle.image.proofs.ImageWords.{word-back}
-use Rattle.vault.proofs.Loading.{words-coded-rows, decodes-kept}
+use Rattle.code.proofs.CodedRows.{words-coded-rows}
+use Rattle.vault.proofs.Loading.{decodes-kept}
 use Rattle.vault.proofs.Rounds.{AllTaken, Good, taken-take, taken-drop, words-rows, rows-column, header-fits, length-entries, base-column}
 use Rattle.vault.proofs.Laying.{noEntry, entry-at, number-at, data-at, numbered, length-numbered, number-numbered, numbered-fit, blocks-rows}
 
@@ -40,13 +41,13 @@ module _ {k : ℕ} (h : Header) {xs : List Entry} (E : AllTaken k (h .s) xs) (l 
     (fit : (j : ℕ) → j < length xs → numberFits (stripeOf h l) j (getD xs j noEntry .number) ≡ true) where
   is-record : (j : ℕ) → j < length xs → isRecord (stripeOf h l) (rowsOf xs) j ≡ true
   is-record j lt =
-      both-true (numberFits (stripeOf h l) j (blockNumber (width h) (rowsOf xs) j)) (areData (blockData (width h) (rowsOf xs) j))
+      both-true {a = numberFits (stripeOf h l) j (blockNumber (width h) (rowsOf xs) j)} {b = areData (blockData (width h) (rowsOf xs) j)}
       (rw (number-at E j lt) (fit j lt)) (rw (data-at E j lt) (are-data (getD xs j noEntry .block) (entry-at E j lt .words)))
 
   are-records : (n : ℕ) → n ≤ length xs → areRecords (stripeOf h l) (rowsOf xs) n ≡ true
   unfolding areRecords
   are-records zero b = refl
-  are-records (suc j) b = both-true (isRecord (stripeOf h l) (rowsOf xs) j) (areRecords (stripeOf h l) (rowsOf xs) j) (is-record j (omega arith)) (are-records j (omega arith))
+  are-records (suc j) b = both-true (is-record j (omega arith)) (are-records j (omega arith))
 
 -- a level's entries were taken
 pub level-taken : {a : Round} → Good a → (l : ℕ) → AllTaken (a .k) (a .s) (levelEntries (roundHeader a) (a .since) l)

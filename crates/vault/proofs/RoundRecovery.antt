@@ -21,7 +21,7 @@ use Rattle.recovery.specs.Recovery.{laid, recovered, thenLay, levelsOver, recov
 use Rattle.vault.specs.Round.{Round, putAll, rowsOf, roundHeader, levelEntries, logWords, recordsIn}
 use Rattle.vault.specs.Promises.{LeavesHalf, SameWords}
 use Rattle.layout.proofs.Counting.{next-bit}
-use Rattle.vault.proofs.Levels.{first-level}
+use Rattle.layout.proofs.StripePlaces.{first-level}
 use Rattle.vault.proofs.Laying.{laid-put, put-all}
 use Rattle.vault.proofs.Rounds.{Good, put-append, length-entries}
 use Rattle.vault.proofs.RoundDecoding.{start-taken, length-start, start-rows, level-taken, level-decodes, full-decodes}
@@ -67,7 +67,7 @@ module _ {a : Round} (good : Good a) where
       laid-put (level-taken good l) (above (suc l)) (2 ^ l) (length-entries good l b f)
       ∙ sym (put-append (a .s) (a .base) (take t (a .since)) (levelEntries h (a .since) l))
       ∙ ap (putAll (a .s) (a .base))
-      (ap (λ (i : ℕ). take t (a .since) ++ take (2 ^ l) (drop i (a .since))) (first-level h l b)
+      (ap (λ (i : ℕ). take t (a .since) ++ take (2 ^ l) (drop i (a .since))) (first-level h l (λ e. omega arith))
       ∙ sym (take-add t (2 ^ l) (a .since)) ∙ ap (λ (n : ℕ). take n (a .since)) (multiple-filled (h .c) l f))
 
   module _ (e m : List ℕ) (L : LeavesHalf h e) (S : SameWords h e (imageOf (fullStripe h (a .base)) (logWords h (a .since) (a .k))) m) where

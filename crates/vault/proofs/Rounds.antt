@@ -9,18 +9,18 @@ use native.Mathlib.Nat.{zero-mul, eq-or-lt-of-le, suc-le-suc-iff}
 use native.Mathlib.Omega.{arith}
 use lib.Dec.{lit<, ltb, leb}
 use lib.ListN.{length, take, drop, length-append, length-drop, getD, List·getD-append}
-use lib.Seq.{length-take-le, getD-append-add}
+use lib.Seq.{length-take-le, getD-append-add, length-sets}
 use lib.Pow.{pow-mono}
 use borrow.Author.Tests.{leb-true, le-leb, lt-ltb}
 use Rattle.field.specs.Words.{Words}
-use Rattle.field.proofs.WordLists.{words-nil, words-cons, words-append}
+use Rattle.field.proofs.WordLists.{words-nil, words-cons, words-append, words-sets}
 use Rattle.code.specs.Rows.{Column}
-use Rattle.decoder.proofs.BlockDecoding.{both-true, first-true, second-true}
+use Rattle.field.proofs.Booleans.{both-true, first-true, second-true}
 use Rattle.layout.specs.Header.{headerOf, isIn, headerFits, isFilled, firstOf}
 use Rattle.layout.specs.Records.{replaced}
 use Rattle.store.specs.Buffers.{blocksOf}
 use Rattle.vault.specs.Round.{Entry, Round, putAll, beforeEach, rowsOf, recordsIn, roundHeader, levelEntries}
-use Rattle.layout.proofs.RecordWords.{field-words, length-replaced, words-replaced}
+use Rattle.layout.proofs.RecordWords.{field-words}
 use Rattle.store.proofs.StoredRecords.{length-blocks, words-blocks}
 use Rattle.vault.proofs.Levels.{filled-in}
 
@@ -33,11 +33,10 @@ pub record Sizes (k s : ℕ) : Type 0 where
 
 pub sizes-fit : (k s c : ℕ) → Sizes k s → c < 2 ^ k → headerFits (headerOf k s c) ≡ true
 sizes-fit k s c z b =
-    both-true (isIn 1 10 k) (isIn 1 128 s && ltb c (2 ^ k)) (isIn-true 1 10 k (z .k-low) (z .k-high))
-    (both-true (isIn 1 128 s) (ltb c (2 ^ k)) (isIn-true 1 128 s (z .s-low) (z .s-high)) (lt-ltb c (2 ^ k) b))
+    both-true (isIn-true 1 10 k (z .k-low) (z .k-high)) (both-true (isIn-true 1 128 s (z .s-low) (z .s-high)) (lt-ltb c (2 ^ k) b))
   where
     isIn-true : (a b x : ℕ) → a ≤ x → x ≤ b → isIn a b x ≡ true
-    isIn-true a b x l h = both-true (leb a x) (leb x b) (le-leb a x l) (le-leb x b h)
+    isIn-true a b x l h = both-true (le-leb a x l) (le-leb x b h)
 
 pub fit-sizes : (k s c : ℕ) → headerFits (headerOf k s c) ≡ true → Sizes k s
 fit-sizes k s c e =
@@ -114,13 +113,13 @@ pub length-put : {k s : ℕ} {xs : List Entry} (r : List ℕ) → length r ≡ 2
 unfolding putAll
 length-put r e none = e
 length-put {k} {s} r e (more {x = x} h t) =
-    length-put (replaced s r (x .number) (x .block)) (length-replaced (2 ^ k) s r (x .number) (x .block) e (h .within) (h .long)) t
+    length-put (replaced s r (x .number) (x .block)) (length-sets r (x .number * s) (x .block) ∙ e) t
 
 pub words-put : {k s : ℕ} {xs : List Entry} (r : List ℕ) → Words 65536 r → AllTaken k s xs → Words 65536 (putAll s r xs)
 unfolding putAll
 words-put r u none = u
 words-put {s} r u (more {x = x} h t) =
-    words-put (replaced s r (x .number) (x .block)) (words-replaced 65536 s (lit< tt) r (x .number) (x .block) u (h .words)) t
+    words-put (replaced s r (x .number) (x .block)) (words-sets 65536 (lit< tt) (x .block) (x .number * s) u (h .words)) t
 
 -- what is remembered before each: one more write remembers the records that it finds
 pub before-append : (s : ℕ) (r : List ℕ) (xs : List Entry) (x : Entry) → beforeEach s r (xs ++ (x ∷ [])) ≡ putAll s r xs ∷ beforeEach s r xs

@@ -15,7 +15,8 @@ use Rattle.rows.specs.Decoding.{Decoded, decoded}
 use Rattle.stripe.specs.Decoding.{decodeStripe}
 use Rattle.recovery.specs.Recovery.{laid}
 use Rattle.vault.specs.Round.{Entry, Round, rowsOf, roundHeader, levelEntries}
-use Rattle.vault.proofs.Levels.{first-level, filled-in}
+use Rattle.layout.proofs.StripePlaces.{first-level}
+use Rattle.vault.proofs.Levels.{filled-in}
 use Rattle.vault.proofs.Rounds.{AllTaken, none, more, Good, taken-take, taken-drop}
 use Rattle.vault.proofs.RoundRecovery.{multiple-filled, multiple-empty, lay-full}
 
@@ -41,7 +42,7 @@ take-level : (h : Header) (l : ℕ) → l < h .k → isFilled h l ≡ true → (
 take-level h l b f xs =
     let t = h .c / 2 ^ suc l * 2 ^ suc l in
     ap (λ (n : ℕ). take n xs) (sym (multiple-filled (h .c) l f)) ∙ take-add t (2 ^ l) xs
-    ∙ ap (λ (i : ℕ). take t xs ++ take (2 ^ l) (drop i xs)) (sym (first-level h l b))
+    ∙ ap (λ (i : ℕ). take t xs ++ take (2 ^ l) (drop i xs)) (sym (first-level h l (λ e. omega arith)))
 
 module _ (h : Header) {xs ys : List Entry} (X : AllTaken (h .k) (h .s) xs) (Y : AllTaken (h .k) (h .s) ys) (long : length xs ≡ h .c) (long′ : length ys ≡ h .c)
     (few : h .c < 2 ^ h .k) (rows : (l : ℕ) → l < h .k → isFilled h l ≡ true → rowsOf (levelEntries h xs l) ≡ rowsOf (levelEntries h ys l)) where

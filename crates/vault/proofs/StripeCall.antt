@@ -1,4 +1,4 @@
--- The call `decode`, both ways round: what it gives where no number from 1 to 6 applies, and what it leaves. Promises 3 of specs/Promises. Assumes nothing.
+-- The call `decode`, both-true ways round: what it gives where no number from 1 to 6 applies, and what it leaves. Promises 3 of specs/Promises. Assumes nothing.
 use mathlib.Core.Path.{_≡_, refl, sym, ap, _∙_}
 use mathlib.Core.Bool.{Bool, true, false, _&&_, _||_}
 use mathlib.Core.Logic.{inl, inr}
@@ -22,7 +22,8 @@ use Rattle.rows.proofs.StripeTests.{stripe-fits}
 use Rattle.stripe.specs.Decoding.{decodeStripe}
 use Rattle.stripe.specs.StripeCall.{decodeEarly, decodeNumber, decodeLeaves}
 use Rattle.vault.specs.Promises.{marks, wordsIn, Readable, Asked, GivesSeven, GivesEight, GivesNine, GivesTen, GivesZero, LeavesBlocks, LeavesZeros, Needed, Gives}
-use Rattle.layout.proofs.Refusals.{both, first, passes, test-holds, none-fails, equal-three, if-taken}
+use Rattle.field.proofs.Booleans.{both-true, first-true}
+use Rattle.layout.proofs.Refusals.{passes, test-holds, none-fails, equal-three, if-taken}
 use Rattle.vault.proofs.StripeDecoding.{readable-rows, decodesIff, nineIff, tenIff}
 
 -- the number of what decoding comes to; one other than 0 is that of a failure
@@ -54,7 +55,7 @@ module _ (h : Header) (m e : List ℕ) (l : ℕ) (out scratch : List ℕ) (asked
     where
       go : (b : Bool) → isFull h l ≡ b → (b || (ltb l (h .k) && isFilled h l)) ≡ true → l ≤ h .k
       go true eb t = omega (arith, eqb-true l (h .k) eb)
-      go false eb t = omega (arith, ltb-true l (h .k) (first (ltb l (h .k)) (isFilled h l) t))
+      go false eb t = omega (arith, ltb-true l (h .k) (first-true (ltb l (h .k)) (isFilled h l) t))
 
   abbrev found : Decoded
   found = decodeStripe h m (erasuresIn e) l
@@ -123,7 +124,7 @@ leavesZeros h m e l out scratch A = (
 -- test 6 passes for a needed stripe
 needed-passes : (h : Header) (l : ℕ) → Needed h l → hasStripe h l ≡ true
 needed-passes h l (inl full) = rw (full, hasStripe)
-needed-passes h l (inr (lt, filled)) = second-of (isFull h l) (both (lt-ltb l (h .k) lt) filled)
+needed-passes h l (inr (lt, filled)) = second-of (isFull h l) (both-true (lt-ltb l (h .k) lt) filled)
   where
     second-of : (a : Bool) {b : Bool} → b ≡ true → (a || b) ≡ true
     second-of true q = refl

@@ -73,7 +73,7 @@ use Rattle.vault.specs.Model.{writes, tableNumber, modelOf}
 use Rattle.vault.specs.History.{numberOn, Opens, vaultAfter, headerAfter, imageAfter}
 use Rattle.vault.specs.Round.{putAll, rowsOf, modelIn, roundOf, levelEntries, represent}
 use Rattle.vault.specs.Boundary.{PartIs, NoneNamed}
-use Rattle.vault.specs.Worked.{Holds, table}
+use Rattle.vault.specs.Worked.{Holds, examples}
 
 -- 1. THE HEADER after any history has the opening's k and s, and its c is the model's count
 abbrev pub HeaderIs : Type 0
@@ -285,4 +285,4 @@ pub record Promises : Type 0 where
   pub full-decodes : FullDecodes
   pub part-is : PartIs
   pub none-named : NoneNamed
-  pub worked : Holds table
+  pub worked : Holds examples

@@ -56,12 +56,12 @@ grown a x =
       | false ↦ record { k = a .k; s = a .s; base = a .base; since = a .since ++ (x ∷ []) }
     ]
 
-abbrev pub turned : Round → Event → Round
-turned a (write i b) = grown a (record { number = i; block = b })
+abbrev pub advanced : Round → Event → Round
+advanced a (write i b) = grown a (record { number = i; block = b })
 
 -- one that the table refuses leaves it as it is
 abbrev pub turnRound : Round → Event → Round
-turnRound a e = elim (eqb (tableNumber (modelIn a) e) 0) [ true ↦ turned a e | false ↦ a ]
+turnRound a e = elim (eqb (tableNumber (modelIn a) e) 0) [ true ↦ advanced a e | false ↦ a ]
 
 unfoldable pub roundAfter : Round → List Event → Round
 roundAfter a [] = a

@@ -79,8 +79,8 @@ goingBack es =
     m .records ++ (getD (m .before) 0 [] ++ getD (m .before) 1 [])
 
 -- P1 to P12 in order; P7, P8, P9 and P12 have two entries each. The last two are not the document's: the model goes back, and a round's end is as far as it goes
-abbrev pub table : Table
-table =
+abbrev pub examples : Table
+examples =
     entry (coded 65537 root4 2 1 0 (1 ∷ 2 ∷ [])) (3 ∷ 65536 ∷ 65026 ∷ 513 ∷ [])
     (entry (coded 65537 root4 2 0 2 (3 ∷ [])) (3 ∷ 12288 ∷ [])
     (entry (coded 65537 root4 2 2 0 (1 ∷ 2 ∷ 3 ∷ 4 ∷ [])) (10 ∷ 255 ∷ 65533 ∷ 65280 ∷ 11841 ∷ 16945 ∷ 52674 ∷ 49618 ∷ [])

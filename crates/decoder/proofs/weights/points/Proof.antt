@@ -17,7 +17,7 @@ use Rattle.field.proofs.Unity.{two-div}
 use Rattle.decoder.specs.Decoding.{pointAt}
 use Rattle.code.specs.RowTrace.{stored}
 use Rattle.decoder.proofs.Points.{point-low-square, point-high-square}
-use Rattle.code.proofs.RowLaws.{set-stored, stored-more, stored-is}
+use Rattle.code.proofs.RowLaws.{stored-none, stored-next, set-stored, stored-more, stored-front}
 use Rattle.decoder.proofs.weights.points.Statement.{statement}
 use Rattle.decoder.proofs.weights.points.Tie as tie
 
@@ -63,7 +63,6 @@ mul-requires c κs =
 
 start : (part : List ℕ) (level k root half u v e : ℕ) → level ≤ k → half ≡ 2 ^ level → e ≡ 2 ^ (k - level) → u ≡ power 65537 root e → v ≡ times 65537 u u
     → Inv part level k root half u v part 1 0
-unfolding stored
 start part level k root half u v e b eh ee eu ev = record {
   turns = omega arith;
   half-is = eh;
@@ -74,7 +73,7 @@ start part level k root half u v e b eh ee eu ev = record {
   v-lt = rw ev (times-lt 65537 (lit< tt) u u);
   x-lt = lit< tt;
   same = refl;
-  now = refl;
+  now = sym (stored-none half _ _ ∙ stored-none 0 _ part);
 }
 
 loop-holds : tie.Need-loop-holds Inv-loop μ-loop
@@ -119,21 +118,19 @@ loop-less c = omega arith
 
 two-more : (f : ℕ → ℕ) (half i : ℕ) (l₀ l : List ℕ) (x y : ℕ) → l ≡ stored half (λ n. f (half + n)) i (stored 0 f i l₀) → i < half → x ≡ f i → y ≡ f (half + i)
     → set (set l i x) (half + i) y ≡ stored half (λ n. f (half + n)) (i + 1) (stored 0 f (i + 1) l₀)
-unfolding stored
 two-more f half i l₀ l x y e b ex ey =
-    let z : 0 + i ≡ i = zero-add i in
-    rw (e, ex, ey, add-one, z) (ap (λ (r : List ℕ). set r (half + i) (f (half + i))) (set-stored half (λ n. f (half + n)) i (stored 0 f i l₀) i (f i) (λ n t q. omega arith)))
+    rw (e, ex, ey, stored-next half (λ n. f (half + n)) i (stored 0 f (i + 1) l₀), stored-next 0 f i l₀, zero-add i)
+    (ap (λ (r : List ℕ). set r (half + i) (f (half + i))) (set-stored half (λ n. f (half + n)) i (stored 0 f i l₀) i (f i) (λ n t q. omega arith)))
 
 -- both halves stored
 all-points : (f : ℕ → ℕ) (half n : ℕ) (l : List ℕ) → half + half ≡ n → n ≤ length l → stored half (λ i. f (half + i)) half (stored 0 f half l) ≡ table n f ++ drop n l
 all-points f half n l e b =
     let z : 0 + half ≡ half = zero-add half in
-    rw z at (stored-more 0 f (λ i. f (half + i)) half half l (λ i t. refl)) ∙ rw (e) (stored-is 0 f n l (rw zero-add b) ∙ rw zero-add)
+    rw z at (stored-more 0 f (λ i. f (half + i)) half half l (λ i t. refl)) ∙ rw e (stored-front f n l b)
 
 -- a turn stores a point of X and one of Y
 next : {part₀ : List ℕ} {level k root half u v : ℕ} {part : List ℕ} {x i y x′ : ℕ} → Inv part₀ level k root half u v part x i → i < half → y ≡ times 65537 u x → x′ ≡ times 65537 v x
     → Inv part₀ level k root half u v (set (set part i x) (half + i) y) x′ (i + 1)
-unfolding stored
 next {part₀} {level} {k} {root} {half} {u} {v} {part} {x} {i} {y} {x′} h b ey ex =
     let i-lt : i < 2 ^ level = omega (arith, h .half-is) in
     let eu : power 65537 root (2 ^ k / 2 ^ level) ≡ u = sym (h .u-is) in

@@ -12,7 +12,7 @@ use Rattle.field.specs.Residue.{minus, times}
 use Rattle.field.specs.Words.{Words, table}
 use Rattle.code.specs.RowTrace.{stored, weighedBy}
 use Rattle.field.proofs.Laws.{minus-lt}
-use Rattle.code.proofs.RowLaws.{length-stored, stored-at, stored-before, stored-after, is-stored, no-rest, weighedBy-own, weighedBy-other, Storing, storing-start, storing-turn, storing-done, storing-rest, storing-front}
+use Rattle.code.proofs.RowLaws.{length-stored, stored-at, stored-before, stored-after, is-stored, stored-last, weighedBy-own, weighedBy-other, Storing, storing-start, storing-turn, storing-done, storing-rest, storing-front}
 use Rattle.decoder.proofs.weights.weigh_by.Statement.{statement}
 use Rattle.decoder.proofs.weights.weigh_by.Tie as tie
 
@@ -125,7 +125,7 @@ put-back base count j l e b =
     (λ k h. getD-set-other s (base + j) k _ 0 (λ q. omega arith) ∙ stored-before base (weighed base (getD l j 0) l) count l k h)
     (λ i h. inside i h (eqb j i) refl)
     (λ k h. getD-set-other s (base + j) k _ 0 (λ q. omega arith) ∙ stored-after base (weighed base (getD l j 0) l) count l k h)
-    ∙ no-rest (take base l ++ table count (weighedBy 65537 base j l)) l (base + count) e
+    ∙ stored-last base (weighedBy 65537 base j l) count l e
   where
     s : List ℕ
     s = stored base (weighed base (getD l j 0) l) count l

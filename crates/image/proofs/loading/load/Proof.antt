@@ -1,8 +1,9 @@
--- `image::loading::load` meets its contract, by the loop over rows of proofs/StripeLoads. Assumes nothing.
-use mathlib.Core.Path.{_≡_, refl, ap, _∙_}
+-- `image::loading::load` meets its contract, by the loop that stores rows of code/proofs/RowLaws. Assumes nothing.
+use mathlib.Core.Path.{_≡_, refl, sym, ap, _∙_}
 use mathlib.Core.List.{_++_}
 use mathlib.Core.Logic.{⊎-elim}
 use Prim.Native.Nat.{ℕ, _+_, _*_, _-_, _≤_}
+use native.Mathlib.Nat.{zero-mul}
 use native.Mathlib.Omega.{arith}
 use borrow.Author.Needs.{needs}
 use lib.ListN.{length, drop}
@@ -11,13 +12,14 @@ use Rattle.code.proofs.Shapes.{positions}
 use Rattle.code.specs.Stripe.{positionCount}
 use Rattle.image.specs.Image.{wordsOf}
 use Rattle.image.specs.Loading.{surviving, columnsWord, columnsOf}
-use Rattle.code.proofs.Lifting.{row-in}
-use Rattle.image.proofs.StripeLoads.{LoadLoop, load-start, load-turn, load-end, range-marked, range-kept}
+use Rattle.code.proofs.Lifting.{row-in, row-next}
+use Rattle.code.proofs.RowLaws.{StoringRows, storing-rows-start, storing-rows-turn, storing-rows-done, stored-front}
+use Rattle.image.proofs.StripeLoads.{range-marked, range-kept}
 use Rattle.image.proofs.loading.load.Statement.{statement}
 use Rattle.image.proofs.loading.load.Tie as tie
 
 abbrev Inv-loop : tie.InvT-loop
-Inv-loop part₀ bytes marks from cols rows width i₀ part i = LoadLoop rows cols (columnsWord width from cols (surviving width rows marks (wordsOf bytes))) part₀ part i
+Inv-loop part₀ bytes marks from cols rows width i₀ part i = StoringRows 0 (columnsWord width from cols (surviving width rows marks (wordsOf bytes))) rows cols part₀ part (i * cols) i
 
 abbrev μ-loop : tie.MeasureT-loop
 μ-loop part₀ bytes marks from cols rows width i₀ part i = rows - i
@@ -45,7 +47,7 @@ two-to-requires : tie.Need-two-to-requires Inv-loop μ-loop
 two-to-requires c κs = omega (arith, c .before .before .before .before .pre .0 .0)
 
 loop-holds : tie.Need-loop-holds Inv-loop μ-loop
-loop-holds c = load-start _ _ _ _
+loop-holds c = rw (zero-mul (c .before .before .before .before .before .args .cols)) (storing-rows-start 0 _ _ _ _)
 
 mul-to : tie.Need-mul-to Inv-loop μ-loop
 mul-to c = omega (arith, fit-part c, room c)
@@ -79,12 +81,15 @@ loop-again c =
     let l = c .before .before in
     let s = l .before .before .before .before .before .before .before in
     let a = s .args in
-    ⊎-elim
-    (λ w. load-turn (l .before .loop .inv) (l .loop-test .taken) (room l) (λ k. 0)
-    (λ j b. range-marked (a .st .width) (l .before .before .two-to .result) (a .marks .now) (a .bytes .now) (a .from) (a .cols) (s .pre .1 .0) (l .before .loop .i) j (l .loop-test .taken) b (w .0 .taken)) (w .5 ∙ w .2 .ensures))
-    (λ w. load-turn (l .before .loop .inv) (l .loop-test .taken) (room l) _
-    (λ j b. range-kept (a .st .width) (l .before .before .two-to .result) (a .marks .now) (a .bytes .now) (a .from) (a .cols) (s .pre .1 .0) (l .before .loop .i) j (l .loop-test .taken) b (w .0 .left) _ refl) (w .5 ∙ w .2 .ensures))
-    (c .if1 .came)
+    let inv = l .before .loop .inv in
+    let b = l .loop-test .taken in
+    rw (row-next (l .before .loop .i) (a .cols))
+    (⊎-elim
+    (λ w. storing-rows-turn inv (λ k. 0) b (w .5 ∙ w .2 .ensures)
+    (λ j t. sym (range-marked (a .st .width) (l .before .before .two-to .result) (a .marks .now) (a .bytes .now) (a .from) (a .cols) (s .pre .1 .0) (l .before .loop .i) j b t (w .0 .taken))))
+    (λ w. storing-rows-turn inv _ b (w .5 ∙ w .2 .ensures)
+    (λ j t. sym (range-kept (a .st .width) (l .before .before .two-to .result) (a .marks .now) (a .bytes .now) (a .from) (a .cols) (s .pre .1 .0) (l .before .loop .i) j b t (w .0 .left) _ refl)))
+    (c .if1 .came))
 
 same-length : tie.Need-same-length Inv-loop μ-loop
 same-length c = c .before .loop .inv .same
@@ -93,7 +98,7 @@ returns : tie.Need-returns Inv-loop μ-loop
 unfolding columnsOf
 returns c =
     let a = c .before .before .before .before .before .before .before .args in
-    load-end (c .before .loop .inv) (c .loop-test .left)
+    storing-rows-done (c .before .loop .inv) (c .loop-test .left) ∙ stored-front _ _ (a .part .now) (rw (positions (a .st .level) (c .before .before .two-to .ensures)) (c .before .before .before .before .before .before .before .pre .1 .1))
     ∙ ap (λ (n : ℕ). table (n * a .cols) (columnsWord (a .st .width) (a .from) (a .cols) (surviving (a .st .width) n (a .marks .now) (wordsOf (a .bytes .now)))) ++ drop (n * a .cols) (a .part .now)) (positions (a .st .level) (c .before .before .two-to .ensures))
 
 pub load-spec : {M : Type 1} → statement M

@@ -1,19 +1,19 @@
--- `image::loading::load_row` meets its contract, by the loop over a row of proofs/StripeLoads. Assumes nothing.
+-- `image::loading::load_row` meets its contract, by the loop that stores of code/proofs/RowLaws. Assumes nothing.
 use Prim.Native.Nat.{_-_}
 use native.Mathlib.Omega.{arith}
 use Rattle.image.specs.LoadTrace.{rowWord}
-use Rattle.image.proofs.StripeLoads.{LaidLoop, laid-start, laid-turn, laid-end}
+use Rattle.code.proofs.RowLaws.{Storing, storing-start, storing-turn, storing-done}
 use Rattle.image.proofs.loading.load_row.Statement.{statement}
 use Rattle.image.proofs.loading.load_row.Tie as tie
 
 abbrev Inv-loop : tie.InvT-loop
-Inv-loop part₀ to image from cols j₀ part j = LaidLoop to cols (rowWord image from) part₀ part j
+Inv-loop part₀ to image from cols j₀ part j = Storing to (rowWord image from) cols part₀ part j
 
 abbrev μ-loop : tie.MeasureT-loop
 μ-loop part₀ to image from cols j₀ part j = cols - j
 
 loop-holds : tie.Need-loop-holds Inv-loop μ-loop
-loop-holds c = laid-start _ _ _ _
+loop-holds c = storing-start _ _ _ _
 
 mul-number-at : tie.Need-mul-number-at Inv-loop μ-loop
 mul-number-at c = omega arith
@@ -41,13 +41,13 @@ loop-less c = omega arith
 
 loop-again : tie.Need-loop-again Inv-loop μ-loop
 unfolding rowWord
-loop-again c = laid-turn (c .before .before .loop .inv) (c .before .loop-test .taken) (c .before .before .before .before .before .pre .0) (c .number-at .ensures)
+loop-again c = storing-turn (c .before .before .loop .inv) (c .before .loop-test .taken) (c .number-at .ensures)
 
 same-length : tie.Need-same-length Inv-loop μ-loop
 same-length c = c .before .loop .inv .same
 
 returns : tie.Need-returns Inv-loop μ-loop
-returns c = laid-end (c .before .loop .inv) (c .loop-test .left)
+returns c = storing-done (c .before .loop .inv) (c .loop-test .left)
 
 pub load-row-spec : {M : Type 1} → statement M
 load-row-spec =

@@ -5,7 +5,7 @@ use Rattle.layout.specs.Header.{rawSize}
 use Rattle.image.specs.Erasures.{erasuresIn}
 use Rattle.stripe.specs.Decoding.{decodeStripe}
 use Rattle.recovery.specs.Recovery.{Recovered}
-use Rattle.recovery.specs.RecoveryCall.{answerOf, wordsOf}
+use Rattle.recovery.specs.RecoveryCall.{answerOf, recoveredWords}
 use Rattle.recovery.proofs.StripeRecords.{sound}
 use Rattle.recovery.proofs.RecoverCall.{full-stops, full-goes}
 use Rattle.recovery.proofs.recovering.recover_all.Statement.{statement}
@@ -40,7 +40,7 @@ returns-2 c =
     let f = c .before .before .before .before .before .before .before .before .before .before .before .before .recover-full .ensures in
     let l = c .before .before .before .before .recover-levels .ensures in
     let e = full-goes (a .header) (decodeStripe (a .header) (a .image .now) (erasuresIn (a .erasures .now))) (f .0) (sound (a .header) (a .image .now) (erasuresIn (a .erasures .now)) (a .header .k)) (c .before .before .before .before .before .before .before .if1 .left) (f .1 (c .before .before .before .before .before .before .before .if1 .left)) in
-    (l .0 ∙ sym (ap answerOf e), λ z. l .1 z ∙ sym (ap (λ (x : Recovered). wordsOf x (rawSize (a .header))) e))
+    (l .0 ∙ sym (ap answerOf e), λ z. l .1 z ∙ sym (ap (λ (x : Recovered). recoveredWords x (rawSize (a .header))) e))
 
 pub recover-all-spec : {M : Type 1} → statement M
 recover-all-spec =

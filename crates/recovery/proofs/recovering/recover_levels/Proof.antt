@@ -7,7 +7,7 @@ use Rattle.layout.specs.Header.{rawSize}
 use Rattle.image.specs.Erasures.{erasuresIn}
 use Rattle.stripe.specs.Decoding.{decodeStripe}
 use Rattle.recovery.specs.Recovery.{Recovered}
-use Rattle.recovery.specs.RecoveryCall.{answerOf, wordsOf}
+use Rattle.recovery.specs.RecoveryCall.{answerOf, recoveredWords}
 use Rattle.layout.proofs.Bounds.{fits}
 use Rattle.recovery.proofs.StripeRecords.{sound}
 use Rattle.recovery.proofs.LevelsRecovery.{Levels, levels-start, levels-skip, levels-lay, levels-stop, levels-done}
@@ -82,7 +82,7 @@ same-length-4 c = c .before .loop .inv .1
 returns-2 : tie.Need-returns-2 Inv-loop μ-loop
 returns-2 c =
     let e = levels-done (c .before .loop .inv .2) (c .loop-test .left) in
-    (sym (ap answerOf e), λ _. sym (ap (λ (x : Recovered). wordsOf x (rawSize (c .before .before .before .before .before .before .before .args .header))) e))
+    (sym (ap answerOf e), λ _. sym (ap (λ (x : Recovered). recoveredWords x (rawSize (c .before .before .before .before .before .before .before .args .header))) e))
 
 pub recover-levels-spec : {M : Type 1} → statement M
 recover-levels-spec =

@@ -4,8 +4,8 @@ use Prim.Native.Nat.{ℕ, _+_, _-_, _%_, _≤_}
 use native.Mathlib.Omega.{arith}
 use lib.ListN.{length, getD, take, drop}
 use Rattle.store.specs.Buffers.{reduced}
-use Rattle.code.proofs.RowLaws.{Storing, storing-start, storing-turn, storing-done, storing-front}
-use Rattle.store.proofs.Stores.{stored-list, length-copy, copy-at}
+use Rattle.code.proofs.RowLaws.{Storing, storing-start, storing-turn, storing-done, storing-front, stored-list}
+use Rattle.store.proofs.Stores.{length-copy, copy-at}
 use Rattle.store.proofs.writing.copy_reduced.Statement.{statement}
 use Rattle.store.proofs.writing.copy_reduced.Tie as tie
 
@@ -56,7 +56,7 @@ returns c =
     let a = c .before .before .args in
     let h : a .from + a .count ≤ length (a .log .now) = omega arith in
     storing-done (c .before .loop .inv) (c .loop-test .left)
-    ∙ stored-list (a .to) _ (a .count) (reduced 65537 (take (a .count) (drop (a .from) (a .log .now)))) (a .log .now) (omega arith)
+    ∙ stored-list (a .to) _ (a .count) (reduced 65537 (take (a .count) (drop (a .from) (a .log .now)))) (a .log .now)
     (length-copy 65537 (a .from) (a .count) (a .log .now) h) (copy-at 65537 (a .from) (a .count) (a .log .now) h)
 
 pub copy-reduced-spec : {M : Type 1} → statement M

@@ -3,8 +3,7 @@ use mathlib.Core.Path.{refl, _∙_}
 use Prim.Native.Nat.{_*_, _-_}
 use native.Mathlib.Omega.{arith}
 use lib.ListN.{getD}
-use Rattle.code.proofs.RowLaws.{Storing, storing-start, storing-turn, storing-done}
-use Rattle.store.proofs.Stores.{stored-list, record-put}
+use Rattle.code.proofs.RowLaws.{Storing, storing-start, storing-turn, storing-done, stored-list}
 use Rattle.store.proofs.writing.put_record.Statement.{statement}
 use Rattle.store.proofs.writing.put_record.Tie as tie
 
@@ -52,7 +51,7 @@ returns c =
     let a = c .before .before .args in
     let e = c .before .before .pre .0 in
     storing-done (c .before .loop .inv) (c .loop-test .left)
-    ∙ stored-list (a .i * a .s) _ (a .s) (a .block .now) (a .raw .now) (omega arith) e (λ i h. refl) ∙ record-put (a .s) (a .i) (a .block .now) (a .raw .now) e (omega arith)
+    ∙ stored-list (a .i * a .s) _ (a .s) (a .block .now) (a .raw .now) e (λ i h. refl)
 
 pub put-record-spec : {M : Type 1} → statement M
 put-record-spec =

@@ -8,8 +8,7 @@ use lib.Seq.{sets}
 use Rattle.field.specs.Residue.{times}
 use Rattle.code.specs.Transform.{scaled}
 use Rattle.code.proofs.Shapes.{length-scaled, scaled-at}
-use Rattle.code.proofs.RowLaws.{Storing, storing-start, storing-turn, storing-done}
-use Rattle.store.proofs.Stores.{stored-list}
+use Rattle.code.proofs.RowLaws.{Storing, storing-start, storing-turn, storing-done, stored-list}
 use Rattle.store.proofs.writing.put_row.Statement.{statement}
 use Rattle.store.proofs.writing.put_row.Tie as tie
 
@@ -75,7 +74,7 @@ returns c =
     let a = at-mul .before .before .before .args in
     let row = scaled 65537 (a .g) (a .block .now) in
     storing-done (c .before .loop .inv) (c .loop-test .left)
-    ∙ stored-list (a .at + 1) _ (length (a .block .now)) row (set (a .log .now) (a .at) (at-mul .mul .result)) (simp length-set (omega arith))
+    ∙ stored-list (a .at + 1) _ (length (a .block .now)) row (set (a .log .now) (a .at) (at-mul .mul .result))
     (length-scaled 65537 (a .g) (a .block .now)) (scaled-at 65537 (a .g) (a .block .now))
     ∙ ap₂ (λ (n x : ℕ). sets (set (a .log .now) (a .at) x) n row) (add-one (a .at)) (at-mul .mul .ensures)
 

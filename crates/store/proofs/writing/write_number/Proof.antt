@@ -9,7 +9,7 @@ use Rattle.layout.specs.Header.{count}
 use Rattle.layout.specs.Records.{areData}
 use Rattle.layout.specs.Refusals.{Tests, done, test, refusal}
 use Rattle.layout.proofs.Bounds.{fits}
-use Rattle.layout.proofs.Refusals.{both, not-first}
+use Rattle.field.proofs.Booleans.{both-true, first-false}
 use Rattle.store.specs.Buffers.{Buffers, buffers}
 use Rattle.store.specs.StoreCalls.{writeNumber}
 use Rattle.store.proofs.BufferTests.{Held, held, held-refused, held-passed}
@@ -38,7 +38,7 @@ sized : (c : tie.Else2) → let p = first c .before in
 sized c =
     let p = first c .before in
     let H = holds (first c) in
-    held-passed (entry p .args .header) (lent p) (rest p) H (both (H .sized) (eq-eqb _ _ (c .if2 .left)))
+    held-passed (entry p .args .header) (lent p) (rest p) H (both-true (H .sized) (eq-eqb _ _ (c .if2 .left)))
 
 buffers-number-requires : tie.Need-buffers-number-requires
 buffers-number-requires c κs = search needs
@@ -48,7 +48,7 @@ returns c =
     let p = c .before in
     let a = entry p .args in
     p .buffers-number .ensures
-    ∙ held-refused (a .header) (lent p) (rest p) (λ e. not-first (eqb (length (a .block .now)) (a .header .s)) e) (λ z. c .if1 .taken (p .buffers-number .ensures ∙ z))
+    ∙ held-refused (a .header) (lent p) (rest p) (λ e. first-false (eqb (length (a .block .now)) (a .header .s)) e) (λ z. c .if1 .taken (p .buffers-number .ensures ∙ z))
 
 cast-if2 : tie.Need-cast-if2
 cast-if2 c = search needs

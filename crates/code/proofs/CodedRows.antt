@@ -1,4 +1,5 @@
--- The halves X and Y of a coded stripe, and how a stripe's half is mixed from those of its older and its newer blocks. Assumes nothing.
+-- A stripe's rows once coded: their number and words, their halves X and Y, and how a half is mixed from those of its older and its newer blocks. Assumes
+-- nothing.
 use mathlib.Core.Path.{_≡_, refl, sym, ap, ap₂, _∙_}
 use mathlib.Core.List.{List, [], _∷_, _++_}
 use Prim.Native.Nat.{ℕ, zero, suc, _+_, _*_, _-_, _/_, _^_, _<_}
@@ -9,11 +10,20 @@ use lib.Seq.{take-at, drop-at, length-take-le}
 use Rattle.field.specs.Residue.{times}
 use Rattle.field.specs.Power.{power}
 use Rattle.field.specs.Words.{Words}
 use Rattle.code.specs.Rows.{column, lifted}
 use Rattle.code.specs.Transform.{mixedHalves, transform, scaled, reversed, turned}
 use Rattle.code.specs.Stripe.{coded, codedRows}
-use Rattle.code.proofs.Shapes.{length-transform, length-scaled, length-turned, scaled-at, words-transform, words-turned}
+use Rattle.code.proofs.Shapes.{length-transform, length-scaled, length-turned, scaled-at, words-transform, words-turned, words-coded}
 use Rattle.code.proofs.Lifting.{length-column, words-column, length-lifted, is-lifted, lifted-same, lifted-then, lifted-id, words-lifted, lifted-append, lifted-both}
+
+pub length-coded-rows : (p w k l t width : ℕ) (bs : List ℕ) → length (codedRows p w k l t width bs) ≡ 2 ^ suc l * width
+unfolding codedRows
+length-coded-rows p w k l t width bs = length-lifted width (2 ^ l) (2 ^ suc l) (coded p w k l t) bs
+
+pub words-coded-rows : (p w k l t width : ℕ) {bs : List ℕ} → 0 < p → Words p bs → Words p (codedRows p w k l t width bs)
+unfolding codedRows
+words-coded-rows p w k l t width {bs} z u =
+    words-lifted p width (2 ^ l) (2 ^ suc l) (coded p w k l t) bs z (λ j b. words-coded p z w k l t (words-column p width (2 ^ l) j u))
 
 module _ (p w k : ℕ) where
   -- turning, of parts
