@@ -1,13 +1,13 @@
 /*
- * The press record vault: the calls of document 01 for C and C++. Link with target/staticlib/libvault.a, which `rt staticlib vault` builds for x86-64.
- * Of the C library it needs `memset`.
+ * The press record vault: the calls of docs/FORMAT.md (section 9) for C and C++. Link with target/staticlib/libvault.a, which `rt staticlib vault` builds
+ * for x86-64. Of the C library it needs `memset`.
  *
  * A vault keeps n = 2^k records, numbered 0 to n - 1, of s data words each, in three buffers of the caller's: the raw records, the full shelf and the log
  * of k levels. Its plate is k (1 to 10), s (1 to 128) and c (0 to n - 1), the writes since the full shelf was last built. The library keeps nothing between
  * two calls, and a call touches only what it is lent.
  *
- * Each call gives a number of document 01's table, 0 if it is taken. It makes its tests in rising number and gives the smallest that applies, for any
- * numbers, any counts and any contents of the buffers. What is proved of it (crates/vault/src/capi.rt) is this number and every word and byte that it leaves.
+ * Each call gives a number of the table below, 0 if it is taken. It makes its tests in rising number and gives the smallest that applies, for any numbers,
+ * any counts and any contents of the buffers. What is proved of it (crates/vault/src/capi.rt) is this number and every word and byte that it leaves.
  *
  * What no call can test, and the caller answers for:
  * - each pointer is valid for the count that follows it, and aligned for its type; c, start, count and shelf are valid for one number each. A pointer whose
@@ -27,7 +27,7 @@
 extern "C" {
 #endif
 
-/* The number of a call: the table "Turning away" of document 01. */
+/* The number of a call: the table of docs/FORMAT.md, section 10. */
 enum vault_number {
     VAULT_TAKEN = 0,     /* no test applies */
     VAULT_HEADER = 1,    /* plate: k, s or c out of its range */

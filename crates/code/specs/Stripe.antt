@@ -1,4 +1,4 @@
--- Coding of a stripe (document 01: shelf) of 2 ^ level blocks in a vault of n = 2 ^ k records. Assumes nothing: these are definitions.
+-- Coding of a stripe (docs/FORMAT.md, section 4) of 2 ^ level blocks in a vault of n = 2 ^ k records. Assumes nothing: these are definitions.
 use mathlib.Core.Path.{_≡_}
 use mathlib.Core.List.{List, _++_}
 use Prim.Native.Nat.{ℕ, suc, _+_, _*_, _%_, _^_, _≤_}

@@ -1,4 +1,4 @@
-// Coding of stripes (document 01: shelves), in place, on slices that the caller lends. A row is the words of one position, of any
+// Coding of stripes (docs/FORMAT.md, section 4), in place, on slices that the caller lends. A row is the words of one position, of any
 // width; each function does the same to every column.
 pub mod coding;
 pub mod mixing;

@@ -1,4 +1,5 @@
--- The decoder's definitions on the worked examples P1 to P3 of document 01 with positions erased (the examples themselves stand in the vault's table). Assumes nothing.
+-- The decoder's definitions on the worked examples P1 to P3 (docs/FORMAT.md, section 12) with positions erased. The examples themselves stand in the vault's
+-- table. Assumes nothing.
 use mathlib.Core.Path.{_≡_, refl}
 use mathlib.Core.Bool.{Bool, true, false}
 use mathlib.Core.List.{List, [], _∷_}

@@ -1,5 +1,5 @@
--- Decoding of a stripe from any half of its positions: what the words are, however they are found. A mark is true where a position is erased (document
--- 01: lost). Assumes nothing: these are definitions.
+-- Decoding of a stripe from any half of its positions: what the words are, however they are found (docs/FORMAT.md, section 7). A mark is true where a
+-- position is erased. Assumes nothing: these are definitions.
 use mathlib.Core.Bool.{Bool, true, false, _&&_, _||_}
 use mathlib.Core.List.{List, [], _∷_, _++_, map}
 use Prim.Native.Nat.{ℕ, zero, suc, _+_, _*_, _-_, _/_, _^_}

@@ -9,7 +9,7 @@ pub record Field : Type 0 where
   pub modulus : ℕ
   pub generator : ℕ
 
--- document 01's field: 65537 with 3
+-- the field of docs/FORMAT.md, section 2: 65537 with 3
 abbrev pub fermat : Field
 fermat = record { modulus = 65537; generator = 3 }
 

@@ -1,4 +1,4 @@
--- Erasure lists (document 01: gap lists), and the marks that they give a stripe's positions. Assumes nothing: these are definitions.
+-- Erasure lists (docs/FORMAT.md, section 6), and the marks that they give a stripe's positions. Assumes nothing: these are definitions.
 use mathlib.Core.Bool.{Bool, true, false, _&&_, _||_}
 use mathlib.Core.List.{List, [], _∷_}
 use Prim.Native.Nat.{ℕ, zero, suc, _+_, _*_, _/_, _%_, _^_}

@@ -1,4 +1,4 @@
-// Erasure lists (document 01: gap lists), the marks of a stripe's positions, and the tests of the calls that are lent an image.
+// Erasure lists (docs/FORMAT.md, section 6), the marks of a stripe's positions, and the tests of the calls that are lent an image.
 use layout::Header;
 ghost use mathlib.Core.Path.{_≡_};
 ghost use mathlib.Core.Bool.{false, _&&_, true};

@@ -1,4 +1,4 @@
--- The header (document 01: plate), the sizes of the buffers, and where the levels stand. Assumes nothing: these are definitions.
+-- The header, the sizes of the buffers, and where the levels stand (docs/FORMAT.md, sections 1, 3 and 5). Assumes nothing: these are definitions.
 use mathlib.Core.Bool.{Bool, true, false, _&&_, _||_}
 use Prim.Native.Nat.{ℕ, zero, suc, _+_, _*_, _-_, _/_, _%_, _^_}
 use lib.Dec.{ltb, leb, eqb}

@@ -3,7 +3,7 @@ pub mod places;
 pub mod sizes;
 pub mod words;
 
-// The header (document 01: plate).
+// The header (docs/FORMAT.md, section 1).
 pub struct Header {
     pub k: u32,
     pub s: u32,

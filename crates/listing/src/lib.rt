@@ -1,5 +1,5 @@
-// The listing that the program `racklist` of document 01 prints. What it says is not proved: the programs racklist and cases compare it with what reference/
-// makes. Proved is that it is safe for every input, ends, and stays in its buffer.
+// The listing that the program `racklist` prints (docs/FORMAT.md, section 13). What it says is not proved: the programs racklist and cases compare it with
+// what reference/ makes. Proved is that it is safe for every input, ends, and stays in its buffer.
 use layout::Header;
 use store::Written;
 ghost use mathlib.Core.Path.{_≡_};

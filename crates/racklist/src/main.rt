@@ -1,4 +1,4 @@
-// The program `racklist` of document 01: lists the vault that standard input describes. What it prints is compared, not proved.
+// The program `racklist` (docs/FORMAT.md, section 13): lists the vault that standard input describes. What it prints is compared, not proved.
 ghost use Prim.Native.Nat.{_≤_, _<_};
 ghost use lib.ListN.{length};
 

@@ -11,7 +11,7 @@ use Rattle.rows.specs.Decoding.{decodedNumber, decodedWords}
 use Rattle.stripe.specs.Decoding.{decodeStripe}
 use Rattle.layout.specs.Refusals.{done, test, refusal, ifTaken}
 
--- STRIPE DECODING (document 01: shelf decoding): blocks in order of time, zeros after them; after 7 to 10 output and scratch are zeros
+-- STRIPE DECODING (docs/FORMAT.md, sections 9 and 10): blocks in order of time, zeros after them; after 7 to 10 output and scratch are zeros
 abbrev pub decodeEarly : Header → (image erasures : List ℕ) → (stripe : ℕ) → (out scratch : List ℕ) → ℕ
 decodeEarly h m e l o s =
     refusal

@@ -1,4 +1,4 @@
-// Stripe decoding (document 01: shelf decoding).
+// Stripe decoding: the call decode (docs/FORMAT.md, sections 7 and 9).
 use code::Stripe;
 use layout::Header;
 ghost use mathlib.Core.Path.{_≡_};

@@ -1,4 +1,4 @@
--- The model (document 01: the record book): n = 2^k records of s words, and those that there were before each write of this round. It is fed k, s, the opened
+-- The model (docs/FORMAT.md, section 11): n = 2^k records of s words, and those that there were before each write of this round. It is fed k, s, the opened
 -- records and the events, and nothing from the vault: of this crate it imports the events alone. Assumes nothing: these are definitions.
 use mathlib.Core.Bool.{Bool, true, false, _&&_}
 use mathlib.Core.List.{List, [], _∷_, _++_}

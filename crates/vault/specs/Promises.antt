@@ -17,7 +17,7 @@
 --   o, o′     an opening: k, s, the raw records, and the buffers `full` and `log` that it is lent
 --   es, es′   the events after it; `next` one more
 --   k, s, c   the header's numbers: n = 2^k records of s words, and c writes since the full stripe was last built
---   h         a header (document 01: plate)
+--   h         a header (docs/FORMAT.md, section 1)
 --   l         a stripe (shelf): a level below k, or k for the full stripe; it has 2^l blocks and 2^(l+1) positions
 --   i, j      a position of a stripe, and a word of its 1 + s; in `BeforeIs` i is an entry of `before`
 --   m         an image, as bytes
@@ -31,13 +31,14 @@
 --   specs/History  Opens o: the call takes the opening, that is, gives 0. vaultAfter o es: header and buffers as the calls leave them; headerAfter, imageAfter: its header and its
 --                  image. numberOn v next: the number that the call gives to an event
 --   specs/Model    modelOf o es: what the model (record book) says, from k, s, the opened records and the events alone. writes: its count. tableNumber: the table's number
---   specs/Round    roundOf o es: the round that a history ends in. represent a: the buffers' words as "Words and shelves" fixes them. modelIn a: the model of a round.
---                  putAll s r xs: the records r with the writes xs put in. levelEntries h xs l: the writes that level l holds. rowsOf xs: writes as blocks
+--   specs/Round    roundOf o es: the round that a history ends in. represent a: the buffers' words as docs/FORMAT.md fixes them (sections 3 to 5).
+--                  modelIn a: the model of a round. putAll s r xs: the records r with the writes xs put in. levelEntries h xs l: the writes that level l
+--                  holds. rowsOf xs: writes as blocks
 --
 -- FROM OTHER CRATES
---   layout     headerOf k s c: the header of these numbers. headerFits h: k is 1 to 10, s 1 to 128, c below n. rawSize, outSize, scratchSize, imageSize: the lengths that document 01
---              asks for. width h: 1 + s. isFull h l: l is k. isFilled h l: bit l of c is 1. stripeAt h l: the word of the image at which the stripe begins; stripeSize h l: how many
---              it has. stripeOf h l: the stripe's numbers: l, k, its t0, w of order 2n, and 1 + s
+--   layout     headerOf k s c: the header of these numbers. headerFits h: k is 1 to 10, s 1 to 128, c below n. rawSize, outSize, scratchSize, imageSize: the
+--              lengths of docs/FORMAT.md, section 3. width h: 1 + s. isFull h l: l is k. isFilled h l: bit l of c is 1. stripeAt h l: the word of the image at
+--              which the stripe begins; stripeSize h l: how many it has. stripeOf h l: the stripe's numbers: l, k, its t0, w of order 2n, and 1 + s
 --   code       p: the field's modulus, 65537. codedStripe st bs: the words that the blocks bs of the stripe st are coded to. Column p n xs: xs are n words below p
 --   decoder    survivors l ms: the positions of stripe l that are not erased. AgreesRows ms n width xs ys: xs and ys have the same words at these, of n positions
 --   store      blocksOf h raw: the raw records as blocks, in number order

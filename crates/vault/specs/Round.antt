@@ -1,5 +1,5 @@
--- A round: k and s, the records when the full stripe was last built, and the blocks written since. It stands between the model and the buffers: it fixes the model,
--- and what it represents are the buffers' words as "Words and shelves" of document 01 fixes them. Assumes nothing: these are definitions.
+-- A round: k and s, the records when the full stripe was last built, and the blocks written since. It stands between the model and the buffers: it fixes the
+-- model, and what it represents are the buffers' words as docs/FORMAT.md fixes them (sections 3 to 5). Assumes nothing: these are definitions.
 use mathlib.Core.Bool.{true, false}
 use mathlib.Core.List.{List, [], _∷_, _++_}
 use Prim.Native.Nat.{ℕ, zero, suc, _^_}

@@ -1,4 +1,4 @@
--- The worked examples P1 to P12 of document 01, k = 2 and s = 1, as entries of one table: what a definition gives, and what the document says.
+-- The worked examples P1 to P12 of docs/FORMAT.md, section 12, k = 2 and s = 1, as entries of one table: what a definition gives, and what is said there.
 -- `worked` of proofs/Worked proves that each entry holds. Assumes nothing: these are definitions.
 use mathlib.Core.Path.{_≡_}
 use mathlib.Core.Bool.{Bool, true, false}
@@ -17,7 +17,7 @@ use Rattle.vault.specs.Event.{Opening, Event, write}
 use Rattle.vault.specs.Model.{modelOf}
 use Rattle.vault.specs.History.{Vault, imageLeft, numberOn, after, openedVault}
 
--- an entry: what is given, and what document 01 says
+-- an entry: what is given, and what docs/FORMAT.md says
 pub data Table : Type 0 where
   end : Table
   entry : (given said : List ℕ) → Table → Table
@@ -78,7 +78,7 @@ goingBack es =
     let m = modelOf zeroRecords es in
     m .records ++ (getD (m .before) 0 [] ++ getD (m .before) 1 [])
 
--- P1 to P12 in order; P7, P8, P9 and P12 have two entries each. The last two are not the document's: the model goes back, and a round's end is as far as it goes
+-- P1 to P12 in order; P7, P8, P9 and P12 have two entries each. The last two have no number: the model goes back, and a round's end is as far as it goes
 abbrev pub examples : Table
 examples =
     entry (coded 65537 root4 2 1 0 (1 ∷ 2 ∷ [])) (3 ∷ 65536 ∷ 65026 ∷ 513 ∷ [])
