@@ -1,7 +1,7 @@
--- Laws of `eachBlock` of specs/MixTrace: a part of a list put back, block after block, blocks of twice the size, one function after the other. Assumes nothing.
+-- Laws of `eachBlock` of specs/steps/Mixing: a part of a list put back, block after block, blocks of twice the size, one function after the other. Assumes nothing.
 use mathlib.Core.Path.{_≡_, refl, sym, ap, ap₂, _∙_}
 use mathlib.Core.List.{List, _++_, append-assoc, append-nil}
-use Prim.Native.Nat.{ℕ, zero, suc, _+_, _-_, _*_, _/_, _^_, _≤_, _<_}
+use Prim.Native.Nat.{ℕ, zero, suc, _+_, _-_, _*_, _^_, _≤_, _<_}
 use native.Mathlib.Nat.{add-mul, add-assoc, zero-add, zero-mul, one-mul, mul-assoc, mul-comm, pow-suc, le-mul-of-pos-right}
 use native.Mathlib.Numerals.{add-one}
 use native.Mathlib.Omega.{arith}
@@ -13,7 +13,7 @@ use Rattle.field.specs.Words.{Words}
 use Rattle.field.proofs.WordLists.{words-take, words-drop, words-part, words-append}
 use Rattle.code.specs.Rows.{column, lifted}
 use Rattle.code.specs.Transform.{mixedHalves, unmixed}
-use Rattle.code.specs.MixTrace.{eachBlock}
+use Rattle.code.specs.steps.Mixing.{eachBlock}
 use Rattle.code.proofs.Lifting.{length-lifted, length-column, words-lifted, lifted-id, lifted-same, lifted-then, lifted-append, row-in}
 use Rattle.code.proofs.Shapes.{words-mixed, words-unmixed}
 

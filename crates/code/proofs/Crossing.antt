@@ -1,4 +1,4 @@
--- Laws of the crossings of specs/MixTrace, which mixing and unmixing share: a row, all rows, and that these are one function of each column. Assumes nothing.
+-- Laws of the crossings of specs/steps/Mixing, which mixing and unmixing share: a row, all rows, and that these are one function of each column. Assumes nothing.
 use mathlib.Core.Path.{_≡_, refl, sym, ap, ap₂, _∙_, subst}
 use mathlib.Core.Logic.{⊎-elim, _≢_}
 use mathlib.Core.List.{List}
@@ -18,7 +18,7 @@ use Rattle.field.proofs.Powers.{power-zero, power-suc, power-lt}
 use Rattle.field.proofs.WordLists.{words-set}
 use Rattle.code.specs.Rows.{column, lifted}
 use Rattle.code.specs.Transform.{mixedHalves, unmixed}
-use Rattle.code.specs.MixTrace.{Crossing, mixing, unmixing, crossed, crossedRow}
+use Rattle.code.specs.steps.Mixing.{Crossing, mixing, unmixing, crossed, crossedRow}
 use Rattle.code.proofs.Shapes.{mixed-low, mixed-high, unmixed-low, unmixed-high}
 use Rattle.code.proofs.Lifting.{column-at, length-column, is-lifted, row-in}
 

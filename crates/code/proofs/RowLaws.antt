@@ -1,24 +1,24 @@
--- Laws of specs/RowTrace: what is stored and the words around it, and loops that store a word or a row a turn; a list in two parts that are lent.
+-- Laws of specs/steps/Storing: what is stored and the words around it, and loops that store a word or a row a turn; a list in two parts that are lent.
 -- Assumes nothing.
 use mathlib.Core.Path.{_≡_, refl, sym, ap, ap₂, subst, _∙_}
-use mathlib.Core.Logic.{⊎-elim, _≢_}
+use mathlib.Core.Logic.{_≢_}
 use mathlib.Core.Bool.{true, false}
 use mathlib.Core.List.{List, _++_, append-nil}
 use Prim.Native.Nat.{ℕ, zero, suc, _+_, _*_, _-_, _/_, _≤_, _<_}
-use native.Mathlib.Nat.{eq-or-lt-of-le, add-zero, zero-add, add-suc, add-assoc, zero-mul}
+use native.Mathlib.Nat.{add-zero, zero-add, zero-mul}
 use native.Mathlib.Numerals.{add-one}
 use native.Mathlib.Decide.{decLt}
 use native.Mathlib.Omega.{arith}
 use borrow.Rule.Slice.PartMut.{putMid}
-use lib.ListN.{length, getD, set, take, drop, replicate, take-append-drop, drop-of-length-le, length-replicate, getD-replicate, length-set, length-append, length-drop, List·getD-append}
-use lib.Seq.{sets, sets-eq, length-sets, take-all, take-at, drop-at, set-comm, drop-length, getD-set-same, getD-set-other, getD-append-add, getD-take, getD-drop, length-take-le, ext-getD}
+use lib.ListN.{length, getD, set, take, drop, replicate, take-append-drop, drop-of-length-le, length-replicate, getD-replicate, length-set, length-append, List·getD-append}
+use lib.Seq.{sets, sets-eq, length-sets, take-all, take-at, drop-at, set-comm, drop-length, getD-set-other, getD-append-add, length-take-le, ext-getD}
 use lib.Arith.{digits-div}
 use lib.Dec.{eqb}
 use Rattle.field.specs.Residue.{minus, times}
 use Rattle.field.specs.Words.{Words, table}
 use Rattle.field.proofs.Laws.{times-lt}
 use Rattle.field.proofs.WordLists.{words-set, length-table, getD-table, is-table, table-append, sets-append}
-use Rattle.code.specs.RowTrace.{stored, scaledWord, scaleRow, weighedBy}
+use Rattle.code.specs.steps.Storing.{stored, scaledWord, scaleRow, weighedBy}
 use Rattle.code.proofs.Lifting.{row-next, row-in}
 
 pub length-stored : (a : ℕ) (f : ℕ → ℕ) (n : ℕ) (l : List ℕ) → length (stored a f n l) ≡ length l

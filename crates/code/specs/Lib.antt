@@ -1,5 +1,4 @@
-pub mod MixTrace
-pub mod RowTrace
 pub mod Rows
 pub mod Stripe
 pub mod Transform
+pub mod steps

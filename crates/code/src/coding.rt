@@ -9,7 +9,7 @@ ghost use Rattle.field.specs.Words.{Words};
 ghost use Rattle.code.specs.Rows.{lifted};
 ghost use Rattle.code.specs.Transform.{turned};
 ghost use Rattle.code.specs.Stripe.{Numbers, modulusOf, blockCount, blockWords, codedStripe};
-ghost use Rattle.code.specs.RowTrace.{scaleRow};
+ghost use Rattle.code.specs.steps.Storing.{scaleRow};
 
 // Multiplies `width` words from index `at` by `g`.
 pub fn scale_row(part: &mut [u32], at: usize, width: usize, g: u32)

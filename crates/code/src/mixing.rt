@@ -8,7 +8,7 @@ ghost use Rattle.field.specs.Words.{Words};
 ghost use Rattle.code.specs.Rows.{lifted};
 ghost use Rattle.code.specs.Transform.{mixedHalves, transform};
 ghost use Rattle.code.specs.Stripe.{Numbers, modulusOf, blockCount, blockWords};
-ghost use Rattle.code.specs.MixTrace.{mixRow, eachBlock};
+ghost use Rattle.code.specs.steps.Mixing.{mixRow, eachBlock};
 
 // Mixes `width` words from index `low` with as many from index `high`, under the factor `g`.
 fn mix_row(part: &mut [u32], low: usize, high: usize, width: usize, g: u32)

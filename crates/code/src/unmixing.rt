@@ -8,7 +8,7 @@ ghost use Rattle.field.specs.Words.{Words};
 ghost use Rattle.code.specs.Rows.{lifted};
 ghost use Rattle.code.specs.Transform.{unmixed, untransform};
 ghost use Rattle.code.specs.Stripe.{Numbers, modulusOf, blockCount, blockWords};
-ghost use Rattle.code.specs.MixTrace.{unmixRow, eachBlock};
+ghost use Rattle.code.specs.steps.Mixing.{unmixRow, eachBlock};
 
 // Unmixes `width` words from index `low` and as many from index `high`, under the factor `g`.
 fn unmix_row(part: &mut [u32], low: usize, high: usize, width: usize, g: u32)

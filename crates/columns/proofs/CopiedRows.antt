@@ -1,5 +1,5 @@
 -- Rows copied one after the other: the loop that copies, what stands where afterwards, and a row copied to a record's place. Assumes nothing.
-use mathlib.Core.Path.{_≡_, refl, ap, ap₂, _∙_}
+use mathlib.Core.Path.{_≡_, refl, ap, _∙_}
 use mathlib.Core.List.{List}
 use mathlib.Core.Logic.{_≢_}
 use Prim.Native.Nat.{ℕ, zero, suc, _+_, _*_, _≤_, _<_}
@@ -7,12 +7,12 @@ use native.Mathlib.Nat.{zero-mul, mul-le-mul-right}
 use native.Mathlib.Numerals.{add-one}
 use native.Mathlib.Decide.{decLt}
 use native.Mathlib.Omega.{arith}
-use lib.ListN.{length, getD, set}
+use lib.ListN.{length, getD}
 use lib.Seq.{sets}
 use Rattle.field.proofs.WordLists.{same-table}
-use Rattle.code.specs.RowTrace.{stored, wordFrom}
+use Rattle.code.specs.steps.Storing.{stored, wordFrom}
 use Rattle.code.proofs.RowLaws.{length-stored, stored-at, stored-off, stored-before}
-use Rattle.columns.specs.Ranges.{copiedRows}
+use Rattle.columns.specs.steps.Ranges.{copiedRows}
 
 module _ (to width from stride count : ℕ) (l : List ℕ) where
   pub length-copied : (n : ℕ) (o : List ℕ) → length (copiedRows to width from stride count l n o) ≡ length o

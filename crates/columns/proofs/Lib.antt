@@ -1,5 +1,5 @@
 pub mod CopiedRows
-pub mod FullTests
+pub mod FullNumbers
 pub mod Places
 pub mod RangeCopies
 pub mod RangeDecoding

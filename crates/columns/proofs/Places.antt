@@ -10,7 +10,7 @@ use native.Mathlib.Omega.{arith}
 use borrow.Author.Tests.{eq-eqb, ne-eqb}
 use lib.Dec.{eqb}
 use lib.ListN.{getD}
-use Rattle.columns.specs.Ranges.{placesTo}
+use Rattle.columns.specs.steps.Ranges.{placesTo}
 use Rattle.field.proofs.Booleans.{both-true, first-false, second-false}
 
 -- NUMBERS THAT ARE THEIR PLACES

@@ -12,8 +12,8 @@ use lib.Arith.{digits-lt}
 use Rattle.code.specs.declared.Stripe.{Stripe}
 use Rattle.code.specs.Stripe.{blockCount}
 use Rattle.decoder.specs.Decoding.{blocksIn}
-use Rattle.image.specs.Loading.{columnsOf}
-use Rattle.columns.specs.Ranges.{copiedRows, placesTo, RangeFits, isConsistentRange, placesNumber, rangeNumber}
+use Rattle.image.specs.steps.Loading.{columnsOf}
+use Rattle.columns.specs.steps.Ranges.{copiedRows, placesTo, RangeFits, isConsistentRange, placesNumber, rangeNumber}
 use Rattle.rows.proofs.ColumnRanges.{columns-at}
 use Rattle.columns.proofs.CopiedRows.{copied-same}
 use Rattle.columns.proofs.Places.{places-same}

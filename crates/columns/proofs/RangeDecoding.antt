@@ -7,14 +7,15 @@ use lib.ListN.{take, drop, replicate}
 use lib.Seq.{take-at, drop-at}
 use Rattle.code.specs.declared.Stripe.{Stripe}
 use Rattle.code.specs.Stripe.{modulusOf, blockCount, positionCount}
-use Rattle.decoder.specs.Decoding.{blocksIn, leftOf}
-use Rattle.decoder.specs.Decoder.{weightsIn}
+use Rattle.decoder.specs.Decoding.{blocksIn}
+use Rattle.decoder.specs.steps.Decoder.{leftOf}
+use Rattle.decoder.specs.steps.Decoder.{weightsIn}
 use Rattle.decoder.proofs.DecodeRows.{leaves-blocks}
-use Rattle.image.specs.Loading.{columnsOf}
-use Rattle.rows.specs.Ready.{narrow}
+use Rattle.image.specs.steps.Loading.{columnsOf}
+use Rattle.rows.specs.steps.Ready.{narrow}
 use Rattle.rows.proofs.ColumnRanges.{decoded-range}
 use Rattle.rows.proofs.RowParts.{length-left, length-blocks}
-use Rattle.columns.specs.Ranges.{isConsistentRange}
+use Rattle.columns.specs.steps.Ranges.{isConsistentRange}
 
 module _ (st : Stripe) (ms : List Bool) (r : List ℕ) (from cols : ℕ) where
   abbrev words : List ℕ

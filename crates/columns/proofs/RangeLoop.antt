@@ -12,9 +12,9 @@ use Rattle.decoder.specs.Decoding.{consistentTo, consistentColumn, isConsistent
 use Rattle.code.specs.Rows.{column}
 use Rattle.code.specs.declared.Stripe.{Stripe}
 use Rattle.code.specs.Stripe.{modulusOf, blockCount, positionCount}
-use Rattle.image.specs.Loading.{columnsOf}
-use Rattle.decoder.specs.Decoder.{weightsIn}
-use Rattle.columns.specs.Ranges.{copiedRows, placesTo, RangeFits, isConsistentRange, placesNumber, rangeNumber, columnsNumber, scratchWords}
+use Rattle.image.specs.steps.Loading.{columnsOf}
+use Rattle.decoder.specs.steps.Decoder.{weightsIn}
+use Rattle.columns.specs.steps.Ranges.{copiedRows, placesTo, RangeFits, isConsistentRange, placesNumber, rangeNumber, columnsNumber, scratchWords}
 use Rattle.field.proofs.Booleans.{both-true, first-false, second-false}
 use Rattle.rows.proofs.ColumnRanges.{is-columns, consistent-range}
 use Rattle.columns.proofs.CopiedRows.{length-copied, copied-at, copied-off}

@@ -7,8 +7,8 @@ use native.Mathlib.Omega.{arith}
 use lib.Pow.{pow-mono}
 use Rattle.code.specs.declared.Stripe.{Stripe}
 use Rattle.code.specs.Stripe.{positionCount}
-use Rattle.rows.specs.Ready.{StripeFits}
-use Rattle.columns.specs.Ranges.{scratchWords}
+use Rattle.rows.specs.StripeFits.{StripeFits}
+use Rattle.columns.specs.steps.Ranges.{scratchWords}
 use borrow.Rule.Slice.PartMut.{putMid}
 use lib.ListN.{length, take, drop, length-append, length-drop, drop-of-length-le}
 use lib.Seq.{take-all, drop-drop, drop-at, length-take-le}

@@ -1,2 +1,1 @@
-pub mod Full
-pub mod Ranges
+pub mod steps

@@ -4,13 +4,14 @@ ghost use mathlib.Core.Path.{_≡_};
 ghost use Prim.Native.Nat.{_*_, _-_, _≤_, pred};
 ghost use lib.ListN.{length, drop, replicate};
 ghost use Rattle.code.specs.Stripe.{blockCount, positionCount, blockWords, stripeWords};
-ghost use Rattle.decoder.specs.Decoder.{weightsIn};
+ghost use Rattle.decoder.specs.steps.Decoder.{weightsIn};
 ghost use Rattle.layout.specs.Refusals.{ifTaken};
-ghost use Rattle.image.specs.Loading.{rowsIn};
+ghost use Rattle.image.specs.steps.Loading.{rowsIn};
 ghost use Rattle.rows.specs.Decoding.{decodedNumber, decodedWords, solved};
-ghost use Rattle.rows.specs.Ready.{StripeFits, Ready};
-ghost use Rattle.columns.specs.Ranges.{scratchWords, allNumber, withoutFirst};
-ghost use Rattle.columns.specs.Full.{decodedData};
+ghost use Rattle.rows.specs.StripeFits.{StripeFits};
+ghost use Rattle.rows.specs.steps.Ready.{Ready};
+ghost use Rattle.columns.specs.steps.Ranges.{scratchWords, allNumber, withoutFirst};
+ghost use Rattle.columns.specs.steps.Full.{decodedData};
 
 // Stores the weights of the positions in the last words of the scratch.
 fn store_weights(st: Stripe, marks: &[bool], scratch: &mut [u32])

@@ -9,10 +9,11 @@ ghost use Prim.Native.Nat.{_+_, _*_, _-_, _≤_, _<_, max};
 ghost use lib.ListN.{length, drop};
 ghost use Rattle.code.specs.Stripe.{blockCount, positionCount, stripeWords};
 ghost use Rattle.decoder.specs.Decoding.{isConsistent};
-ghost use Rattle.decoder.specs.Decoder.{weightsIn};
-ghost use Rattle.image.specs.Loading.{rowsIn};
-ghost use Rattle.rows.specs.Ready.{StripeFits, Ready};
-ghost use Rattle.columns.specs.Ranges.{placesTo, copiedRows, scratchWords, RangeFits, isConsistentRange, arePlaces, rangeTaken, rangeNumber, allNumber, withoutFirst};
+ghost use Rattle.decoder.specs.steps.Decoder.{weightsIn};
+ghost use Rattle.image.specs.steps.Loading.{rowsIn};
+ghost use Rattle.rows.specs.StripeFits.{StripeFits};
+ghost use Rattle.rows.specs.steps.Ready.{Ready};
+ghost use Rattle.columns.specs.steps.Ranges.{placesTo, copiedRows, scratchWords, RangeFits, isConsistentRange, arePlaces, rangeTaken, rangeNumber, allNumber, withoutFirst};
 
 // Copies `count` words of each row.
 fn copy_rows(out: &mut [u32], to: Lines, words: &[u32], from: Lines, count: usize, rows: usize)

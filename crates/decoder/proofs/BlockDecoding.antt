@@ -8,9 +8,9 @@ use lib.ListN.{getD}
 use Rattle.code.specs.Rows.{column, lifted, Column}
 use Rattle.code.specs.Stripe.{coded, codedRows}
 use Rattle.decoder.specs.Decoding.{decodedColumn, consistentColumn, consistentTo, consistent, decodedRows}
-use Rattle.decoder.specs.DecodeTrace.{allTo}
+use Rattle.decoder.specs.steps.RowTests.{allTo}
 use Rattle.decoder.specs.Promises.{Parameters, Enough, Agrees, AgreesRows, FindsBlocks, FoundBlocks}
-use Rattle.decoder.proofs.Tests.{allTo-all, allTo-each}
+use Rattle.decoder.proofs.AllTo.{allTo-all, allTo-each}
 use Rattle.decoder.proofs.Columns.{findsColumn, foundColumn}
 use Rattle.code.proofs.Lifting.{length-column, column-at, words-column, length-lifted, lifted-at, is-lifted, column-lifted, words-lifted}
 

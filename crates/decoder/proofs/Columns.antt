@@ -14,13 +14,13 @@ use Rattle.field.proofs.WordLists.{words-map, getD-map}
 use Rattle.code.specs.Stripe.{coded}
 use Rattle.decoder.specs.Decoding.{survivors, pointAt, valueAt, decodedColumn, agrees, consistentColumn}
 use Rattle.code.specs.Transform.{bitReversed}
-use Rattle.decoder.specs.DecodeTrace.{allTo}
+use Rattle.decoder.specs.steps.RowTests.{allTo}
 use Rattle.decoder.specs.Promises.{Parameters, Enough, Agrees, FindsColumn, FoundColumn}
 use Rattle.code.specs.Rows.{Column}
 use Rattle.code.proofs.Shapes.{words-coded, column-reversed}
 use Rattle.decoder.proofs.BitReversal.{bitReversed-twice}
 use Rattle.decoder.proofs.Survivors.{Survivors, survivors-are}
-use Rattle.decoder.proofs.Tests.{unless-same, same-unless, allTo-all, allTo-each}
+use Rattle.decoder.proofs.AllTo.{unless-same, same-unless, allTo-all, allTo-each}
 use Rattle.decoder.proofs.Points.{point-lt, points-distinct}
 use Rattle.decoder.proofs.Half.{value-same, value-lt, value-is, same-polynomial}
 

@@ -12,10 +12,11 @@ use Rattle.field.specs.Words.{Words}
 use Rattle.field.proofs.WordLists.{words-append}
 use Rattle.code.specs.Transform.{reversed, untransform}
 use Rattle.code.specs.Rows.{column, lifted, Column}
-use Rattle.decoder.specs.Decoding.{decodedColumn, consistentColumn, consistent, decodedRows, rowsLeft}
-use Rattle.decoder.specs.Decoder as Decoder
-use Rattle.decoder.specs.Decoder.{erasedCount, weights, weighed, derived, evaluated, chosen, isLow, splitColumn, solvedColumn, isLowColumn}
-use Rattle.decoder.specs.DecodeTrace.{allTo, sameAt, lowRowAt, lowRows}
+use Rattle.decoder.specs.Decoding.{decodedColumn, consistentColumn, consistent, decodedRows}
+use Rattle.decoder.specs.steps.Decoder.{rowsLeft}
+use Rattle.decoder.specs.steps.Decoder as Decoder
+use Rattle.decoder.specs.steps.Decoder.{erasedCount, weights, weighed, derived, evaluated, chosen, isLow, splitColumn, solvedColumn, isLowColumn}
+use Rattle.decoder.specs.steps.RowTests.{allTo, sameAt, lowRowAt, lowRows}
 use Rattle.decoder.specs.Promises.{Parameters, Enough}
 use Rattle.code.proofs.Shapes.{length-untransform, words-untransform}
 use Rattle.code.proofs.Lifting.{length-column, column-at, words-column, length-lifted, column-lifted, lifted-same, lifted-then, words-lifted}
@@ -26,7 +27,7 @@ use Rattle.decoder.proofs.Folding.{low-all}
 use Rattle.decoder.proofs.Decoder.{solves, low}
 use Rattle.decoder.proofs.DecoderShapes.{length-weighed, length-split, length-derived, length-evaluated, length-chosen, words-weighed, words-split, words-derived, words-evaluated, words-chosen}
 use Rattle.field.proofs.Booleans.{same-truth}
-use Rattle.decoder.proofs.Tests.{allTo-same, allTo-swap, or-allTo}
+use Rattle.decoder.proofs.AllTo.{allTo-same, allTo-swap, or-allTo}
 
 -- A COLUMN passes the check where it is consistent, and what is solved is then what is decoded
 module _ (p w k l t : ℕ) (ms : List Bool) (stripe : Parameters p w k l t) (enough : Enough l ms) (c : List ℕ) (C : Column p (2 ^ suc l) c) where

@@ -16,8 +16,8 @@ use Rattle.code.specs.Transform.{reversed}
 use Rattle.code.specs.Rows.{column, lifted}
 use Rattle.code.specs.declared.Stripe.{Stripe}
 use Rattle.code.specs.Stripe.{blockCount, blockWords, stripeWords}
-use Rattle.decoder.specs.Decoder.{halfOf, derivedAt, derived, divisorAt, chosenAt, chosen, weighedAt, weighed}
-use Rattle.code.specs.RowTrace.{stored}
+use Rattle.decoder.specs.steps.Decoder.{halfOf, derivedAt, derived, divisorAt, chosenAt, chosen, weighedAt, weighed}
+use Rattle.code.specs.steps.Storing.{stored}
 use Rattle.field.proofs.Booleans.{choice-lt}
 use Rattle.code.proofs.Lifting.{length-column, column-at, is-lifted, lifted-append, table-lifted, two-halves}
 use Rattle.decoder.proofs.DecoderShapes.{derived-low, derived-high, chosen-at, weighed-at}

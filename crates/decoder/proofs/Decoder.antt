@@ -23,7 +23,7 @@ use Rattle.field.proofs.WordLists.{getD-table, same-table, words-take, words-dr
 use Rattle.code.specs.Transform.{untransform, turned, scaled, reversed, bitReversed}
 use Rattle.code.specs.Stripe.{coded}
 use Rattle.decoder.specs.Decoding.{pointAt}
-use Rattle.decoder.specs.Decoder.{erasedCount, weightTo, weightAt, weights, weighedAt, weighed, split, lowTo, derived, evaluated, divisorAt, chosenAt, chosen, splitColumn, solvedColumn, isLowColumn}
+use Rattle.decoder.specs.steps.Decoder.{erasedCount, weightTo, weightAt, weights, weighedAt, weighed, split, lowTo, derived, evaluated, divisorAt, chosenAt, chosen, splitColumn, solvedColumn, isLowColumn}
 use Rattle.decoder.specs.Promises.{Parameters, Enough, Agrees}
 use Rattle.code.specs.Rows.{Column}
 use Rattle.field.proofs.Booleans.{either}

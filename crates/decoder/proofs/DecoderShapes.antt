@@ -9,7 +9,7 @@ use Rattle.field.specs.Words.{Words, table}
 use Rattle.field.proofs.Laws.{minus-lt, times-lt}
 use Rattle.field.proofs.WordLists.{words-take, words-drop, words-append, words-table, length-table, getD-table}
 use Rattle.code.specs.Transform.{transform, untransform, turned}
-use Rattle.decoder.specs.Decoder.{weighedAt, weighed, split, derivedAt, derived, evaluated, chosenAt, chosen}
+use Rattle.decoder.specs.steps.Decoder.{weighedAt, weighed, split, derivedAt, derived, evaluated, chosenAt, chosen}
 use Rattle.field.proofs.Booleans.{choice-lt}
 use Rattle.code.proofs.Shapes.{take-half, drop-half, length-halves, length-transform, length-untransform, length-turned, append-low, append-high, words-transform, words-untransform, words-turned}
 

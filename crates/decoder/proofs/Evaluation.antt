@@ -18,7 +18,7 @@ use Rattle.field.proofs.Unity.{power-inverse}
 use Rattle.field.proofs.WordLists.{is-table, words-tail}
 use Rattle.code.specs.Transform.{transform, untransform, turned, scaled, reversed, bitReversed}
 use Rattle.decoder.specs.Decoding.{pointAt}
-use Rattle.decoder.specs.Decoder.{halfOf}
+use Rattle.decoder.specs.steps.Decoder.{halfOf}
 use Rattle.decoder.specs.Promises.{Parameters}
 use Rattle.code.specs.Rows.{Column}
 use Rattle.code.proofs.Shapes.{length-transform, length-untransform, length-scaled, length-turned, length-bitReversed, bitReversed-at, coded-low, coded-high, scaled-at, reversed-lt, words-untransform, column-reversed, column-turned}

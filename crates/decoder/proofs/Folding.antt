@@ -19,10 +19,10 @@ use Rattle.field.proofs.Laws.{plus-lt, minus-lt}
 use Rattle.field.proofs.WordLists.{length-table, getD-table, is-table, same-table, table-low, table-high}
 use Rattle.code.specs.Transform.{transform, untransform, turned, scaled, reversed, bitReversed}
 use Rattle.decoder.specs.Decoding.{pointAt}
-use Rattle.decoder.specs.Decoder.{split, lowTo, halfOf, derivedAt, derived, evaluated}
-use Rattle.decoder.specs.DecodeTrace.{allTo}
+use Rattle.decoder.specs.steps.Decoder.{split, lowTo, halfOf, derivedAt, derived, evaluated}
+use Rattle.decoder.specs.steps.RowTests.{allTo}
 use Rattle.decoder.specs.Promises.{Parameters}
-use Rattle.decoder.proofs.Tests.{unless-same, same-unless, allTo-all, allTo-each}
+use Rattle.decoder.proofs.AllTo.{unless-same, same-unless, allTo-all, allTo-each}
 use Rattle.code.proofs.Shapes.{append-low, append-high, take-half, drop-half, length-scaled, length-bitReversed, bitReversed-at, scaled-at, reversed-lt, column-scaled, column-table}
 use Rattle.decoder.proofs.BitReversal.{reversed-twice}
 use Rattle.decoder.proofs.Coefficients.{euler, euler-is, horner-table, horner-scaled, fold-plus, fold-minus}

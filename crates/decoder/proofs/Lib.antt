@@ -14,7 +14,7 @@ pub mod Points
 pub mod Products
 pub mod Proved
 pub mod Survivors
-pub mod Tests
+pub mod AllTo
 pub mod Values
 pub mod WeightLaws
 pub mod Worked

@@ -17,7 +17,7 @@ use Rattle.field.proofs.Ring.{v, _⊕_, _⊖_, _⊗_, ring, lin, from, fact, no
 use Rattle.field.proofs.Polynomials.{quotient, quotient-length, divide, lift-is, lift-length, horner-lt, minus-zero, no-divisors}
 use Rattle.field.proofs.Laws.{minus-lt}
 use Rattle.decoder.specs.Decoding.{pointAt}
-use Rattle.decoder.specs.Decoder.{weightTo}
+use Rattle.decoder.specs.steps.Decoder.{weightTo}
 use Rattle.field.proofs.Booleans.{either}
 use Rattle.decoder.proofs.Points.{point-lt}
 use Rattle.decoder.proofs.Survivors.{erasedTo, erased-zero, erased-true, erased-false}

@@ -8,7 +8,7 @@ use native.Mathlib.Nat.{zero-add, add-zero}
 use native.Mathlib.Omega.{arith}
 use lib.ListN.{length, getD}
 use Rattle.decoder.specs.Decoding.{survivorsFrom}
-use Rattle.decoder.specs.Decoder.{erasedCount}
+use Rattle.decoder.specs.steps.Decoder.{erasedCount}
 use Rattle.decoder.specs.Promises.{Enough}
 use Rattle.field.proofs.Booleans.{either}
 

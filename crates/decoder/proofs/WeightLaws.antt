@@ -16,7 +16,7 @@ use Rattle.field.proofs.Laws.{minus-lt, times-lt}
 use Rattle.field.proofs.Polynomials.{minus-zero, no-divisors}
 use Rattle.field.proofs.WordLists.{words-table}
 use Rattle.decoder.specs.Decoding.{pointAt}
-use Rattle.decoder.specs.Decoder.{weightTo}
+use Rattle.decoder.specs.steps.Decoder.{weightTo}
 use Rattle.decoder.specs.Promises.{Parameters}
 use Rattle.field.proofs.Booleans.{either, choice-lt}
 use Rattle.decoder.proofs.Points.{point-lt, points-distinct}

@@ -12,7 +12,7 @@ use Rattle.field.specs.Words.{table}
 use Rattle.code.specs.Transform.{sumAt, differenceAt, mixed, transform, evenAt, oddAt, unmixed, untransform, reversed, turned, bitReversed}
 use Rattle.code.specs.Stripe.{coded}
 use Rattle.decoder.specs.Decoding.{survivorsFrom, pointAt, valueAt, decodedColumn, agrees, consistentColumn}
-use Rattle.decoder.specs.Decoder.{weightTo, weighedAt, weighed, split, lowTo, halfOf, derivedAt, derived, evaluated, divisorAt, chosenAt, chosen, solvedColumn, isLowColumn}
+use Rattle.decoder.specs.steps.Decoder.{weightTo, weighedAt, weighed, split, lowTo, halfOf, derivedAt, derived, evaluated, divisorAt, chosenAt, chosen, solvedColumn, isLowColumn}
 
 abbrev w : ℕ
 w = rootOf fermat 2

@@ -1,10 +1,10 @@
 -- Decoding of a stripe from any half of its positions: what the words are, however they are found (docs/FORMAT.md, section 7). A mark is true where a
 -- position is erased. Assumes nothing: these are definitions.
 use mathlib.Core.Bool.{Bool, true, false, _&&_, _||_}
-use mathlib.Core.List.{List, [], _∷_, _++_, map}
+use mathlib.Core.List.{List, [], _∷_, map}
 use Prim.Native.Nat.{ℕ, zero, suc, _+_, _*_, _-_, _/_, _^_}
 use lib.Dec.{ltb, eqb}
-use lib.ListN.{getD, take, replicate}
+use lib.ListN.{getD, take}
 use Rattle.field.specs.Residue.{times}
 use Rattle.field.specs.Power.{power, inverse}
 use Rattle.field.specs.Polynomial.{interpolate}
@@ -59,20 +59,9 @@ consistent p w k l t width ms r = consistentTo p w k l t width ms r width
 unfoldable pub decodedRows : (p w k level first width : ℕ) → (marks : List Bool) → (rows : List ℕ) → List ℕ
 decodedRows p w k l t width ms r = lifted width (2 ^ suc l) (2 ^ l) (decodedColumn p w k l t ms) r
 
--- what decoding leaves of the stripe's rows: the blocks and zeros after them, or zeros where no blocks code to the surviving words
-unfoldable pub rowsLeft : (p w k level first width : ℕ) → (marks : List Bool) → (rows : List ℕ) → List ℕ
-rowsLeft p w k l t width ms r =
-    elim (consistent p w k l t width ms r) [
-      | true ↦ decodedRows p w k l t width ms r ++ replicate (2 ^ l * width) 0
-      | false ↦ replicate (2 ^ suc l * width) 0
-    ]
-
--- A STRIPE BY ITS NUMBERS, its marks and its rows: whether some blocks code to all surviving words, the blocks, and what decoding leaves of the rows
+-- A STRIPE BY ITS NUMBERS, its marks and its rows: whether some blocks code to all surviving words, and the blocks
 abbrev pub isConsistent : Stripe → (marks : List Bool) → (rows : List ℕ) → Bool
 isConsistent st ms r = consistent (modulusOf st) (st .root) (st .k) (st .level) (st .first) (st .width) ms r
 
 abbrev pub blocksIn : Stripe → (marks : List Bool) → (rows : List ℕ) → List ℕ
 blocksIn st ms r = decodedRows (modulusOf st) (st .root) (st .k) (st .level) (st .first) (st .width) ms r
-
-abbrev pub leftOf : Stripe → (marks : List Bool) → (rows : List ℕ) → List ℕ
-leftOf st ms r = rowsLeft (modulusOf st) (st .root) (st .k) (st .level) (st .first) (st .width) ms r

@@ -1,4 +1,3 @@
-pub mod DecodeTrace
-pub mod Decoder
 pub mod Decoding
 pub mod Promises
+pub mod steps

@@ -9,10 +9,11 @@ ghost use Rattle.field.specs.Field.{fermat};
 ghost use Rattle.field.specs.Words.{Words};
 ghost use Rattle.code.specs.Rows.{lifted};
 ghost use Rattle.code.specs.Stripe.{Numbers, modulusOf, blockCount, positionCount, blockWords, stripeWords};
-ghost use Rattle.decoder.specs.Decoding.{isConsistent, leftOf};
-ghost use Rattle.decoder.specs.Decoder as Decoder;
-ghost use Rattle.code.specs.RowTrace.{stored, scaledWord};
-ghost use Rattle.decoder.specs.DecodeTrace.{deriveAt, allTo, sameAt, lowRows};
+ghost use Rattle.decoder.specs.Decoding.{isConsistent};
+ghost use Rattle.decoder.specs.steps.Decoder.{leftOf};
+ghost use Rattle.decoder.specs.steps.Decoder as Decoder;
+ghost use Rattle.code.specs.steps.Storing.{stored, scaledWord};
+ghost use Rattle.decoder.specs.steps.RowTests.{deriveAt, allTo, sameAt, lowRows};
 ghost use Rattle.decoder.specs.Promises.{Enough};
 
 // Step 1: multiplies each row by its position's weight, and clears the rows of erased positions.

@@ -7,9 +7,9 @@ ghost use lib.ListN.{length, take, drop, replicate};
 ghost use Rattle.field.specs.Field.{fermat};
 ghost use Rattle.field.specs.Words.{Words, table};
 ghost use Rattle.decoder.specs.Decoding.{pointAt};
-ghost use Rattle.decoder.specs.Decoder.{weightsIn};
+ghost use Rattle.decoder.specs.steps.Decoder.{weightsIn};
 ghost use Rattle.code.specs.Stripe.{Numbers, modulusOf, positionCount};
-ghost use Rattle.code.specs.RowTrace.{weighedBy};
+ghost use Rattle.code.specs.steps.Storing.{weighedBy};
 
 // Stores the points of all positions at the start: those of X, then those of Y.
 fn points(part: &mut [u32], st: Stripe)

@@ -1,6 +1,6 @@
 pub mod WordBytes
 pub mod ErasureLists
-pub mod ImageTests
+pub mod ImageRefusals
 pub mod ImageWords
 pub mod Marking
 pub mod StripeLoads

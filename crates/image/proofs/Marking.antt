@@ -15,7 +15,7 @@ use Rattle.layout.specs.declared.Header.{Header}
 use Rattle.layout.specs.Header.{width, stripeAt}
 use Rattle.image.specs.Image.{numberAt}
 use Rattle.image.specs.Erasures.{Erasure, erasureAt, erasuresFrom, erasuresIn, touched, flagsFrom, positionAt, markAt, marksOf}
-use Rattle.image.specs.MarkTrace.{erasure, markFor, marksFor, isBetween, Marked}
+use Rattle.image.specs.steps.Marking.{erasure, markFor, marksFor, isBetween, Marked}
 
 -- FROM low UP TO high
 module _ (low high i : ℕ) where

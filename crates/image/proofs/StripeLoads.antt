@@ -1,25 +1,26 @@
 -- The words of a stripe out of an image: the loops that load them and test them, and what the loaded words are to the decoder. Assumes nothing.
 use mathlib.Core.Path.{_≡_, refl, sym, ap, ap₂, _∙_}
 use mathlib.Core.Bool.{Bool, true, false, _&&_, and-true, and-false, and-assoc}
-use mathlib.Core.List.{List, [], _∷_, _++_, append-assoc}
-use Prim.Native.Nat.{ℕ, zero, suc, _+_, _*_, _-_, _/_, _%_, _≤_, _<_}
-use native.Mathlib.Nat.{add-zero, zero-mul}
+use mathlib.Core.List.{List, [], _∷_, _++_}
+use Prim.Native.Nat.{ℕ, zero, suc, _+_, _*_, _/_, _%_, _≤_, _<_}
+use native.Mathlib.Nat.{zero-mul}
 use native.Mathlib.Decide.{decLt}
 use native.Mathlib.Numerals.{add-one}
 use native.Mathlib.Omega.{arith}
 use lib.Arith.{digits-lt, digits-div, digits-mod}
 use lib.Dec.{ltb}
 use borrow.Author.Tests.{ltb-true, lt-ltb, le-ltb}
-use lib.ListN.{length, getD, set, take, drop, length-append, length-set, length-take, length-drop, take-append-drop, drop-of-length-le, List·getD-eq-default}
-use lib.Seq.{length-take-le, take-take, take-at, set-at, drop-drop, drop-cons, getD-take, getD-drop, drop-append-add}
+use lib.ListN.{length, getD, take, drop, length-take, length-drop, take-append-drop, drop-of-length-le, List·getD-eq-default}
+use lib.Seq.{length-take-le, take-take, drop-drop, drop-cons, getD-take, getD-drop}
 use Rattle.field.specs.Words.{Words, table}
-use Rattle.field.proofs.WordLists.{words-nil, words-cons, words-table, length-table, getD-table, is-table, two-tables}
+use Rattle.field.proofs.WordLists.{words-nil, words-cons, words-table, length-table, getD-table, is-table}
 use Rattle.code.proofs.Lifting.{row-next, row-in}
 use Rattle.layout.specs.declared.Header.{Header}
 use Rattle.layout.specs.Header.{width, stripeSize, stripeAt}
 use Rattle.image.specs.Image.{numberOf, numberAt, wordAt, wordsOf}
-use Rattle.image.specs.Loading.{stripeIn, survivingAt, surviving, areBelow, columnsWord, columnsOf}
-use Rattle.image.specs.LoadTrace.{rowWord}
+use Rattle.image.specs.Loading.{stripeIn, survivingAt, surviving, areBelow}
+use Rattle.image.specs.steps.Loading.{columnsWord, columnsOf}
+use Rattle.image.specs.steps.Loading.{rowWord}
 
 -- WORDS BELOW p
 below-append : (p : ℕ) (a b : List ℕ) → areBelow p (a ++ b) ≡ (areBelow p a && areBelow p b)

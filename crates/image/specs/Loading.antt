@@ -1,15 +1,12 @@
--- A stripe's rows: its bytes in an image, its words with 0 at erased positions, and ranges of its columns. Assumes nothing: these are definitions.
+-- A stripe's bytes in an image, and its words with 0 at erased positions. Assumes nothing: these are definitions.
 use mathlib.Core.Bool.{Bool, true, false, _&&_}
 use mathlib.Core.List.{List, [], _∷_}
-use Prim.Native.Nat.{ℕ, _+_, _*_, _/_, _%_}
+use Prim.Native.Nat.{ℕ, _*_, _/_}
 use lib.Dec.{ltb}
 use lib.ListN.{getD, take, drop}
 use Rattle.field.specs.Words.{table}
-use Rattle.code.specs.declared.Stripe.{Stripe}
-use Rattle.code.specs.Stripe.{positionCount}
 use Rattle.layout.specs.declared.Header.{Header}
 use Rattle.layout.specs.Header.{stripeAt, stripeSize}
-use Rattle.image.specs.Image.{wordsOf}
 
 -- the bytes of a stripe in an image
 abbrev pub stripeIn : Header → (image : List ℕ) → (stripe : ℕ) → List ℕ
@@ -22,16 +19,6 @@ survivingAt width ms r q = elim (getD ms (q / width) false) [ true ↦ 0 | false
 abbrev pub surviving : (width n : ℕ) → (marks : List Bool) → (rows : List ℕ) → List ℕ
 surviving width n ms r = table (n * width) (survivingAt width ms r)
 
-abbrev pub rowsIn : Stripe → (marks : List Bool) → (bytes : List ℕ) → List ℕ
-rowsIn st ms bs = surviving (st .width) (positionCount st) ms (wordsOf bs)
-
 unfoldable pub areBelow : (p : ℕ) → List ℕ → Bool
 areBelow p [] = true
 areBelow p (x ∷ xs) = ltb x p && areBelow p xs
-
--- THE COLUMNS `from` up to `from + cols` of n rows of `width` words
-unfoldable pub columnsWord : (width from cols : ℕ) → (rows : List ℕ) → (q : ℕ) → ℕ
-columnsWord width from cols r q = getD r (q / cols * width + (from + q % cols)) 0
-
-unfoldable pub columnsOf : (width from cols n : ℕ) → (rows : List ℕ) → List ℕ
-columnsOf width from cols n r = table (n * cols) (columnsWord width from cols r)

@@ -2,12 +2,12 @@
 use layout::Header;
 ghost use mathlib.Core.Path.{_≡_};
 ghost use mathlib.Core.Bool.{false, _&&_, true};
-ghost use mathlib.Core.List.{_∷_, []};
+ghost use mathlib.Core.List.{[], _∷_};
 ghost use Prim.Native.Nat.{_+_, _*_, _%_, _≤_, _<_, _-_, suc};
 ghost use lib.Dec.{eqb};
 ghost use lib.ListN.{length, replicate};
 ghost use Rattle.image.specs.Erasures.{erasuresIn, erasuresRise, erasuresFit, marksOf};
-ghost use Rattle.image.specs.MarkTrace.{Marked, isBetween, erasure, markFor, marksFor};
+ghost use Rattle.image.specs.steps.Marking.{Marked, isBetween, erasure, markFor, marksFor};
 ghost use Rattle.layout.specs.Header.{headerFits, count, width, scratchSize, imageSize};
 ghost use Rattle.layout.specs.Refusals.{done, test, refusal};
 

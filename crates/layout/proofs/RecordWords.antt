@@ -7,11 +7,11 @@ use Prim.Native.Nat.{ℕ, zero, suc, _+_, _*_, _≤_, _<_}
 use native.Mathlib.Nat.{eq-or-lt-of-le, mul-le-mul-right, zero-mul}
 use native.Mathlib.Omega.{arith}
 use lib.Dec.{lit<}
-use lib.ListN.{length, take, drop, length-append, length-drop}
+use lib.ListN.{length, take, drop, length-drop}
 use lib.Seq.{sets-eq, length-take-le, take-add, take-all}
 use borrow.Author.Tests.{leb-true, le-leb}
 use Rattle.field.specs.Words.{Words}
-use Rattle.field.proofs.WordLists.{words-nil, words-cons, words-tail, words-take, words-drop, words-append}
+use Rattle.field.proofs.WordLists.{words-nil, words-cons, words-tail}
 use Rattle.layout.specs.Records.{isData, areData, recordIn, replaced, recordsFit}
 use Rattle.field.proofs.Booleans.{both-true, first-true, second-true, first-false, second-false}
 

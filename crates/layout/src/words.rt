@@ -2,7 +2,7 @@
 ghost use mathlib.Core.Path.{_≡_};
 ghost use Prim.Native.Nat.{_+_, _*_, _≤_};
 ghost use lib.ListN.{length, replicate};
-ghost use Rattle.code.specs.RowTrace.{stored, wordFrom};
+ghost use Rattle.code.specs.steps.Storing.{stored, wordFrom};
 ghost use Rattle.layout.specs.Records.{areData, recordsFit};
 
 // Copies `count` words from index `from` on to index `to` on.

@@ -1,15 +1,13 @@
 -- Blocks laid over records one after the other: the loop that lays them. Assumes nothing.
-use mathlib.Core.Path.{_≡_, refl, sym, ap, ap₂, _∙_}
-use mathlib.Core.List.{List, _++_, append-assoc}
+use mathlib.Core.Path.{_≡_, refl, sym, ap, _∙_}
+use mathlib.Core.List.{List}
 use Prim.Native.Nat.{ℕ, suc, _+_, _*_, _≤_, _<_}
 use native.Mathlib.Nat.{zero-mul, mul-le-mul-right}
 use native.Mathlib.Numerals.{add-one}
 use native.Mathlib.Omega.{arith}
 use lib.ListN.{length, getD, take, drop, length-drop}
 use lib.Seq.{length-take-le, getD-take, getD-drop}
-use Rattle.field.specs.Words.{table}
-use Rattle.field.proofs.WordLists.{is-table}
-use Rattle.code.specs.RowTrace.{stored, wordFrom}
+use Rattle.code.specs.steps.Storing.{stored, wordFrom}
 use Rattle.code.proofs.RowLaws.{length-stored, stored-list}
 use Rattle.layout.specs.Records.{replaced}
 use Rattle.recovery.specs.Recovery.{laid}

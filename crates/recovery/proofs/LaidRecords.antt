@@ -15,17 +15,18 @@ use Rattle.code.specs.Stripe.{blockCount, positionCount, blockWords, stripeWord
 use Rattle.decoder.specs.Decoding.{isConsistent, blocksIn}
 use Rattle.field.proofs.Booleans.{first-true, second-true}
 use Rattle.layout.specs.Records.{recordsFit}
-use Rattle.image.specs.Loading.{columnsOf}
+use Rattle.image.specs.steps.Loading.{columnsOf}
 use Rattle.rows.specs.Decoding.{Decoded, failed, decoded, blockNumber, blockData, areRecords, decodedNumber, decodedWords, solved}
 use Rattle.rows.proofs.BlockRecords.{record-at, number-low}
 use Rattle.rows.proofs.ColumnRanges.{columns-none, length-columns}
 use Rattle.rows.proofs.RowParts.{length-blocks}
-use Rattle.rows.proofs.StripeTests.{solved-nine, solved-ten, solved-blocks}
-use Rattle.columns.specs.Ranges.{placesTo}
-use Rattle.columns.specs.Full.{dataOf, decodedData}
+use Rattle.rows.proofs.StripeNumbers.{solved-nine, solved-ten, solved-blocks}
+use Rattle.columns.specs.steps.Ranges.{placesTo}
+use Rattle.columns.specs.steps.Full.{dataOf, decodedData}
 use Rattle.stripe.proofs.LevelParts.{lent-front}
-use Rattle.columns.proofs.FullTests.{data-row, records-full}
-use Rattle.recovery.specs.Recovery.{laid, laidFrom}
+use Rattle.columns.proofs.FullNumbers.{data-row, records-full}
+use Rattle.recovery.specs.Recovery.{laid}
+use Rattle.recovery.specs.steps.Laying.{laidFrom}
 
 -- WHAT A STRIPE THAT GIVES 0 CAME TO: blocks that are records
 pub solved-zero : (st : Stripe) (ms : List Bool) (r : List ℕ) → decodedNumber (solved st ms r) ≡ 0

@@ -13,7 +13,8 @@ use Rattle.layout.specs.declared.Header.{Header}
 use Rattle.layout.specs.Header.{isFilled}
 use Rattle.image.specs.Loading.{areBelow}
 use Rattle.rows.specs.Decoding.{Decoded, failed, decoded, areRecords, decodedNumber, decodeMarked}
-use Rattle.recovery.specs.Recovery.{Recovered, stopped, recovered, laid, laidFrom, thenLay, levelsOver}
+use Rattle.recovery.specs.Recovery.{Recovered, stopped, recovered, laid, thenLay, levelsOver}
+use Rattle.recovery.specs.steps.Laying.{laidFrom}
 
 -- WHAT A STRIPE DECODED TO, by its number
 pub failed-is : (d : Decoded) {r : ℕ} → r ≡ decodedNumber d → (r ≡ 0 → ⊥) → d ≡ failed r

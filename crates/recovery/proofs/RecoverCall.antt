@@ -9,7 +9,8 @@ use Rattle.layout.specs.Header.{count, rawSize, scratchSize}
 use Rattle.image.specs.Erasures.{erasuresIn}
 use Rattle.rows.specs.Decoding.{Decoded, decodedNumber}
 use Rattle.stripe.specs.Decoding.{decodeStripe}
-use Rattle.recovery.specs.Recovery.{Recovered, stopped, recovered, laid, laidFrom, thenLay, levelsOver, recover}
+use Rattle.recovery.specs.Recovery.{Recovered, stopped, recovered, laid, thenLay, levelsOver, recover}
+use Rattle.recovery.specs.steps.Laying.{laidFrom}
 use Rattle.recovery.specs.RecoveryCall.{recoverEarly, unnamed, answerOf, recoveredWords, recoverAnswer, recoverLeaves, recoverScratch}
 use Rattle.layout.proofs.Refusals.{if-taken, if-refused}
 use Rattle.recovery.proofs.LevelsRecovery.{Sound, failed-is, then-laid}

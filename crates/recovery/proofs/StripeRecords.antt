@@ -10,12 +10,13 @@ use Rattle.code.specs.Stripe.{blockCount}
 use Rattle.layout.specs.declared.Header.{Header}
 use Rattle.layout.specs.Header.{rawSize, stripeOf}
 use Rattle.image.specs.Erasures.{Erasure, marksOf}
-use Rattle.image.specs.Loading.{stripeIn, rowsIn}
+use Rattle.image.specs.Loading.{stripeIn}
+use Rattle.image.specs.steps.Loading.{rowsIn}
 use Rattle.rows.specs.Decoding.{Decoded, decodedNumber, solved}
-use Rattle.columns.specs.Full.{decodedData}
+use Rattle.columns.specs.steps.Full.{decodedData}
 use Rattle.stripe.specs.Decoding.{decodeStripe}
 use Rattle.stripe.proofs.StripeAnswers.{Handed, readyOf, unready-is, same-solved, numbers-fit, is-full}
-use Rattle.recovery.specs.Recovery.{laidFrom}
+use Rattle.recovery.specs.steps.Laying.{laidFrom}
 use Rattle.decoder.specs.Decoding.{blocksIn}
 use Rattle.recovery.proofs.LaidRecords.{data-laid}
 use Rattle.recovery.proofs.LevelsRecovery.{Sound, decoded-is}

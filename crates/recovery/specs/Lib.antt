@@ -1,2 +1,3 @@
 pub mod Recovery
 pub mod RecoveryCall
+pub mod steps

@@ -14,11 +14,6 @@ unfoldable pub laid : (s : ℕ) → (blocks : List ℕ) → (n : ℕ) → (raw :
 laid s bs zero r = r
 laid s bs (suc j) r = replaced s (laid s bs j r) (blockNumber (suc s) bs j) (blockData (suc s) bs j)
 
--- what a stripe of n blocks makes of them: a stripe that fails leaves them as they are
-abbrev pub laidFrom : (s : ℕ) → Decoded → (n : ℕ) → (raw : List ℕ) → List ℕ
-laidFrom s (failed x) n r = r
-laidFrom s (decoded bs) n r = laid s bs n r
-
 pub data Recovered : Type 0 where
   stopped : (number stripe : ℕ) → Recovered
   recovered : (raw : List ℕ) → Recovered

@@ -9,11 +9,12 @@ ghost use lib.ListN.{length, replicate};
 ghost use Rattle.code.specs.Stripe.{blockCount, stripeWords};
 ghost use Rattle.layout.specs.Header.{headerFits, count, rawSize, scratchSize, imageSize};
 ghost use Rattle.image.specs.Erasures.{erasuresIn};
-ghost use Rattle.image.specs.Loading.{rowsIn};
+ghost use Rattle.image.specs.steps.Loading.{rowsIn};
 ghost use Rattle.rows.specs.Decoding.{blockNumber, decodedNumber, solved};
-ghost use Rattle.rows.specs.Ready.{Ready};
+ghost use Rattle.rows.specs.steps.Ready.{Ready};
 ghost use Rattle.stripe.specs.Decoding.{decodeStripe};
-ghost use Rattle.recovery.specs.Recovery.{laid, laidFrom, levelsOver, recover};
+ghost use Rattle.recovery.specs.Recovery.{laid, levelsOver, recover};
+ghost use Rattle.recovery.specs.steps.Laying.{laidFrom};
 ghost use Rattle.recovery.specs.RecoveryCall.{answerOf, recoveredWords, recoverAnswer, recoverLeaves, recoverScratch};
 
 // Lays blocks of s data words over the records, one after the other.

@@ -1,7 +1,7 @@
 -- Ranges of columns: a stripe is consistent if each range of its columns is, and the blocks of a range are those columns of the blocks. Assumes nothing.
 use mathlib.Core.Path.{_≡_, sym, ap, _∙_}
 use mathlib.Core.Bool.{Bool, _&&_, and-assoc}
-use mathlib.Core.List.{List, _++_, []}
+use mathlib.Core.List.{List, [], _++_}
 use Prim.Native.Nat.{ℕ, zero, suc, _+_, _*_, _^_, _≤_, _<_}
 use native.Mathlib.Nat.{add-zero, add-suc, zero-mul}
 use native.Mathlib.Omega.{arith}
@@ -12,7 +12,7 @@ use Rattle.field.proofs.WordLists.{length-table, getD-table, is-table, two-tabl
 use Rattle.code.specs.Rows.{column, lifted}
 use Rattle.decoder.specs.Decoding.{consistentTo, consistent, decodedColumn, decodedRows}
 use Rattle.code.proofs.Lifting.{length-column, column-at, length-lifted, lifted-at, rows-ext}
-use Rattle.image.specs.Loading.{columnsWord, columnsOf}
+use Rattle.image.specs.steps.Loading.{columnsWord, columnsOf}
 use Rattle.field.specs.Words.{table}
 
 module _ (width from cols n : ℕ) (r : List ℕ) where

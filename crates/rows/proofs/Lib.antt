@@ -3,4 +3,4 @@ pub mod ColumnRanges
 pub mod Proved
 pub mod RowDecoding
 pub mod RowParts
-pub mod StripeTests
+pub mod StripeNumbers

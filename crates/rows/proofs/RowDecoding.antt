@@ -22,7 +22,7 @@ use Rattle.image.specs.Loading.{survivingAt, surviving, areBelow}
 use Rattle.image.proofs.StripeLoads.{below-words, surviving-marked, surviving-kept}
 use Rattle.rows.specs.Decoding.{Decoded, failed, decoded, areRecords, solved, decodeMarked, decodeRows}
 use Rattle.rows.specs.Promises.{Codes, InField, OutOfField, Readable, SevenIff, EightIff, ElseReadable, DecodesIff, NineIff, TenIff, OneList}
-use Rattle.rows.proofs.StripeTests.{solved-nine, solved-ten, solved-blocks}
+use Rattle.rows.proofs.StripeNumbers.{solved-nine, solved-ten, solved-blocks}
 
 -- WORDS BELOW p, and the test for them
 words-below : (p : ℕ) (xs : List ℕ) → Words p xs → areBelow p xs ≡ true

@@ -14,13 +14,15 @@ use Rattle.field.specs.Words.{Words, table}
 use Rattle.field.proofs.WordLists.{length-table, words-append}
 use Rattle.code.specs.declared.Stripe.{Stripe}
 use Rattle.code.specs.Stripe.{modulusOf, positionCount, blockWords, stripeWords, Numbers}
-use Rattle.decoder.specs.Decoding.{pointAt, isConsistent, blocksIn, leftOf}
-use Rattle.decoder.specs.Decoder.{weightAt, weightsIn}
+use Rattle.decoder.specs.Decoding.{pointAt, isConsistent, blocksIn}
+use Rattle.decoder.specs.steps.Decoder.{leftOf}
+use Rattle.decoder.specs.steps.Decoder.{weightAt, weightsIn}
 use Rattle.decoder.proofs.DecodeRows.{leaves-blocks, leaves-zeros}
 use Rattle.decoder.proofs.WeightLaws.{words-weights}
-use Rattle.image.specs.Loading.{columnsOf, areBelow}
+use Rattle.image.specs.Loading.{areBelow}
+use Rattle.image.specs.steps.Loading.{columnsOf}
 use Rattle.image.proofs.StripeLoads.{below-words, columns-words}
-use Rattle.rows.specs.Ready.{narrow}
+use Rattle.rows.specs.steps.Ready.{narrow}
 use Rattle.rows.proofs.ColumnRanges.{length-columns, length-decoded}
 
 -- twice the blocks are the positions, so twice the blocks' words are the rows

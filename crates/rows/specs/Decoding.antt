@@ -41,11 +41,6 @@ abbrev pub decodedWords : Decoded → (size : ℕ) → List ℕ
 decodedWords (failed n) size = replicate size 0
 decodedWords (decoded bs) size = bs ++ replicate (size - length bs) 0
 
--- 7 or 8, which is known before a stripe is decoded; 0 if neither. The rows have zeros at erased positions
-abbrev pub readyNumber : Stripe → (marks : List Bool) → (rows : List ℕ) → ℕ
-readyNumber st ms r =
-    elim (ltb (length (survivors (st .level) ms)) (blockCount st)) [ true ↦ 7 | false ↦ elim (areBelow (modulusOf st) r) [ true ↦ 0 | false ↦ 8 ] ]
-
 -- what surviving words that are all of the field come to
 abbrev pub solved : Stripe → (marks : List Bool) → (rows : List ℕ) → Decoded
 solved st ms r =

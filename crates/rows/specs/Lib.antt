@@ -1,3 +1,4 @@
 pub mod Decoding
 pub mod Promises
-pub mod Ready
+pub mod StripeFits
+pub mod steps

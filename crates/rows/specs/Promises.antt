@@ -12,7 +12,7 @@ use Rattle.code.specs.Rows.{Column}
 use Rattle.decoder.specs.Decoding.{survivors}
 use Rattle.decoder.specs.Promises.{Enough, AgreesRows}
 use Rattle.rows.specs.Decoding.{failed, decoded, areRecords, decodeRows}
-use Rattle.rows.specs.Ready.{StripeFits}
+use Rattle.rows.specs.StripeFits.{StripeFits}
 
 -- bs are blocks of words of the field that code to all surviving words
 pub record Codes (st : Stripe) (ms : List Bool) (r bs : List ℕ) : Type 0 where

@@ -6,7 +6,7 @@ ghost use lib.Dec.{eqb, ltb};
 ghost use lib.ListN.{length};
 ghost use Rattle.code.specs.Stripe.{blockCount, blockWords};
 ghost use Rattle.rows.specs.Decoding.{areRecords};
-ghost use Rattle.rows.specs.Ready.{StripeFits};
+ghost use Rattle.rows.specs.StripeFits.{StripeFits};
 
 // Whether a number is one that block j may have: its place on the full stripe, and below n on a level.
 fn number_fits(full: bool, n: usize, j: usize, number: usize) -> bool

@@ -1,4 +1,4 @@
--- Laws of `folded` of specs/WriteTrace: the loop that folds a half, and its words. Assumes nothing.
+-- Laws of `folded` of specs/steps/Writing: the loop that folds a half, and its words. Assumes nothing.
 use mathlib.Core.Path.{_≡_, refl, sym, ap, _∙_}
 use mathlib.Core.List.{List, _++_, append-assoc}
 use Prim.Native.Nat.{ℕ, zero, suc, _+_, _-_, _*_, _/_, _^_, _≤_, _<_}
@@ -19,7 +19,7 @@ use Rattle.field.proofs.Unity.{two-div}
 use Rattle.code.proofs.Blocks.{pow-down, mixing-block}
 use Rattle.code.proofs.Lifting.{length-lifted}
 use Rattle.code.proofs.RowLaws.{Parts, length-parts, lent-front, lent-rest, put-rest}
-use Rattle.store.specs.WriteTrace.{folded}
+use Rattle.store.specs.steps.Writing.{folded}
 
 module _ (p w k width : ℕ) where
   pub length-folded : (l : ℕ) (r : List ℕ) → length r ≡ 2 ^ l * width → length (folded p w k width l r) ≡ 2 ^ l * width

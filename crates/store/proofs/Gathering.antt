@@ -1,4 +1,4 @@
--- Where halves stand in the log, and laws of `gathered` of specs/WriteTrace: the loop that copies the levels below. Assumes nothing.
+-- Where halves stand in the log, and laws of `gathered` of specs/steps/Writing: the loop that copies the levels below. Assumes nothing.
 use mathlib.Core.Path.{_≡_, refl, sym, ap, ap₂, _∙_}
 use mathlib.Core.List.{List, _++_}
 use Prim.Native.Nat.{ℕ, zero, suc, _+_, _-_, _*_, _^_, _≤_, _<_}
@@ -8,7 +8,7 @@ use lib.Pow.{pow-pos, pow-mono}
 use lib.ListN.{length, take, drop}
 use lib.Seq.{sets, length-sets}
 use Rattle.store.specs.Buffers.{reduced}
-use Rattle.store.specs.WriteTrace.{halfStart, halfIn, gathered}
+use Rattle.store.specs.steps.Writing.{halfStart, halfIn, gathered}
 use Rattle.field.proofs.WordLists.{sets-append}
 use Rattle.store.proofs.Stores.{take-sets, part-inside, length-copy}
 

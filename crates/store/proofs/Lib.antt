@@ -1,8 +1,8 @@
-pub mod BufferTests
+pub mod BufferRefusals
 pub mod Folding
 pub mod Gathering
-pub mod OpenTests
+pub mod OpenRefusals
 pub mod RebuiltLog
 pub mod StoredRecords
 pub mod Stores
-pub mod WriteTests
+pub mod WriteRefusals

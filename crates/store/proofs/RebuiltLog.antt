@@ -17,7 +17,7 @@ use Rattle.code.specs.Transform.{mixedHalves, scaled}
 use Rattle.layout.specs.declared.Header.{Header}
 use Rattle.layout.specs.Header.{vaultRoot, count, width, levelAt, stripeSize}
 use Rattle.store.specs.Writing.{newRow, rebuiltHalf, logWith}
-use Rattle.store.specs.WriteTrace.{halfStart, halfIn, gathered, folded}
+use Rattle.store.specs.steps.Writing.{halfStart, halfIn, gathered, folded}
 use Rattle.store.proofs.StoredRecords.{words-reduced}
 use Rattle.store.proofs.Stores.{take-sets, length-copy}
 use Rattle.store.proofs.Gathering.{gathered-same, half-end, rows-double, next-level}

@@ -1,14 +1,12 @@
 -- Laws of specs/Buffers: words modulo p, and the lengths and words of blocks and the full stripe. Assumes nothing.
 use mathlib.Core.Path.{_≡_, refl, sym, ap, ap₂, _∙_}
 use mathlib.Core.List.{List, [], _∷_}
-use Prim.Native.Nat.{ℕ, zero, suc, _+_, _*_, _^_, _≤_, _<_}
+use Prim.Native.Nat.{ℕ, zero, suc, _+_, _*_, _≤_, _<_}
 use native.Mathlib.Nat.{mod-eq-of-lt, mod-lt, zero-mul}
 use native.Mathlib.Omega.{arith}
 use lib.ListN.{length, length-append}
 use Rattle.field.specs.Words.{Words}
 use Rattle.field.proofs.WordLists.{words-nil, words-cons, words-tail, words-append}
-use Rattle.code.specs.Stripe.{coded, codedRows}
-use Rattle.code.proofs.Lifting.{length-lifted}
 use Rattle.code.proofs.CodedRows.{length-coded-rows}
 use Rattle.layout.specs.declared.Header.{Header}
 use Rattle.layout.specs.Header.{primeOf, vaultRoot, width, fullSize}

@@ -1,10 +1,10 @@
 -- Laws of stores: what stands before them, a part of a part, words copied modulo p. Assumes nothing.
-use mathlib.Core.Path.{_≡_, refl, sym, ap, _∙_}
-use mathlib.Core.List.{List, [], _∷_, _++_, append-assoc}
-use Prim.Native.Nat.{ℕ, zero, suc, _+_, _*_, _%_, _≤_, _<_}
+use mathlib.Core.Path.{_≡_, refl, _∙_}
+use mathlib.Core.List.{List, [], _∷_}
+use Prim.Native.Nat.{ℕ, zero, suc, _+_, _%_, _≤_, _<_}
 use native.Mathlib.Omega.{arith}
 use lib.ListN.{length, getD, set, take, drop, length-drop}
-use lib.Seq.{sets, sets-eq, length-take-le, getD-take, getD-drop, take-set-le, take-take}
+use lib.Seq.{sets, length-take-le, getD-take, getD-drop, take-set-le, take-take}
 use Rattle.store.specs.Buffers.{reduced}
 use Rattle.store.proofs.StoredRecords.{length-reduced}
 

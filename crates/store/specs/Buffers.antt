@@ -1,6 +1,6 @@
 -- Records as blocks, the full stripe, and the buffers that a vault lives in. Assumes nothing: these are definitions.
 use mathlib.Core.List.{List, [], _∷_, _++_}
-use Prim.Native.Nat.{ℕ, zero, suc, _+_, _%_}
+use Prim.Native.Nat.{ℕ, zero, suc, _%_}
 use lib.ListN.{replicate}
 use Rattle.code.specs.Stripe.{codedRows}
 use Rattle.layout.specs.declared.Header.{Header}

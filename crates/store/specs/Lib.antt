@@ -1,4 +1,4 @@
 pub mod Buffers
 pub mod StoreCalls
-pub mod WriteTrace
 pub mod Writing
+pub mod steps

@@ -14,7 +14,7 @@ ghost use Rattle.layout.specs.Header.{headerOf, primeOf, headerFits, logSize};
 ghost use Rattle.layout.specs.Records.{replaced};
 ghost use Rattle.store.specs.Buffers.{reduced, buffers};
 ghost use Rattle.store.specs.Writing.{logWith};
-ghost use Rattle.store.specs.WriteTrace.{halfStart, gathered, folded};
+ghost use Rattle.store.specs.steps.Writing.{halfStart, gathered, folded};
 ghost use Rattle.store.specs.StoreCalls.{writeNumber, writeAnswer, writeLeaves};
 
 // Replaces raw record i, of s words, by a block.

@@ -16,7 +16,7 @@ use Rattle.layout.specs.Refusals.{Tests, done, test, refusal}
 use Rattle.stripe.specs.StripeCall.{decodeEarly, decodeNumber, decodeLeaves, decodeScratch}
 use Rattle.field.proofs.Booleans.{first-true}
 use Rattle.layout.proofs.Refusals.{passes, if-taken, if-refused}
-use Rattle.image.proofs.ImageTests.{imageTests, Lent, lent, passed, none-before}
+use Rattle.image.proofs.ImageRefusals.{imageTests, Lent, lent, passed, none-before}
 
 -- a stripe that passes test 6 is one of the header's
 stripe-within : (h : Header) (l : ℕ) → hasStripe h l ≡ true → l ≤ h .k

@@ -12,13 +12,13 @@ use Rattle.field.specs.Words.{table}
 use Rattle.field.proofs.WordLists.{is-table}
 use Rattle.code.specs.declared.Stripe.{Stripe}
 use Rattle.code.specs.Stripe.{blockCount, positionCount, blockWords, stripeWords}
-use Rattle.code.specs.RowTrace.{stored, wordFrom}
+use Rattle.code.specs.steps.Storing.{stored, wordFrom}
 use Rattle.code.proofs.RowLaws.{stored-front}
 use Rattle.decoder.specs.Decoding.{isConsistent, blocksIn}
 use Rattle.rows.specs.Decoding.{Decoded, failed, decoded, areRecords, decodedWords, solved}
-use Rattle.rows.specs.Ready.{StripeFits}
+use Rattle.rows.specs.StripeFits.{StripeFits}
 use Rattle.rows.proofs.RowParts.{length-blocks, twice}
-use Rattle.rows.proofs.StripeTests.{solved-nine, solved-ten, solved-blocks}
+use Rattle.rows.proofs.StripeNumbers.{solved-nine, solved-ten, solved-blocks}
 
 -- THE ROOM: the rows of a level and a weight for each position fit into the scratch
 level-room : (st : Stripe) → st .level < st .k → stripeWords st + positionCount st ≤ 2 ^ st .k * st .width + 4 * 2 ^ st .k

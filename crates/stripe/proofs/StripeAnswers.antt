@@ -13,13 +13,16 @@ use Rattle.layout.specs.Header.{headerFits, imageSize, outSize, scratchSize, st
 use Rattle.layout.proofs.Bounds.{fits}
 use Rattle.layout.proofs.StripePlaces.{inside}
 use Rattle.image.specs.Erasures.{Erasure, markAt, marksOf}
-use Rattle.image.specs.Loading.{stripeIn, rowsIn}
+use Rattle.image.specs.Loading.{stripeIn}
+use Rattle.image.specs.steps.Loading.{rowsIn}
 use Rattle.image.proofs.Marking.{length-flags}
 use Rattle.image.proofs.StripeLoads.{stripe-long}
-use Rattle.rows.specs.Decoding.{Decoded, failed, decodedNumber, decodedWords, readyNumber, solved}
-use Rattle.rows.specs.Ready.{StripeFits, Ready}
-use Rattle.rows.proofs.StripeTests.{ready, decoded-unready, is-solved, stripe-fits}
-use Rattle.columns.specs.Ranges.{scratchWords}
+use Rattle.rows.specs.Decoding.{Decoded, failed, decodedNumber, decodedWords, solved}
+use Rattle.rows.specs.steps.Ready.{readyNumber}
+use Rattle.rows.specs.StripeFits.{StripeFits}
+use Rattle.rows.specs.steps.Ready.{Ready}
+use Rattle.rows.proofs.StripeNumbers.{ready, decoded-unready, is-solved, stripe-fits}
+use Rattle.columns.specs.steps.Ranges.{scratchWords}
 use Rattle.stripe.specs.Decoding.{decodeStripe}
 
 -- A STRIPE THAT IS HANDED ON: st, marks and bs are the numbers, the marks and the bytes of stripe l of the image m under the erasures gs

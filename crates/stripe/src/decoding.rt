@@ -8,9 +8,9 @@ ghost use lib.ListN.{length, replicate};
 ghost use Rattle.code.specs.Stripe.{stripeWords};
 ghost use Rattle.layout.specs.Header.{headerFits, outSize, scratchSize, imageSize};
 ghost use Rattle.image.specs.Erasures.{erasuresIn};
-ghost use Rattle.image.specs.Loading.{rowsIn};
+ghost use Rattle.image.specs.steps.Loading.{rowsIn};
 ghost use Rattle.rows.specs.Decoding.{decodedNumber, decodedWords, solved};
-ghost use Rattle.rows.specs.Ready.{Ready};
+ghost use Rattle.rows.specs.steps.Ready.{Ready};
 ghost use Rattle.stripe.specs.Decoding.{decodeStripe};
 ghost use Rattle.stripe.specs.StripeCall.{decodeEarly, decodeNumber, decodeLeaves, decodeScratch};
 

@@ -6,8 +6,9 @@ ghost use Prim.Native.Nat.{_≤_};
 ghost use lib.ListN.{length, replicate};
 ghost use Rattle.layout.specs.Header.{headerFits, imageSize, stripeOf};
 ghost use Rattle.image.specs.Erasures.{erasuresIn, marksOf};
-ghost use Rattle.image.specs.Loading.{stripeIn, rowsIn};
-ghost use Rattle.rows.specs.Decoding.{readyNumber};
+ghost use Rattle.image.specs.Loading.{stripeIn};
+ghost use Rattle.image.specs.steps.Loading.{rowsIn};
+ghost use Rattle.rows.specs.steps.Ready.{readyNumber};
 
 // Marks the erased positions of a stripe, and tests 7 and 8.
 pub fn mark_and_test(

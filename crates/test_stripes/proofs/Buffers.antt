@@ -14,7 +14,7 @@ use Rattle.field.specs.Field.{fermat, rootOf}
 use Rattle.field.proofs.Primes.{is-root}
 use Rattle.code.specs.Stripe.{Numbers}
 use Rattle.field.proofs.WordLists.{words-append, words-nil, length-table}
-use Rattle.decoder.specs.Decoder.{weightTo, weights}
+use Rattle.decoder.specs.steps.Decoder.{weightTo, weights}
 use Rattle.decoder.proofs.WeightLaws.{words-weights}
 use Rattle.test_stripes.specs.Input.{Loaded}
 

@@ -6,7 +6,7 @@ ghost use Prim.Native.Nat.{_+_, _≤_, _<_};
 ghost use lib.ListN.{length, drop};
 ghost use Rattle.field.specs.Words.{Words};
 ghost use Rattle.code.specs.Stripe.{Numbers, modulusOf, positionCount, blockWords, stripeWords};
-ghost use Rattle.decoder.specs.Decoder.{weightsIn};
+ghost use Rattle.decoder.specs.steps.Decoder.{weightsIn};
 
 mod input;
 mod output;

@@ -25,7 +25,7 @@ use Rattle.vault.specs.Promises.{HeaderIs, SizesStay, RecordsLong, Numbe
 use Rattle.field.proofs.Booleans.{choose, chosen-first, chosen-second}
 use Rattle.layout.proofs.Refusals.{passes}
 use Rattle.layout.proofs.RecordWords.{data-words, replaced-is, record-end}
-use Rattle.store.proofs.OpenTests.{open-taken, open-data}
+use Rattle.store.proofs.OpenRefusals.{open-taken, open-data}
 use Rattle.store.proofs.StoredRecords.{length-full}
 use Rattle.vault.proofs.Levels.{length-log, log-empty}
 use Rattle.vault.proofs.Rounds.{fit-sizes, Taken, AllTaken, none, more, Good, taken-append, put-append, length-put, words-put, before-append, length-before, before-at, records-long, header-fits}

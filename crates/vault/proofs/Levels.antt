@@ -8,7 +8,7 @@ use native.Mathlib.Omega.{arith}
 use lib.ListN.{length, take, drop, replicate, length-append, length-replicate, length-drop, replicate-append-replicate}
 use lib.Seq.{take-all, take-append-le, drop-append-le, drop-at}
 use lib.Pow.{pow-pos, pow-mono}
-use borrow.Author.Tests.{ne-eqb, eqb-true}
+use borrow.Author.Tests.{eqb-true}
 use mathlib.Core.Logic.{⊎-elim}
 use Rattle.layout.proofs.StripePlaces.{first-level}
 use Rattle.code.specs.Stripe.{codedRows}

@@ -7,12 +7,9 @@ use lib.Arith.{digits-lt}
 use lib.Dec.{lit<}
 use lib.ListN.{length, getD}
 use Rattle.code.proofs.CodedRows.{words-coded-rows}
-use Rattle.field.specs.Words.{Words}
 use Rattle.decoder.specs.Decoding.{survivors}
-use Rattle.code.specs.Stripe.{coded, codedRows, codedStripe}
+use Rattle.code.specs.Stripe.{codedStripe}
 use Rattle.code.specs.Rows.{Column}
-use Rattle.code.proofs.Lifting.{words-column, words-lifted}
-use Rattle.code.proofs.Shapes.{words-coded}
 use Rattle.layout.specs.declared.Header.{Header}
 use Rattle.layout.specs.Header.{primeOf, vaultRoot, width, headerFits, firstOf, stripeAt, stripeOf}
 use Rattle.image.specs.Image.{wordAt}

@@ -18,7 +18,7 @@ use Rattle.rows.specs.Decoding.{Decoded, failed, decoded, decodedNumber, decode
 use Rattle.rows.specs.Promises as Rows
 use Rattle.rows.proofs.Proved as Decoding
 use Rattle.rows.proofs.RowDecoding.{Outcome, gives, nine, ten, outcome}
-use Rattle.rows.proofs.StripeTests.{stripe-fits}
+use Rattle.rows.proofs.StripeNumbers.{stripe-fits}
 use Rattle.stripe.specs.Decoding.{decodeStripe}
 use Rattle.stripe.specs.StripeCall.{decodeEarly, decodeNumber, decodeLeaves}
 use Rattle.vault.specs.Promises.{marks, wordsIn, Readable, Asked, GivesSeven, GivesEight, GivesNine, GivesTen, GivesZero, LeavesBlocks, LeavesZeros, Needed, Gives}

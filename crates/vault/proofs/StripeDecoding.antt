@@ -6,7 +6,7 @@ use Rattle.layout.specs.Header.{stripeOf}
 use Rattle.image.proofs.StripeLoads.{stripe-word}
 use Rattle.rows.specs.Promises as Rows
 use Rattle.rows.proofs.Proved as Decoding
-use Rattle.rows.proofs.StripeTests.{stripe-fits}
+use Rattle.rows.proofs.StripeNumbers.{stripe-fits}
 use Rattle.vault.specs.Promises.{marks, wordsIn, WordsStand, Readable, DecodesIff, NineIff, TenIff, OneList}
 
 pub wordsStand : WordsStand

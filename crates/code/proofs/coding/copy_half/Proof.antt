@@ -6,7 +6,7 @@ use native.Mathlib.Omega.{arith}
 use lib.ListN.{length, getD, take}
 use lib.Seq.{length-take-le, getD-take}
 use Rattle.field.proofs.WordLists.{is-table}
-use Rattle.code.specs.RowTrace.{stored}
+use Rattle.code.specs.steps.Storing.{stored}
 use Rattle.code.proofs.RowLaws.{Storing, storing-start, storing-turn, storing-done, storing-front, stored-last}
 use Rattle.code.proofs.coding.copy_half.Statement.{statement}
 use Rattle.code.proofs.coding.copy_half.Tie as tie

@@ -3,7 +3,7 @@ use mathlib.Core.Path.{ap, _∙_}
 use Prim.Native.Nat.{_+_, _-_}
 use native.Mathlib.Omega.{arith}
 use Rattle.field.specs.Residue.{times}
-use Rattle.code.specs.RowTrace.{scaledWord, scaleRow}
+use Rattle.code.specs.steps.Storing.{scaledWord, scaleRow}
 use Rattle.code.proofs.RowLaws.{Storing, storing-start, storing-turn, storing-done, storing-rest}
 use Rattle.code.proofs.coding.scale_row.Statement.{statement}
 use Rattle.code.proofs.coding.scale_row.Tie as tie

@@ -12,7 +12,7 @@ use Rattle.field.specs.Power.{power}
 use Rattle.field.proofs.Powers.{power-lt}
 use Rattle.code.specs.Rows.{column, lifted}
 use Rattle.code.specs.Transform.{reversed, turned}
-use Rattle.code.specs.RowTrace.{stored}
+use Rattle.code.specs.steps.Storing.{stored}
 use Rattle.code.proofs.Shapes.{turned-at}
 use Rattle.code.proofs.Lifting.{length-column, column-at, table-lifted}
 use Rattle.code.proofs.RowLaws.{stored-last, StoringRows, storing-rows-start, storing-rows-room, storing-rows-done, scaledRowsWord, scaling-words, scaling-turn}

@@ -3,7 +3,7 @@ use Prim.Native.Nat.{_+_, _-_, _≤_}
 use lib.ListN.{length}
 use native.Mathlib.Nat.{add-mul}
 use native.Mathlib.Omega.{arith}
-use Rattle.code.specs.MixTrace.{mixing}
+use Rattle.code.specs.steps.Mixing.{mixing}
 use Rattle.code.proofs.Crossing.{RowsLoop, rows-start, rows-turn, rows-end, room, factor-lt, mixing-stores, mixing-crosses}
 use Rattle.code.proofs.mixing.mix.Statement.{statement}
 use Rattle.code.proofs.mixing.mix.Tie as tie

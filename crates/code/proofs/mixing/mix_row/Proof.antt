@@ -4,7 +4,7 @@ use Prim.Native.Nat.{_+_, _-_}
 use native.Mathlib.Omega.{arith}
 use lib.ListN.{getD, length-set}
 use Rattle.field.specs.Residue.{plus, minus}
-use Rattle.code.specs.MixTrace.{mixing}
+use Rattle.code.specs.steps.Mixing.{mixing}
 use Rattle.field.proofs.Laws.{times-lt}
 use Rattle.code.proofs.Crossing.{RowLoop, row-start, row-turn, row-end, mixing-stores}
 use Rattle.code.proofs.mixing.mix_row.Statement.{statement}

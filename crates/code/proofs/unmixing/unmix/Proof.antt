@@ -3,7 +3,7 @@ use Prim.Native.Nat.{_+_, _-_, _≤_}
 use lib.ListN.{length}
 use native.Mathlib.Nat.{add-mul}
 use native.Mathlib.Omega.{arith}
-use Rattle.code.specs.MixTrace.{unmixing}
+use Rattle.code.specs.steps.Mixing.{unmixing}
 use Rattle.code.proofs.Crossing.{RowsLoop, rows-start, rows-turn, rows-end, room, factor-lt, unmixing-stores, unmixing-crosses}
 use Rattle.code.proofs.unmixing.unmix.Statement.{statement}
 use Rattle.code.proofs.unmixing.unmix.Tie as tie

@@ -4,7 +4,7 @@ use Prim.Native.Nat.{_-_}
 use native.Mathlib.Omega.{arith}
 use lib.ListN.{length-set}
 use Rattle.field.specs.Residue.{times}
-use Rattle.code.specs.MixTrace.{unmixing}
+use Rattle.code.specs.steps.Mixing.{unmixing}
 use Rattle.field.proofs.Laws.{minus-lt}
 use Rattle.code.proofs.Crossing.{RowLoop, row-start, row-turn, row-end, unmixing-stores}
 use Rattle.code.proofs.unmixing.unmix_row.Statement.{statement}

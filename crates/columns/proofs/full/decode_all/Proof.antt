@@ -6,7 +6,7 @@ use borrow.Author.Needs.{needs}
 use lib.ListN.{replicate}
 use Rattle.code.specs.Stripe.{blockCount}
 use Rattle.layout.proofs.Refusals.{if-taken, if-refused}
-use Rattle.columns.proofs.FullTests.{filled, zero-agrees}
+use Rattle.columns.proofs.FullNumbers.{filled, zero-agrees}
 use Rattle.columns.proofs.full.decode_all.Statement.{statement}
 use Rattle.columns.proofs.full.decode_all.Tie as tie
 

@@ -3,9 +3,9 @@ use mathlib.Core.Path.{sym, ap, _∙_}
 use native.Mathlib.Omega.{arith}
 use borrow.Author.Needs.{needs}
 use lib.ListN.{length}
-use Rattle.image.specs.Loading.{rowsIn}
+use Rattle.image.specs.steps.Loading.{rowsIn}
 use Rattle.rows.proofs.RowParts.{length-blocks}
-use Rattle.columns.proofs.FullTests.{lent-whole, full-nine, full-agrees, full-blocks, blocks-given, blocks-refused}
+use Rattle.columns.proofs.FullNumbers.{lent-whole, full-nine, full-agrees, full-blocks, blocks-given, blocks-refused}
 use Rattle.columns.proofs.full.decode_full.Statement.{statement}
 use Rattle.columns.proofs.full.decode_full.Tie as tie
 

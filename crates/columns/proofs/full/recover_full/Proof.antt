@@ -8,8 +8,8 @@ use borrow.Author.Needs.{needs}
 use lib.ListN.{length}
 use Rattle.code.specs.Stripe.{blockCount}
 use Rattle.layout.specs.Records.{recordsFit}
-use Rattle.image.specs.Loading.{rowsIn}
-use Rattle.columns.proofs.FullTests.{lent-data, data-refused, data-given, data-wrong}
+use Rattle.image.specs.steps.Loading.{rowsIn}
+use Rattle.columns.proofs.FullNumbers.{lent-data, data-refused, data-given, data-wrong}
 use Rattle.columns.proofs.full.recover_full.Statement.{statement}
 use Rattle.columns.proofs.full.recover_full.Tie as tie
 

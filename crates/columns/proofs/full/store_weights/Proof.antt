@@ -9,7 +9,7 @@ use Rattle.field.proofs.WordLists.{length-table}
 use Rattle.code.specs.Stripe.{modulusOf, positionCount}
 use Rattle.code.proofs.Shapes.{positions}
 use Rattle.decoder.specs.Decoding.{pointAt}
-use Rattle.columns.specs.Ranges.{scratchWords}
+use Rattle.columns.specs.steps.Ranges.{scratchWords}
 use Rattle.columns.proofs.ScratchTails.{Tail, tail-long, stored-weights, scratch-low, twice-low}
 use Rattle.columns.proofs.full.store_weights.Statement.{statement}
 use Rattle.columns.proofs.full.store_weights.Tie as tie

@@ -8,8 +8,8 @@ use borrow.Author.Tests.{not-true, not-false}
 use borrow.Rule.Slice.PartMut.{putMid}
 use lib.ListN.{length, take, drop}
 use Rattle.code.specs.Stripe.{positionCount}
-use Rattle.image.specs.Loading.{rowsIn}
-use Rattle.columns.specs.Ranges.{scratchWords, isConsistentRange, arePlaces, rangeTaken, rangeNumber}
+use Rattle.image.specs.steps.Loading.{rowsIn}
+use Rattle.columns.specs.steps.Ranges.{scratchWords, isConsistentRange, arePlaces, rangeTaken, rangeNumber}
 use Rattle.columns.proofs.ScratchTails.{Tail, span, half-span, scratch-low, tail-long, tail-weights, put-weights, lent-again}
 use Rattle.columns.proofs.RangeCopies.{range-fails, range-taken}
 use Rattle.columns.proofs.RangeDecoding.{range-weights, range-blocks}

@@ -5,7 +5,7 @@ use mathlib.Core.Logic.{⊎-elim}
 use Prim.Native.Nat.{_-_, _<_}
 use native.Mathlib.Omega.{arith}
 use lib.ListN.{length}
-use Rattle.image.specs.Loading.{rowsIn}
+use Rattle.image.specs.steps.Loading.{rowsIn}
 use Rattle.columns.proofs.RangeLoop.{Ranging, ranging-start, ranging-first, ranging-later, ranging-fails, ranging-agrees, ranging-number, ranging-rows, columns-fail, columns-agree}
 use Rattle.columns.proofs.ranges.decode_ranges.Statement.{statement}
 use Rattle.columns.proofs.ranges.decode_ranges.Tie as tie

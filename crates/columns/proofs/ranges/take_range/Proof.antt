@@ -5,7 +5,7 @@ use Prim.Native.Nat.{ℕ, _+_, _-_, max}
 use native.Mathlib.Omega.{arith}
 use borrow.Author.Needs.{needs}
 use Rattle.code.specs.Stripe.{blockCount}
-use Rattle.columns.specs.Ranges.{copiedRows, placesTo, rangeNumber}
+use Rattle.columns.specs.steps.Ranges.{copiedRows, placesTo, rangeNumber}
 use Rattle.columns.proofs.RangeCopies.{range-first, range-later, places-kept, places-skipped, copied-first, copied-later}
 use Rattle.columns.proofs.ranges.take_range.Statement.{statement}
 use Rattle.columns.proofs.ranges.take_range.Tie as tie

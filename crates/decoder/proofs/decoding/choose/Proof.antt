@@ -16,8 +16,8 @@ use Rattle.field.specs.Words.{Words}
 use Rattle.field.proofs.Unity.{two-div}
 use Rattle.field.proofs.Powers.{power-lt, inverse-lt}
 use Rattle.decoder.specs.Decoding.{pointAt}
-use Rattle.decoder.specs.Decoder.{divisorAt}
-use Rattle.code.specs.RowTrace.{stored, scaledWord}
+use Rattle.decoder.specs.steps.Decoder.{divisorAt}
+use Rattle.code.specs.steps.Storing.{stored, scaledWord}
 use Rattle.field.proofs.Laws.{times-lt}
 use Rattle.code.proofs.Lifting.{two-halves}
 use Rattle.code.proofs.RowLaws.{StoringRows, storing-rows-start, storing-rows-room, storing-rows-rest, storing-rows-words, storing-rows-turn, storing-rows-done}

@@ -11,9 +11,9 @@ use lib.Pow.{pow-mono}
 use Rattle.field.specs.Residue.{plus, times}
 use Rattle.field.specs.Words.{Words}
 use Rattle.code.specs.Transform as Transform
-use Rattle.decoder.specs.Decoder.{halfOf}
-use Rattle.code.specs.RowTrace.{stored}
-use Rattle.decoder.specs.DecodeTrace.{deriveAt}
+use Rattle.decoder.specs.steps.Decoder.{halfOf}
+use Rattle.code.specs.steps.Storing.{stored}
+use Rattle.decoder.specs.steps.RowTests.{deriveAt}
 use Rattle.field.proofs.Laws.{plus-lt, minus-lt, times-lt}
 use Rattle.code.proofs.Lifting.{two-halves, row-next, row-in}
 use Rattle.code.proofs.Shapes.{reversed-lt}

@@ -6,7 +6,7 @@ use native.Mathlib.Omega.{arith}
 use lib.Dec.{lit<}
 use lib.ListN.{getD, set}
 use Rattle.field.specs.Residue.{minus, times}
-use Rattle.decoder.specs.DecodeTrace.{deriveAt}
+use Rattle.decoder.specs.steps.RowTests.{deriveAt}
 use Rattle.field.proofs.Laws.{times-lt}
 use Rattle.code.proofs.RowLaws.{Storing, storing-start, storing-turn, storing-done, storing-front, storing-rest}
 use Rattle.decoder.proofs.decoding.derive_row.Statement.{statement}

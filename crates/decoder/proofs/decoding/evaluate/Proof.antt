@@ -1,7 +1,7 @@
 -- `decoder::decoding::evaluate` meets its contract: each half is mixed in its place. Assumes nothing.
 use mathlib.Core.Path.{_≡_, sym, ap, ap₂, _∙_}
 use mathlib.Core.List.{List, _++_}
-use Prim.Native.Nat.{ℕ, suc, _+_, _*_, _^_}
+use Prim.Native.Nat.{ℕ, suc, _*_, _^_}
 use native.Mathlib.Omega.{arith}
 use borrow.Author.Needs.{needs}
 use lib.Dec.{lit<}
@@ -9,7 +9,7 @@ use lib.ListN.{length, take, drop}
 use Rattle.field.proofs.WordLists.{words-take, words-drop}
 use Rattle.code.specs.Rows.{lifted}
 use Rattle.code.specs.Transform.{transform}
-use Rattle.decoder.specs.Decoder.{evaluated}
+use Rattle.decoder.specs.steps.Decoder.{evaluated}
 use Rattle.code.proofs.Shapes.{length-transform}
 use Rattle.code.proofs.Lifting.{length-lifted}
 use Rattle.code.proofs.RowLaws.{Parts, length-parts, lent-rest, put-front, put-rest}

@@ -11,10 +11,10 @@ use borrow.Author.Tests.{lt-ltb, le-ltb, not-true, not-false}
 use lib.ListN.{length}
 use lib.Pow.{pow-mono}
 use Rattle.code.specs.Transform.{reversed}
-use Rattle.decoder.specs.DecodeTrace.{allTo, sameAt, lowRowAt, lowRows}
+use Rattle.decoder.specs.steps.RowTests.{allTo, sameAt, lowRowAt, lowRows}
 use Rattle.code.proofs.Lifting.{two-halves, row-next, row-in}
 use Rattle.code.proofs.Shapes.{reversed-lt}
-use Rattle.decoder.proofs.Tests.{allTo-false}
+use Rattle.decoder.proofs.AllTo.{allTo-false}
 use Rattle.decoder.proofs.decoding.is_low.Statement.{statement}
 use Rattle.decoder.proofs.decoding.is_low.Tie as tie
 

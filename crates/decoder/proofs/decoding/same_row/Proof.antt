@@ -7,8 +7,8 @@ use native.Mathlib.Numerals.{add-one}
 use native.Mathlib.Omega.{arith}
 use borrow.Author.Tests.{eq-eqb, ne-eqb}
 use lib.ListN.{getD}
-use Rattle.decoder.specs.DecodeTrace.{allTo, sameAt}
-use Rattle.decoder.proofs.Tests.{allTo-false}
+use Rattle.decoder.specs.steps.RowTests.{allTo, sameAt}
+use Rattle.decoder.proofs.AllTo.{allTo-false}
 use Rattle.decoder.proofs.decoding.same_row.Statement.{statement}
 use Rattle.decoder.proofs.decoding.same_row.Tie as tie
 

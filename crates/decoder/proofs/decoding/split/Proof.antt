@@ -1,7 +1,7 @@
 -- `decoder::decoding::split` meets its contract: each half is unmixed in its place, and the second turned. Assumes nothing.
 use mathlib.Core.Path.{_≡_, sym, ap, ap₂, _∙_}
 use mathlib.Core.List.{List, _++_}
-use Prim.Native.Nat.{ℕ, suc, _+_, _*_, _-_, _^_}
+use Prim.Native.Nat.{ℕ, suc, _*_, _-_, _^_}
 use native.Mathlib.Omega.{arith}
 use borrow.Author.Needs.{needs}
 use borrow.Rule.Slice.PartMut.{putMid}
@@ -10,7 +10,7 @@ use lib.ListN.{length, take, drop}
 use Rattle.field.proofs.WordLists.{words-take, words-drop}
 use Rattle.code.specs.Rows.{lifted}
 use Rattle.code.specs.Transform.{untransform, turned}
-use Rattle.decoder.specs.Decoder as Decoder
+use Rattle.decoder.specs.steps.Decoder as Decoder
 use Rattle.code.proofs.Shapes.{length-untransform, words-untransform}
 use Rattle.code.proofs.Lifting.{length-lifted, words-lifted, lifted-then, words-column}
 use Rattle.code.proofs.RowLaws.{Parts, length-parts, lent-rest, put-front, put-rest}

@@ -15,7 +15,7 @@ use Rattle.field.proofs.Laws.{times-lt}
 use Rattle.field.proofs.Powers.{power-lt, power-zero, power-suc}
 use Rattle.field.proofs.Unity.{two-div}
 use Rattle.decoder.specs.Decoding.{pointAt}
-use Rattle.code.specs.RowTrace.{stored}
+use Rattle.code.specs.steps.Storing.{stored}
 use Rattle.decoder.proofs.Points.{point-low-square, point-high-square}
 use Rattle.code.proofs.RowLaws.{stored-none, stored-next, set-stored, stored-more, stored-front}
 use Rattle.decoder.proofs.weights.points.Statement.{statement}

@@ -10,7 +10,7 @@ use lib.ListN.{length, getD, set, take, drop, length-set}
 use lib.Seq.{getD-take, getD-drop, getD-set-same, getD-set-other}
 use Rattle.field.specs.Residue.{minus, times}
 use Rattle.field.specs.Words.{Words, table}
-use Rattle.code.specs.RowTrace.{stored, weighedBy}
+use Rattle.code.specs.steps.Storing.{stored, weighedBy}
 use Rattle.field.proofs.Laws.{minus-lt}
 use Rattle.code.proofs.RowLaws.{length-stored, stored-at, stored-before, stored-after, is-stored, stored-last, weighedBy-own, weighedBy-other, Storing, storing-start, storing-turn, storing-done, storing-rest, storing-front}
 use Rattle.decoder.proofs.weights.weigh_by.Statement.{statement}

@@ -13,8 +13,8 @@ use Rattle.field.specs.Residue.{minus, times}
 use Rattle.field.specs.Words.{Words, table}
 use Rattle.field.proofs.WordLists.{length-table, getD-table, same-table}
 use Rattle.decoder.specs.Decoding.{pointAt}
-use Rattle.decoder.specs.Decoder.{weightTo}
-use Rattle.code.specs.RowTrace.{weighedBy}
+use Rattle.decoder.specs.steps.Decoder.{weightTo}
+use Rattle.code.specs.steps.Storing.{weighedBy}
 use Rattle.code.proofs.RowLaws.{replicate-table, weighedBy-own, weighedBy-other}
 use Rattle.code.proofs.Shapes.{positions}
 use Rattle.decoder.proofs.Points.{words-points}

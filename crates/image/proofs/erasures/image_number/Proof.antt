@@ -11,7 +11,7 @@ use Rattle.layout.specs.Header.{headerFits, count, imageSize}
 use Rattle.layout.specs.Refusals.{done, test, refusal}
 use Rattle.layout.proofs.Bounds.{fits}
 use Rattle.image.specs.Erasures.{erasuresFit}
-use Rattle.image.proofs.ImageTests.{imageTests}
+use Rattle.image.proofs.ImageRefusals.{imageTests}
 use Rattle.image.proofs.erasures.image_number.Statement.{statement}
 use Rattle.image.proofs.erasures.image_number.Tie as tie
 

@@ -13,7 +13,7 @@ use Rattle.code.proofs.Shapes.{positions}
 use Rattle.code.specs.Stripe.{positionCount}
 use Rattle.image.specs.Image.{wordsOf}
 use Rattle.image.specs.Loading.{survivingAt, areBelow}
-use Rattle.image.specs.LoadTrace.{rowWord}
+use Rattle.image.specs.steps.Loading.{rowWord}
 use Rattle.code.proofs.Lifting.{row-in}
 use Rattle.image.proofs.StripeLoads.{RowsLoop, rows-start, rows-turn, rows-over, rows-end, below-zeros, surviving-marked, kept-word}
 use Rattle.image.proofs.loading.in_field.Statement.{statement}

@@ -11,7 +11,8 @@ use Rattle.field.specs.Words.{table}
 use Rattle.code.proofs.Shapes.{positions}
 use Rattle.code.specs.Stripe.{positionCount}
 use Rattle.image.specs.Image.{wordsOf}
-use Rattle.image.specs.Loading.{surviving, columnsWord, columnsOf}
+use Rattle.image.specs.Loading.{surviving}
+use Rattle.image.specs.steps.Loading.{columnsWord, columnsOf}
 use Rattle.code.proofs.Lifting.{row-in, row-next}
 use Rattle.code.proofs.RowLaws.{StoringRows, storing-rows-start, storing-rows-turn, storing-rows-done, stored-front}
 use Rattle.image.proofs.StripeLoads.{range-marked, range-kept}

@@ -1,7 +1,7 @@
 -- `image::loading::load_row` meets its contract, by the loop that stores of code/proofs/RowLaws. Assumes nothing.
 use Prim.Native.Nat.{_-_}
 use native.Mathlib.Omega.{arith}
-use Rattle.image.specs.LoadTrace.{rowWord}
+use Rattle.image.specs.steps.Loading.{rowWord}
 use Rattle.code.proofs.RowLaws.{Storing, storing-start, storing-turn, storing-done}
 use Rattle.image.proofs.loading.load_row.Statement.{statement}
 use Rattle.image.proofs.loading.load_row.Tie as tie

@@ -2,7 +2,7 @@
 use Prim.Native.Nat.{_-_}
 use mathlib.Core.Logic.{⊎-elim}
 use native.Mathlib.Omega.{arith}
-use Rattle.image.specs.LoadTrace.{rowWord}
+use Rattle.image.specs.steps.Loading.{rowWord}
 use Rattle.image.proofs.StripeLoads.{BelowLoop, below-start, below-fine, below-over, below-end}
 use Rattle.image.proofs.loading.row_in_field.Statement.{statement}
 use Rattle.image.proofs.loading.row_in_field.Tie as tie

@@ -3,7 +3,7 @@ use mathlib.Core.Path.{refl}
 use Prim.Native.Nat.{_-_}
 use native.Mathlib.Omega.{arith}
 use Rattle.code.proofs.RowLaws.{Storing, storing-start, storing-turn, storing-done}
-use Rattle.code.specs.RowTrace.{wordFrom}
+use Rattle.code.specs.steps.Storing.{wordFrom}
 use Rattle.layout.proofs.words.copy_row.Statement.{statement}
 use Rattle.layout.proofs.words.copy_row.Tie as tie
 

@@ -6,7 +6,7 @@ use native.Mathlib.Omega.{arith}
 use borrow.Author.Needs.{needs}
 use lib.ListN.{length, take}
 use lib.Seq.{length-take-le}
-use Rattle.image.specs.Loading.{rowsIn}
+use Rattle.image.specs.steps.Loading.{rowsIn}
 use Rattle.decoder.specs.Decoding.{blocksIn}
 use Rattle.stripe.proofs.LevelParts.{LevelIn, level-in}
 use Rattle.recovery.proofs.LaidRecords.{level-front, level-inside, level-laid, level-kept}

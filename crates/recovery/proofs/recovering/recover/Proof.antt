@@ -3,7 +3,7 @@ use mathlib.Core.Path.{_≡_, sym, ap, _∙_}
 use Prim.Native.Nat.{ℕ}
 use borrow.Author.Needs.{needs}
 use lib.ListN.{length, replicate}
-use Rattle.image.proofs.ImageTests.{Lent, lent}
+use Rattle.image.proofs.ImageRefusals.{Lent, lent}
 use Rattle.recovery.proofs.RecoverCall.{answers-refused, answers-stopped, answers-recovered}
 use Rattle.recovery.proofs.recovering.recover.Statement.{statement}
 use Rattle.recovery.proofs.recovering.recover.Tie as tie

@@ -1,13 +1,14 @@
 -- `rows::decoding::decode_columns` meets its contract: the words are loaded, and decoded where they stand. Assumes nothing.
 use mathlib.Core.Path.{_≡_, ap, _∙_}
 use mathlib.Core.List.{List, _++_}
-use Prim.Native.Nat.{ℕ, _+_}
+use Prim.Native.Nat.{ℕ}
 use native.Mathlib.Omega.{arith}
 use borrow.Author.Needs.{needs}
-use Rattle.decoder.specs.Decoding.{isConsistent, leftOf}
-use Rattle.decoder.specs.Decoder.{weightsIn}
-use Rattle.image.specs.Loading.{rowsIn}
-use Rattle.rows.specs.Ready.{narrow}
+use Rattle.decoder.specs.Decoding.{isConsistent}
+use Rattle.decoder.specs.steps.Decoder.{leftOf}
+use Rattle.decoder.specs.steps.Decoder.{weightsIn}
+use Rattle.image.specs.steps.Loading.{rowsIn}
+use Rattle.rows.specs.steps.Ready.{narrow}
 use Rattle.rows.proofs.RowParts.{columns, narrow-numbers, loaded-front, loaded-weights, loaded-long, loaded-words}
 use Rattle.rows.proofs.decoding.decode_columns.Statement.{statement}
 use Rattle.rows.proofs.decoding.decode_columns.Tie as tie

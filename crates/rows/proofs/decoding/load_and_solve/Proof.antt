@@ -7,9 +7,10 @@ use borrow.Author.Needs.{needs}
 use lib.ListN.{take}
 use Rattle.field.proofs.WordLists.{length-table}
 use Rattle.code.specs.Stripe.{positionCount, stripeWords}
-use Rattle.decoder.specs.Decoder.{weightsIn}
+use Rattle.decoder.specs.steps.Decoder.{weightsIn}
 use Rattle.image.specs.Image.{wordsOf}
-use Rattle.image.specs.Loading.{rowsIn, survivingAt}
+use Rattle.image.specs.Loading.{survivingAt}
+use Rattle.image.specs.steps.Loading.{rowsIn}
 use Rattle.rows.specs.Decoding.{decodedNumber, decodedWords, solved}
 use Rattle.rows.proofs.ColumnRanges.{columns-all}
 use Rattle.rows.proofs.RowParts.{columns, loaded-front, loaded-weights, loaded-long, weights-last, room}

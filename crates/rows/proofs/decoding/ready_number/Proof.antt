@@ -4,10 +4,10 @@ use mathlib.Core.Bool.{Bool, true, false}
 use Prim.Native.Nat.{_≤_}
 use borrow.Author.Needs.{needs}
 use Rattle.code.specs.Stripe.{blockCount}
-use Rattle.decoder.specs.Decoder.{erasedCount}
-use Rattle.image.specs.Loading.{rowsIn}
-use Rattle.rows.specs.Decoding.{readyNumber}
-use Rattle.rows.proofs.StripeTests.{too-few, ready-when}
+use Rattle.decoder.specs.steps.Decoder.{erasedCount}
+use Rattle.image.specs.steps.Loading.{rowsIn}
+use Rattle.rows.specs.steps.Ready.{readyNumber}
+use Rattle.rows.proofs.StripeNumbers.{too-few, ready-when}
 use Rattle.rows.proofs.decoding.ready_number.Statement.{statement}
 use Rattle.rows.proofs.decoding.ready_number.Tie as tie
 

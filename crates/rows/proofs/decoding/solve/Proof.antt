@@ -13,10 +13,11 @@ use lib.Seq.{length-take-le}
 use lib.Pow.{pow-mono}
 use Rattle.code.specs.declared.Stripe.{Stripe}
 use Rattle.code.specs.Stripe.{blockCount, positionCount, blockWords, stripeWords}
-use Rattle.decoder.specs.Decoding.{isConsistent, blocksIn, leftOf}
+use Rattle.decoder.specs.Decoding.{isConsistent, blocksIn}
+use Rattle.decoder.specs.steps.Decoder.{leftOf}
 use Rattle.rows.specs.Decoding.{Decoded, areRecords, decodedNumber, decodedWords}
 use Rattle.rows.proofs.RowParts.{twice, part-words, weights-cleared, left-zeros, left-blocks, left-front, length-cleared}
-use Rattle.rows.proofs.StripeTests.{solved-nine, solved-ten, solved-blocks}
+use Rattle.rows.proofs.StripeNumbers.{solved-nine, solved-ten, solved-blocks}
 use Rattle.rows.proofs.decoding.solve.Statement.{statement}
 use Rattle.rows.proofs.decoding.solve.Tie as tie
 

@@ -10,7 +10,7 @@ use Rattle.store.specs.Buffers.{fullStripe, Buffers, buffers, opened}
 use Rattle.store.specs.StoreCalls.{openNumber, openAnswer, openLeaves}
 use Rattle.layout.proofs.Bounds.{fits}
 use Rattle.layout.proofs.Refusals.{if-taken, if-refused}
-use Rattle.store.proofs.OpenTests.{open-taken}
+use Rattle.store.proofs.OpenRefusals.{open-taken}
 use borrow.Author.Needs.{needs}
 use Rattle.store.proofs.opening.open.Statement.{statement}
 use Rattle.store.proofs.opening.open.Tie as tie

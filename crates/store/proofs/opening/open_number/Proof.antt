@@ -11,7 +11,7 @@ use Rattle.layout.specs.Refusals.{Tests, done, test, refusal}
 use Rattle.layout.proofs.Bounds.{fits}
 use Rattle.store.specs.Buffers.{Buffers, buffers}
 use Rattle.store.specs.StoreCalls.{openNumber}
-use Rattle.store.proofs.BufferTests.{Held, held, lengths, held-refused, held-passed}
+use Rattle.store.proofs.BufferRefusals.{Held, held, lengths, held-refused, held-passed}
 use Rattle.store.proofs.opening.open_number.Statement.{statement}
 use Rattle.store.proofs.opening.open_number.Tie as tie
 

@@ -13,7 +13,7 @@ use Rattle.field.proofs.Powers.{power-lt}
 use Rattle.code.specs.Transform.{scaled}
 use Rattle.code.proofs.Shapes.{length-scaled, words-scaled}
 use Rattle.layout.specs.Header.{width}
-use Rattle.store.specs.WriteTrace.{halfStart, gathered, folded}
+use Rattle.store.specs.steps.Writing.{halfStart, gathered, folded}
 use Rattle.layout.proofs.Bounds.{Fits, fits}
 use Rattle.store.proofs.Folding.{length-folded}
 use Rattle.store.proofs.Gathering.{level-within}

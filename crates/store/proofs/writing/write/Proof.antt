@@ -20,7 +20,7 @@ use Rattle.store.specs.StoreCalls.{writeNumber, writeAnswer, writeLeaves
 use Rattle.layout.proofs.Bounds.{Fits, fits}
 use Rattle.layout.proofs.Refusals.{if-taken, if-refused}
 use Rattle.layout.proofs.RecordWords.{data-words, field-words}
-use Rattle.store.proofs.WriteTests.{WriteTaken, write-taken}
+use Rattle.store.proofs.WriteRefusals.{WriteTaken, write-taken}
 use borrow.Author.Needs.{needs}
 use Rattle.store.proofs.writing.write.Statement.{statement}
 use Rattle.store.proofs.writing.write.Tie as tie

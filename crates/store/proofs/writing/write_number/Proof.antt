@@ -12,7 +12,7 @@ use Rattle.layout.proofs.Bounds.{fits}
 use Rattle.field.proofs.Booleans.{both-true, first-false}
 use Rattle.store.specs.Buffers.{Buffers, buffers}
 use Rattle.store.specs.StoreCalls.{writeNumber}
-use Rattle.store.proofs.BufferTests.{Held, held, held-refused, held-passed}
+use Rattle.store.proofs.BufferRefusals.{Held, held, held-refused, held-passed}
 use Rattle.store.proofs.writing.write_number.Statement.{statement}
 use Rattle.store.proofs.writing.write_number.Tie as tie
 

@@ -8,7 +8,7 @@ use Rattle.layout.specs.Header.{width, hasStripe}
 use Rattle.layout.specs.Refusals.{done, test, refusal}
 use Rattle.stripe.specs.StripeCall.{decodeEarly}
 use Rattle.layout.proofs.Bounds.{fits}
-use Rattle.image.proofs.ImageTests.{imageTests, lent, refused, passed}
+use Rattle.image.proofs.ImageRefusals.{imageTests, lent, refused, passed}
 use Rattle.stripe.proofs.decoding.decode_early.Statement.{statement}
 use Rattle.stripe.proofs.decoding.decode_early.Tie as tie
 

@@ -6,7 +6,7 @@ use native.Mathlib.Omega.{arith}
 use borrow.Author.Needs.{needs}
 use lib.ListN.{length, take, replicate}
 use Rattle.code.specs.Stripe.{positionCount, blockWords, stripeWords}
-use Rattle.image.specs.Loading.{rowsIn}
+use Rattle.image.specs.steps.Loading.{rowsIn}
 use Rattle.stripe.proofs.LevelParts.{LevelIn, level-in, blocks-in, blocks-room, front, lent-front, copied-front}
 use Rattle.stripe.proofs.decoding.decode_level.Statement.{statement}
 use Rattle.stripe.proofs.decoding.decode_level.Tie as tie

@@ -7,10 +7,10 @@ use lib.Dec.{eqb}
 use lib.ListN.{getD}
 use Rattle.code.specs.declared.Stripe.{Stripe}
 use Rattle.code.specs.Stripe.{blockCount, positionCount, blockWords}
-use Rattle.code.specs.RowTrace.{stored, wordFrom}
+use Rattle.code.specs.steps.Storing.{stored, wordFrom}
 use Rattle.decoder.specs.Decoding.{isConsistent, blocksIn}
-use Rattle.image.specs.Loading.{columnsOf}
-use Rattle.rows.specs.Ready.{narrow}
+use Rattle.image.specs.steps.Loading.{columnsOf}
+use Rattle.rows.specs.steps.Ready.{narrow}
 
 -- whether the first word of each of the first n rows is its place
 unfoldable pub placesTo : (width : ℕ) → (rows : List ℕ) → (n : ℕ) → Bool

@@ -13,7 +13,7 @@ use Rattle.layout.specs.Records.{areData}
 use Rattle.store.specs.Buffers.{buffers}
 use Rattle.layout.specs.Refusals.{Tests, done, test}
 use Rattle.store.specs.StoreCalls.{buffersFit, writeNumber}
-use Rattle.store.proofs.BufferTests.{lengths}
+use Rattle.store.proofs.BufferRefusals.{lengths}
 use Rattle.field.proofs.Booleans.{first-true, second-true}
 use Rattle.layout.proofs.Refusals.{passes}
 

@@ -1,14 +1,14 @@
--- Laws of tests: that two numbers are equal unless .., and of `allTo` of specs/DecodeTrace, a test for each number below n. Assumes nothing.
+-- Laws of tests: that two numbers are equal unless .., and of `allTo` of specs/steps/RowTests, a test for each number below n. Assumes nothing.
 use mathlib.Core.Path.{_≡_, refl, sym, ap₂, _∙_}
 use mathlib.Core.Bool.{Bool, true, false, false≢true, _&&_, _||_}
-use mathlib.Core.Logic.{_⊎_, inl, inr, ⊎-elim}
+use mathlib.Core.Logic.{⊎-elim}
 use Prim.Native.Nat.{ℕ, zero, suc, _<_}
 use native.Mathlib.Nat.{eq-or-lt-of-le}
 use native.Mathlib.Omega.{arith}
 use lib.Dec.{eqb}
 use borrow.Author.Tests.{eqb-true, eq-eqb}
 use Rattle.field.proofs.Booleans.{either, same-truth, both-true, first-true, second-true}
-use Rattle.decoder.specs.DecodeTrace.{allTo}
+use Rattle.decoder.specs.steps.RowTests.{allTo}
 
 -- two numbers are equal unless b
 pub unless-same : (b : Bool) (x y : ℕ) → (b ≡ false → x ≡ y) → (b || eqb x y) ≡ true

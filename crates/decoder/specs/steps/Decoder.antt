@@ -3,16 +3,16 @@
 -- 2 ^ level; its coefficients follow by two inverse transforms, and P's value at an erased point h from z R'(z) there. Assumes nothing: these are definitions.
 use mathlib.Core.Bool.{Bool, true, false, _&&_, _||_, not}
 use mathlib.Core.List.{List, _++_}
-use Prim.Native.Nat.{ℕ, zero, suc, _+_, _-_, _/_, _^_}
+use Prim.Native.Nat.{ℕ, zero, suc, _+_, _*_, _-_, _/_, _^_}
 use lib.Dec.{ltb, eqb}
-use lib.ListN.{length, getD, take, drop}
+use lib.ListN.{length, getD, take, drop, replicate}
 use Rattle.field.specs.Residue.{plus, minus, times}
 use Rattle.field.specs.Power.{inverse}
 use Rattle.field.specs.Words.{table}
 use Rattle.code.specs.Transform.{transform, untransform, turned, reversed}
 use Rattle.code.specs.declared.Stripe.{Stripe}
 use Rattle.code.specs.Stripe.{modulusOf}
-use Rattle.decoder.specs.Decoding.{survivors, pointAt}
+use Rattle.decoder.specs.Decoding.{survivors, pointAt, consistent, decodedRows}
 
 -- how many positions are erased
 abbrev pub erasedCount : (level : ℕ) → (marks : List Bool) → ℕ
@@ -90,3 +90,14 @@ solvedColumn p w k l t ms c =
 
 abbrev pub isLowColumn : (p w k level first : ℕ) → (marks : List Bool) → (c : List ℕ) → Bool
 isLowColumn p w k l t ms c = isLow l (erasedCount l ms) (splitColumn p w k l t ms c)
+
+-- what decoding leaves of the stripe's rows: the blocks and zeros after them, or zeros where no blocks code to the surviving words
+unfoldable pub rowsLeft : (p w k level first width : ℕ) → (marks : List Bool) → (rows : List ℕ) → List ℕ
+rowsLeft p w k l t width ms r =
+    elim (consistent p w k l t width ms r) [
+      | true ↦ decodedRows p w k l t width ms r ++ replicate (2 ^ l * width) 0
+      | false ↦ replicate (2 ^ suc l * width) 0
+    ]
+
+abbrev pub leftOf : Stripe → (marks : List Bool) → (rows : List ℕ) → List ℕ
+leftOf st ms r = rowsLeft (modulusOf st) (st .root) (st .k) (st .level) (st .first) (st .width) ms r

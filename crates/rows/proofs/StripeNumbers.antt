@@ -10,14 +10,16 @@ use lib.ListN.{length}
 use Rattle.code.specs.declared.Stripe.{Stripe}
 use Rattle.code.specs.Stripe.{modulusOf, blockCount, positionCount}
 use Rattle.decoder.specs.Decoding.{survivors, isConsistent, blocksIn}
-use Rattle.decoder.specs.Decoder.{erasedCount}
+use Rattle.decoder.specs.steps.Decoder.{erasedCount}
 use Rattle.layout.specs.declared.Header.{Header}
 use Rattle.layout.specs.Header.{headerFits, stripeOf}
 use Rattle.layout.proofs.Bounds.{fits}
 use Rattle.layout.proofs.StripePlaces.{stripe-numbers}
 use Rattle.image.specs.Loading.{areBelow}
-use Rattle.rows.specs.Decoding.{Decoded, failed, decoded, areRecords, readyNumber, solved, decodeMarked}
-use Rattle.rows.specs.Ready.{StripeFits, Ready}
+use Rattle.rows.specs.Decoding.{Decoded, failed, decoded, areRecords, solved, decodeMarked}
+use Rattle.rows.specs.steps.Ready.{readyNumber}
+use Rattle.rows.specs.StripeFits.{StripeFits}
+use Rattle.rows.specs.steps.Ready.{Ready}
 
 -- 7 or 8 by its two tests
 abbrev sevenOr : (few below : Bool) → ℕ

@@ -4,7 +4,7 @@ use Prim.Native.Nat.{ℕ, pred, _*_}
 use lib.ListN.{replicate}
 use Rattle.code.specs.declared.Stripe.{Stripe}
 use Rattle.code.specs.Stripe.{blockCount}
-use Rattle.image.specs.Loading.{columnsOf}
+use Rattle.image.specs.steps.Loading.{columnsOf}
 use Rattle.rows.specs.Decoding.{Decoded, failed, decoded}
 
 abbrev pub dataOf : Stripe → (blocks : List ℕ) → List ℕ

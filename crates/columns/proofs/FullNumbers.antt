@@ -17,14 +17,14 @@ use Rattle.layout.specs.Refusals.{ifTaken}
 use Rattle.field.proofs.Booleans.{both-true, first-false, second-false}
 use Rattle.layout.proofs.Refusals.{if-taken, if-refused}
 use Rattle.layout.proofs.RecordWords.{length-record}
-use Rattle.image.specs.Loading.{columnsOf}
+use Rattle.image.specs.steps.Loading.{columnsOf}
 use Rattle.rows.specs.Decoding.{Decoded, blockNumber, blockData, areRecords, decodedNumber, decodedWords, solved}
 use Rattle.rows.proofs.BlockRecords.{number-full}
 use Rattle.rows.proofs.ColumnRanges.{columns-all, columns-row, length-columns, columns-at}
 use Rattle.rows.proofs.RowParts.{length-blocks}
-use Rattle.rows.proofs.StripeTests.{solved-nine, solved-ten, solved-blocks}
-use Rattle.columns.specs.Ranges.{placesTo, columnsNumber, arePlaces, allNumber, withoutFirst}
-use Rattle.columns.specs.Full.{dataOf, decodedData}
+use Rattle.rows.proofs.StripeNumbers.{solved-nine, solved-ten, solved-blocks}
+use Rattle.columns.specs.steps.Ranges.{placesTo, columnsNumber, arePlaces, allNumber, withoutFirst}
+use Rattle.columns.specs.steps.Full.{dataOf, decodedData}
 use Rattle.columns.proofs.RangeCopies.{places-kept, places-skipped}
 use Rattle.columns.proofs.RangeLoop.{columns-fail, columns-agree}
 

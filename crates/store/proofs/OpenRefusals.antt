@@ -13,7 +13,7 @@ use Rattle.layout.proofs.Refusals.{passes}
 use Rattle.layout.proofs.RecordWords.{records-data}
 use Rattle.store.specs.Buffers.{buffers}
 use Rattle.store.specs.StoreCalls.{buffersFit, openNumber}
-use Rattle.store.proofs.BufferTests.{lengths}
+use Rattle.store.proofs.BufferRefusals.{lengths}
 
 module _ (k s : ℕ) (r f g : List ℕ) where
   abbrev header : Header

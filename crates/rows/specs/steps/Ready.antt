@@ -1,20 +1,16 @@
--- Stripes that a vault can have, and stripes that can be decoded. Assumes nothing: these are definitions.
+-- Stripes that can be decoded, the number of those that cannot, and stripes of some of their columns. Assumes nothing: these are definitions.
 use mathlib.Core.Path.{_≡_}
-use mathlib.Core.Bool.{Bool, true}
+use mathlib.Core.Bool.{Bool, true, false}
 use mathlib.Core.List.{List}
-use Prim.Native.Nat.{ℕ, _≤_, _<_}
+use Prim.Native.Nat.{ℕ, _≤_}
+use lib.Dec.{ltb}
 use lib.ListN.{length}
 use Rattle.code.specs.declared.Stripe.{Stripe}
-use Rattle.code.specs.Stripe.{modulusOf, positionCount, Numbers}
+use Rattle.code.specs.Stripe.{modulusOf, blockCount, positionCount}
 use Rattle.decoder.specs.Promises.{Enough}
+use Rattle.decoder.specs.Decoding.{survivors}
 use Rattle.image.specs.Loading.{areBelow}
-
--- numbers that a stripe of a vault can have: k up to 10, a block of its number and 1 to 128 data words
-pub record StripeFits (st : Stripe) : Type 0 where
-  pub numbers : Numbers st
-  pub low : st .k ≤ 10
-  pub thick : 1 < st .width
-  pub thin : st .width ≤ 129
+use Rattle.rows.specs.StripeFits.{StripeFits}
 
 -- half of its positions survive, and its surviving words are words of the field; the rows have zeros at erased positions
 pub record Ready (st : Stripe) (marks : List Bool) (rows : List ℕ) : Type 0 where
@@ -26,3 +22,8 @@ pub record Ready (st : Stripe) (marks : List Bool) (rows : List ℕ) : Type 0 wh
 -- a stripe of so many of its columns
 abbrev pub narrow : Stripe → (cols : ℕ) → Stripe
 narrow st cols = record { level = st .level; k = st .k; first = st .first; root = st .root; width = cols }
+
+-- 7 or 8, which is known before a stripe is decoded; 0 if neither. The rows have zeros at erased positions
+abbrev pub readyNumber : Stripe → (marks : List Bool) → (rows : List ℕ) → ℕ
+readyNumber st ms r =
+    elim (ltb (length (survivors (st .level) ms)) (blockCount st)) [ true ↦ 7 | false ↦ elim (areBelow (modulusOf st) r) [ true ↦ 0 | false ↦ 8 ] ]
