@@ -9,7 +9,6 @@ pub mod image;
 pub mod listing;
 pub mod machine;
 pub mod opening;
-pub mod random;
 pub mod reading;
 pub mod recovery;
 pub mod refusal;

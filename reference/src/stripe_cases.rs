@@ -8,9 +8,9 @@
 //! stripe's place: the blocks and then zeros, or only zeros.
 use crate::decode::decode;
 use crate::field::P;
-use crate::random::Random;
 use crate::refusal::Refusal;
 use crate::stripe::code;
+use random::Random;
 
 /// The shape of a stripe.
 #[derive(Clone, Copy)]
@@ -79,7 +79,7 @@ fn words(random: &mut Random, count: usize) -> Vec<u64> {
     let edges = [0, 1, 255, 256, 32768, 65535, 65536, 65536];
     let mut word = || {
         if random.below(4) == 0 {
-            edges[random.below(8) as usize]
+            *random.one(&edges)
         } else {
             random.below(P)
         }
@@ -113,10 +113,10 @@ fn erase(random: &mut Random, shape: Shape, which: Erased) -> Vec<bool> {
         Erased::None => 0,
         Erased::X => return marks(shape, 0..size),
         Erased::Y => return marks(shape, size..2 * size),
-        Erased::Some => random.below(size as u64 + 1) as usize,
-        Erased::FewerThanHalf => random.below(size as u64) as usize,
+        Erased::Some => random.index(size + 1),
+        Erased::FewerThanHalf => random.index(size),
         Erased::Half => size,
-        Erased::TooMany => size + 1 + random.below(size as u64) as usize,
+        Erased::TooMany => size + 1 + random.index(size),
     };
     marks(shape, random.some(2 * size, count))
 }
@@ -158,8 +158,7 @@ fn decoding(random: &mut Random, shape: Shape, which: Erased, change: Change) ->
     }
     if let Change::Altered = change {
         let survivors: Vec<usize> = (0..2 * size).filter(|&i| !erased[i]).collect();
-        let i = survivors[random.below(survivors.len() as u64) as usize] * width
-            + random.below(width as u64) as usize;
+        let i = *random.one(&survivors) * width + random.index(width);
         stripe[i] = (stripe[i] + 1 + random.below(P - 1)) % P;
     }
     Case {

@@ -1,7 +1,7 @@
 //! Images and erasure lists in files: those that one implementation made are read by the other.
 use crate::erasures::{self, Loss};
+use random::Random;
 use reference::header::Header;
-use reference::random::Random;
 use reference::{image, opening, recovery, writing};
 use std::path::{Path, PathBuf};
 use std::{env, fs, process};

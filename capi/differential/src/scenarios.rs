@@ -5,9 +5,9 @@ use crate::faults::{self, Fault};
 use crate::lent::Side;
 use crate::session::{Run, Session, Settings};
 use crate::tally::Tally;
+use random::Random;
 use reference::field::P;
 use reference::header::Header;
-use reference::random::Random;
 use reference::stripe::code;
 
 #[derive(Clone, Copy, Debug, PartialEq)]
@@ -147,7 +147,7 @@ fn recover_after(session: &mut Session, loss: Loss) -> Run<()> {
 /// Alters a word at a random place of the image, which may be lost or not looked at.
 fn alter(session: &mut Session) {
     let words = session.side().image.len() / 4;
-    let at = 4 * session.random.below(words as u64) as usize;
+    let at = 4 * session.random.index(words);
     let choice = session.random.below(5);
     let other = session.random.below(P) as u32;
     session.set(|side| {
@@ -173,8 +173,8 @@ fn alter_survivor(session: &mut Session, marks: &Marks, stripe: u32) {
         return;
     }
     let random = &mut session.random;
-    let row = survivors[random.below(survivors.len() as u64) as usize];
-    let column = random.below(header.width() as u64) as usize;
+    let row = *random.one(&survivors);
+    let column = random.index(header.width());
     let at = 4 * (header.stripe_start(stripe) + row * header.width() + column);
     let more = 1 + random.below(65536) as u32;
     let stray = random.below(4) == 0;
@@ -215,7 +215,7 @@ fn decode_all(session: &mut Session) -> Run<()> {
 fn inspect(session: &mut Session) -> Run<()> {
     let header = session.header();
     session.call(Call::Image)?;
-    let loss = Loss::ALL[session.random.below(Loss::ALL.len() as u64) as usize];
+    let loss = *session.random.one(&Loss::ALL);
     let marks = loss.marks(&mut session.random, header);
     lose(session, &marks);
     for _ in 0..session.random.below(3) {
@@ -263,7 +263,7 @@ fn history(session: &mut Session) -> Run<()> {
                 read(session)?;
             }
             66..72 if session.is_allowed() => {
-                let loss = Loss::ALL[session.random.below(Loss::ALL.len() as u64) as usize];
+                let loss = *session.random.one(&Loss::ALL);
                 recover_after(session, loss)?;
             }
             72..80 => inspect(session)?,
@@ -381,11 +381,11 @@ fn any_blocks(random: &mut Random, header: Header, stripe: u32) -> Vec<u64> {
         blocks.push(number);
         blocks.extend(data(random, header.data()).iter().map(|&x| u64::from(x)));
     }
-    let row = width * random.below(count as u64) as usize;
+    let row = width * random.index(count);
     match random.below(8) {
         0 => blocks[row] = random.below(P),
         1 => blocks[row] = n,
-        2 => blocks[row + 1 + random.below(header.data() as u64) as usize] = 65536,
+        2 => blocks[row + 1 + random.index(header.data())] = 65536,
         3 => blocks[row] = 65536,
         _ => {}
     }
@@ -413,7 +413,7 @@ fn blocks(session: &mut Session) -> Run<()> {
             side.header.c = c;
             side.image.set(&image);
         });
-        let loss = Loss::ALL[session.random.below(Loss::ALL.len() as u64) as usize];
+        let loss = *session.random.one(&Loss::ALL);
         let marks = loss.marks(&mut session.random, header);
         lose(session, &marks);
         session.call_allowed(Call::Recover)?;
@@ -479,7 +479,7 @@ fn refusals(session: &mut Session) -> Run<()> {
     }
     for call in [Call::Open, Call::Write { record }] {
         for word in [65536, 65537, 131_072, 1 << 31, u32::MAX] {
-            let at = session.random.below(1 << 20) as usize;
+            let at = session.random.index(1 << 20);
             let number = faults::faulty(session, call, &[Fault::DataWord(at, word)])?;
             expect(session, number, 5)?;
         }

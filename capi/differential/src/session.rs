@@ -2,8 +2,8 @@
 use crate::calls::{self, Answer, Call};
 use crate::lent::{Side, Words};
 use crate::tally::Tally;
+use random::Random;
 use reference::header::Header;
-use reference::random::Random;
 
 /// What was not as it should be.
 pub struct Difference {

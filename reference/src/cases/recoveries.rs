@@ -155,7 +155,7 @@ fn no_records(script: &mut Script, k: u32, s: u32, writes: usize) {
     for stripe in (0..=k).filter(|&stripe| header.filled(stripe)) {
         script.push(Command::Image);
         let good = blocks(script, stripe);
-        let place = script.random.below(1 << stripe) as usize * width;
+        let place = script.random.index(1 << stripe) * width;
         let column = 1 + script.random.below(s.into()) as usize;
         let other = (good[place] + 1 + script.random.below(n - 1)) % n;
         let changes = [
@@ -235,7 +235,7 @@ fn two_stripes(script: &mut Script) {
                 for (stripe, kind) in [first, second].into_iter().zip(kinds) {
                     if kind == 3 {
                         let mut changed = blocks(script, stripe);
-                        let at = script.random.below(1 << stripe) as usize * width;
+                        let at = script.random.index(1 << stripe) * width;
                         changed[at] = 8 + script.random.below(9);
                         recode(script, stripe, &changed);
                     }
@@ -268,9 +268,7 @@ fn large(script: &mut Script) {
             script.decode(0);
         }
         if i == 1030 {
-            let lost = lose_each(script, |script, size| {
-                script.random.below(size as u64) as usize
-            });
+            let lost = lose_each(script, |script, size| script.random.index(size));
             damage(script, &lost, Cover::Touch, Garbage::Gaps);
             spoil(script, &lost, 10, true);
             script.recover();

@@ -1,6 +1,6 @@
 //! Each command where it is taken.
 use crate::program::{bytes, file, image_file, line, numbers, vault, writes};
-use crate::random::Random;
+use random::Random;
 
 /// The writes of racklist's example in document 01, and its lines.
 const WRITES: [&[u16]; 3] = [&[0, 1], &[1, 2], &[2, 3]];
@@ -98,15 +98,15 @@ fn gaps_are_sorted_and_joined() {
 /// Writes, an image, half of each needed shelf lost and overwritten, and the records are as last written.
 #[test]
 fn any_half_of_each_shelf_brings_the_records_back() {
-    let mut random = Random(1);
+    let mut random = Random::new(1);
     for _ in 0..25 {
-        let (k, s) = (1 + random.below(5), 1 + random.below(4));
+        let (k, s) = (1 + random.index(5), 1 + random.index(4));
         let n = 1 << k;
         let mut book = vec![vec![0; s]; n];
         let mut input = String::new();
-        for _ in 0..random.below(3 * n) {
-            let record = random.below(n);
-            let sheet: Vec<usize> = (0..s).map(|_| random.below(65536)).collect();
+        for _ in 0..random.index(3 * n) {
+            let record = random.index(n);
+            let sheet: Vec<usize> = (0..s).map(|_| random.index(65536)).collect();
             input += &format!("{record} {}\n", spaced(&sheet));
             book[record] = sheet;
         }

@@ -1,6 +1,5 @@
 //! `vault demo`: a small rack is written, loses half of every shelf, is brought back, and loses one position too many.
 mod rack;
-mod random;
 mod sheets;
 
 use super::recover::{recovered, refused};
@@ -12,6 +11,7 @@ use crate::rack::shelf_name;
 use rack::Rack;
 use random::Random;
 use sheets::{Sheet, OPENED, WRITTEN};
+use std::time::{SystemTime, UNIX_EPOCH};
 use vault_library::{stripes, Vault};
 
 pub const COMMAND: Command = Command {
@@ -40,14 +40,20 @@ const S: u32 = 3;
 fn run(arguments: Arguments) -> Result<(), Failure> {
     let seed = match arguments.value("--seed") {
         Some(word) => number("--seed", word)?,
-        None => random::seed(),
+        None => any_seed(),
     };
     arguments.end()?;
     files::print(story(seed)?.as_bytes())
 }
 
+/// A seed that is another one at each run, short enough to type.
+fn any_seed() -> u32 {
+    let time = SystemTime::now().duration_since(UNIX_EPOCH);
+    time.map_or(0, |time| time.subsec_micros())
+}
+
 fn story(seed: u32) -> Result<String, Failure> {
-    let mut random = Random::new(seed);
+    let mut random = Random::new(u64::from(seed));
     let mut vault = Vault::open(K, S, OPENED.concat())?;
     let mut written = OPENED;
     for (record, sheet) in WRITTEN {
@@ -80,7 +86,7 @@ fn story(seed: u32) -> Result<String, Failure> {
     text += &comparison(&written, &records);
 
     let filled: Vec<u32> = header.stripes().collect();
-    let stripe = random.one(&filled);
+    let stripe = *random.one(&filled);
     let position = rack.lose(stripe, &mut random);
     let shelf = shelf_name(K, stripe);
     text += "\n4. ONE POSITION MORE. ";
