@@ -1,5 +1,6 @@
 //! The scenarios: what is opened, written, lost, altered and asked.
-use crate::calls::{self, Answer, Call};
+use crate::by_library;
+use crate::calls::{Answer, Call};
 use crate::erasures::{self, Broken, Loss, Marks};
 use crate::faults::{self, Fault};
 use crate::lent::Side;
@@ -504,21 +505,21 @@ fn alone(session: &mut Session) -> Run<()> {
     let mut side = Side::new(header, 0);
     let raw = data(&mut session.random, header.raw_len());
     side.raw.set(&raw);
-    let mut numbers = vec![calls::library(&mut side, Call::Open).number];
+    let mut numbers = vec![by_library::call(&mut side, Call::Open).number];
     for _ in 1..n {
         let block = data(&mut session.random, header.data());
         side.block.set(&block);
         let record = session.random.below(n as u64) as u32;
-        numbers.push(calls::library(&mut side, Call::Write { record }).number);
+        numbers.push(by_library::call(&mut side, Call::Write { record }).number);
     }
-    numbers.push(calls::library(&mut side, Call::Image).number);
+    numbers.push(by_library::call(&mut side, Call::Image).number);
     let header = side.header;
     let marks = Loss::Half.marks(&mut session.random, header);
     let list = erasures::list(&mut session.random, header, &marks);
     side.erasures.set(&list);
-    numbers.push(calls::library(&mut side, Call::Recover).number);
+    numbers.push(by_library::call(&mut side, Call::Recover).number);
     for stripe in 0..=header.k {
-        numbers.push(calls::library(&mut side, Call::Decode { stripe }).number);
+        numbers.push(by_library::call(&mut side, Call::Decode { stripe }).number);
     }
     let holds = numbers.iter().all(|&x| x == 0) && side.records.part() == side.raw.part();
     session.expect(holds, "the library alone did not recover the records")

@@ -1,7 +1,8 @@
 //! A scenario's run: both implementations over buffers that are equal before each call, and must be after it.
-use crate::calls::{self, Answer, Call};
+use crate::calls::{Answer, Call};
 use crate::lent::{Side, Words};
 use crate::tally::Tally;
+use crate::{by_library, by_reference};
 use random::Random;
 use reference::header::Header;
 
@@ -88,8 +89,8 @@ impl Session {
                 self.reference.describe()
             );
         }
-        let ours = calls::library(&mut self.library, call);
-        let theirs = calls::reference(&mut self.reference, call);
+        let ours = by_library::call(&mut self.library, call);
+        let theirs = by_reference::call(&mut self.reference, call);
         if ours != theirs || self.library != self.reference {
             let text = format!(
                 "{call:?} at {header:?}\n  library   {ours:?}\n  reference {theirs:?}\n{}",
