@@ -216,63 +216,58 @@ fn firsts(random: &mut Random, level: u32, k: u32) -> Vec<u64> {
     some.iter().map(|i| i << level).collect()
 }
 
-fn cases() -> Vec<Case> {
-    let mut random = Random::new(2013);
-    let mut cases = Vec::new();
-    worked(&mut cases);
+/// Stripes of every shape up to k = 5: coding, and each kind of decoding.
+fn small(random: &mut Random, cases: &mut Vec<Case>) {
     let mut turn = 0;
     for level in 0..=5 {
         for k in level.max(1)..=5 {
-            for first in firsts(&mut random, level, k) {
+            for first in firsts(random, level, k) {
+                let shape = |width| Shape {
+                    level,
+                    k,
+                    first,
+                    width,
+                };
                 for width in 1..=4 {
-                    cases.push(coding(
-                        &mut random,
-                        Shape {
-                            level,
-                            k,
-                            first,
-                            width,
-                        },
-                    ));
+                    cases.push(coding(random, shape(width)));
                 }
                 for (which, change) in DECODINGS {
                     turn += 1;
-                    cases.push(decoding(
-                        &mut random,
-                        Shape {
-                            level,
-                            k,
-                            first,
-                            width: 1 + turn % 4,
-                        },
-                        which,
-                        change,
-                    ));
+                    cases.push(decoding(random, shape(1 + turn % 4), which, change));
                 }
             }
         }
     }
+}
+
+/// Stripes of a vault of 1024 records.
+fn large(random: &mut Random, cases: &mut Vec<Case>) {
+    let shape = |level, first, width| Shape {
+        level,
+        k: 10,
+        first,
+        width,
+    };
     for level in 6..10 {
         let first = random.below(1 << (10 - level)) << level;
-        let shape = Shape {
-            level,
-            k: 10,
-            first,
-            width: 1,
-        };
-        cases.push(coding(&mut random, shape));
-        cases.push(decoding(&mut random, shape, Erased::Some, Change::Garbage));
+        let shape = shape(level, first, 1);
+        cases.push(coding(random, shape));
+        cases.push(decoding(random, shape, Erased::Some, Change::Garbage));
     }
-    let large = Shape {
-        level: 10,
-        k: 10,
-        first: 0,
-        width: 2,
-    };
-    cases.push(coding(&mut random, large));
+    let full = shape(10, 0, 2);
+    cases.push(coding(random, full));
     for i in [0, 1, 3, 6, 7] {
-        cases.push(decoding(&mut random, large, DECODINGS[i].0, DECODINGS[i].1));
+        let (which, change) = DECODINGS[i];
+        cases.push(decoding(random, full, which, change));
     }
+}
+
+fn cases() -> Vec<Case> {
+    let mut random = Random::new(2013);
+    let mut cases = Vec::new();
+    worked(&mut cases);
+    small(&mut random, &mut cases);
+    large(&mut random, &mut cases);
     cases
 }
 

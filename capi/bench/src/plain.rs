@@ -73,6 +73,17 @@ fn reversed(k: usize, t: usize) -> u32 {
 
 // Mixing and its inverse (crates/code: mixing, unmixing).
 
+/// Does a step on each row of the older half and the row of the newer half that stands beside it, with the powers of v.
+fn each_pair(part: &mut [u32], width: usize, v: u32, step: impl Fn(&mut [u32], &mut [u32], u32)) {
+    let (older, newer) = part.split_at_mut(part.len() / 2);
+    let rows = older.chunks_exact_mut(width);
+    let mut g = 1;
+    for (low, high) in rows.zip(newer.chunks_exact_mut(width)) {
+        step(low, high, g);
+        g = mul(g, v);
+    }
+}
+
 fn mix_row(low: &mut [u32], high: &mut [u32], g: u32) {
     for (x, y) in low.iter_mut().zip(high) {
         let a = *x;
@@ -83,13 +94,7 @@ fn mix_row(low: &mut [u32], high: &mut [u32], g: u32) {
 }
 
 fn mix(part: &mut [u32], width: usize, v: u32) {
-    let (older, newer) = part.split_at_mut(part.len() / 2);
-    let rows = older.chunks_exact_mut(width);
-    let mut g = 1;
-    for (low, high) in rows.zip(newer.chunks_exact_mut(width)) {
-        mix_row(low, high, g);
-        g = mul(g, v);
-    }
+    each_pair(part, width, v, mix_row);
 }
 
 fn mix_all(half: &mut [u32], level: usize, k: usize, width: usize, root: u32) {
@@ -110,13 +115,7 @@ fn unmix_row(low: &mut [u32], high: &mut [u32], g: u32) {
 }
 
 fn unmix(part: &mut [u32], width: usize, v: u32) {
-    let (older, newer) = part.split_at_mut(part.len() / 2);
-    let rows = older.chunks_exact_mut(width);
-    let mut g = 1;
-    for (low, high) in rows.zip(newer.chunks_exact_mut(width)) {
-        unmix_row(low, high, g);
-        g = mul(g, v);
-    }
+    each_pair(part, width, v, unmix_row);
 }
 
 fn unmix_all(half: &mut [u32], level: usize, k: usize, width: usize, root: u32) {
@@ -609,11 +608,8 @@ fn recover_full(
             return 9;
         };
         let skip = usize::from(from == 0);
-        for (i, (record, row)) in out
-            .chunks_exact_mut(s)
-            .zip(rows.chunks_exact(cols))
-            .enumerate()
-        {
+        let pairs = out.chunks_exact_mut(s).zip(rows.chunks_exact(cols));
+        for (i, (record, row)) in pairs.enumerate() {
             if skip == 1 && row[0] as usize != i {
                 number = 10;
             }

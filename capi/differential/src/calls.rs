@@ -1,4 +1,5 @@
-//! The six calls, and what they answer.
+//! The six calls, what they answer, and what an implementation of them is.
+use crate::lent::Side;
 
 #[derive(Clone, Copy, Debug, PartialEq)]
 pub enum Call {
@@ -39,6 +40,27 @@ impl Answer {
         Answer {
             number,
             ..Answer::default()
+        }
+    }
+}
+
+/// An implementation of the calls: each is made over one side's buffers and header.
+pub trait Calls {
+    fn open(side: &mut Side) -> Answer;
+    fn write(side: &mut Side, record: u32) -> Answer;
+    fn read(side: &Side, record: u32) -> Answer;
+    fn image(side: &mut Side) -> Answer;
+    fn decode(side: &mut Side, stripe: u32) -> Answer;
+    fn recover(side: &mut Side) -> Answer;
+
+    fn call(side: &mut Side, call: Call) -> Answer {
+        match call {
+            Call::Open => Self::open(side),
+            Call::Write { record } => Self::write(side, record),
+            Call::Read { record } => Self::read(side, record),
+            Call::Image => Self::image(side),
+            Call::Decode { stripe } => Self::decode(side, stripe),
+            Call::Recover => Self::recover(side),
         }
     }
 }

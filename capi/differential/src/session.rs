@@ -1,8 +1,9 @@
 //! A scenario's run: both implementations over buffers that are equal before each call, and must be after it.
-use crate::calls::{Answer, Call};
+use crate::by_library::Library;
+use crate::by_reference::Reference;
+use crate::calls::{Answer, Call, Calls};
 use crate::lent::{Side, Words};
 use crate::tally::Tally;
-use crate::{by_library, by_reference};
 use random::Random;
 use reference::header::Header;
 
@@ -89,8 +90,8 @@ impl Session {
                 self.reference.describe()
             );
         }
-        let ours = by_library::call(&mut self.library, call);
-        let theirs = by_reference::call(&mut self.reference, call);
+        let ours = Library::call(&mut self.library, call);
+        let theirs = Reference::call(&mut self.reference, call);
         if ours != theirs || self.library != self.reference {
             let text = format!(
                 "{call:?} at {header:?}\n  library   {ours:?}\n  reference {theirs:?}\n{}",

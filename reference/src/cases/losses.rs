@@ -269,6 +269,14 @@ fn alterations(script: &mut Script, turn: usize) {
     }
 }
 
+/// Each kind of loss and alteration, of the vault as it is.
+fn all(script: &mut Script, turn: usize) {
+    no_loss(script);
+    empty_levels(script);
+    losses(script, turn);
+    alterations(script, turn);
+}
+
 pub fn add(script: &mut Script) {
     let vaults = [
         (1, 1, 4),
@@ -287,10 +295,7 @@ pub fn add(script: &mut Script) {
                 script.write();
             }
             turn += 1;
-            no_loss(script);
-            empty_levels(script);
-            losses(script, turn);
-            alterations(script, turn);
+            all(script, turn);
             if i % 3 == 0 {
                 spans(script);
             }
@@ -302,9 +307,6 @@ pub fn add(script: &mut Script) {
             script.write();
         }
         turn += 1;
-        no_loss(script);
-        empty_levels(script);
-        losses(script, turn);
-        alterations(script, turn);
+        all(script, turn);
     }
 }

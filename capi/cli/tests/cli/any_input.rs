@@ -20,30 +20,12 @@ fn random_bytes() {
     for run in 0..300 {
         let (k, s, c) = plate(&mut random);
         let all = image_len(k, s);
-        let length = if random.index(4) == 0 {
-            random.index(2 * all)
-        } else {
-            all
-        };
-        let mut image = random.bytes(length);
-        if run % 2 == 0 {
-            // Words of the field.
-            for word in image.chunks_exact_mut(4) {
-                word[2..].fill(0);
-            }
-        }
-        let gaps = match random.index(3) {
-            0 => Vec::new(),
-            1 => random_bytes_of_pairs(&mut random, all),
-            _ => {
-                let length = random.index(40);
-                random.bytes(length)
-            }
-        };
+        let image = random_image(&mut random, all, run % 2 == 0);
+        let gaps = random_gaps(&mut random, all);
         let image = file("random-image", &image);
         let gaps = file("random-gaps", &gaps);
         let [k, s, c] = [k, s, c].map(|x| x.to_string());
-        let shelf = random.index(6).to_string();
+        let shelf = random.below(6).to_string();
         let words = match run % 3 {
             0 => vec!["recover", &k, &s, &c, image, gaps],
             1 => vec!["decode", &k, &s, &c, image, gaps, &shelf],
@@ -61,8 +43,36 @@ fn random_bytes() {
     }
 }
 
+/// An image of any words, or of words of the field; one in four of any length.
+fn random_image(random: &mut Random, all: usize, in_field: bool) -> Vec<u8> {
+    let length = if random.below(4) == 0 {
+        random.index(2 * all)
+    } else {
+        all
+    };
+    let mut image = random.bytes(length);
+    if in_field {
+        for word in image.chunks_exact_mut(4) {
+            word[2..].fill(0);
+        }
+    }
+    image
+}
+
+/// A gap list: none, pairs, or any bytes.
+fn random_gaps(random: &mut Random, all: usize) -> Vec<u8> {
+    match random.below(3) {
+        0 => Vec::new(),
+        1 => random_pairs(random, all),
+        _ => {
+            let length = random.index(40);
+            random.bytes(length)
+        }
+    }
+}
+
 /// Some good pairs of a gap list, most of the time.
-fn random_bytes_of_pairs(random: &mut Random, all: usize) -> Vec<u8> {
+fn random_pairs(random: &mut Random, all: usize) -> Vec<u8> {
     let mut offset = random.index(8);
     let mut list = Vec::new();
     while offset < all {
@@ -109,53 +119,55 @@ fn empty_level_at(k: usize, s: usize, c: usize, at: usize) -> bool {
     }
 }
 
+/// Words of the command line, the commands first.
+const WORDS: [&str; 32] = [
+    "demo",
+    "image",
+    "gaps",
+    "recover",
+    "decode",
+    "list",
+    "--json",
+    "--seed",
+    "-o",
+    "--text",
+    "--",
+    "-",
+    "",
+    "0",
+    "1",
+    "2",
+    "3",
+    "10",
+    "11",
+    "4294967295",
+    "4294967296",
+    "-1",
+    "C",
+    "C:0",
+    "0:0-1",
+    "C:0-9",
+    "1:",
+    ":",
+    "--help",
+    "/dev/null",
+    "/dev/zero",
+    "é",
+];
+
 /// Words of the command line in any order.
 #[test]
 fn random_words() {
     let image = file("words-image", &[0; 112]);
-    let words = [
-        "demo",
-        "image",
-        "gaps",
-        "recover",
-        "decode",
-        "list",
-        "--json",
-        "--seed",
-        "-o",
-        "--text",
-        "--",
-        "-",
-        "",
-        "0",
-        "1",
-        "2",
-        "3",
-        "10",
-        "11",
-        "4294967295",
-        "4294967296",
-        "-1",
-        "C",
-        "C:0",
-        "0:0-1",
-        "C:0-9",
-        "1:",
-        ":",
-        "--help",
-        "/dev/null",
-        "/dev/zero",
-        "é",
-        image,
-    ];
+    let words = [&WORDS[..], &[image]].concat();
     let out = file("words-out", &[]);
     let mut random = Random::new(4);
     for _ in 0..300 {
-        let mut line = vec![*random.one(&words[..6])];
-        if random.index(2) == 0 {
+        let mut line = vec![*random.one(&WORDS[..6])];
+        if random.below(2) == 0 {
             line.extend(["2", "1"]);
         }
-        for _ in 0..random.index(6) {
+        for _ in 0..random.below(6) {
             let word = *random.one(&words);
             line.push(word);
             if word == "-o" {

@@ -101,64 +101,58 @@ fn any_half_of_each_shelf_brings_the_records_back() {
     let mut random = Random::new(1);
     for _ in 0..25 {
         let (k, s) = (1 + random.index(5), 1 + random.index(4));
-        let n = 1 << k;
-        let mut book = vec![vec![0; s]; n];
-        let mut input = String::new();
-        for _ in 0..random.index(3 * n) {
-            let record = random.index(n);
-            let sheet: Vec<usize> = (0..s).map(|_| random.index(65536)).collect();
-            input += &format!("{record} {}\n", spaced(&sheet));
-            book[record] = sheet;
-        }
-        let (k, s) = (k.to_string(), s.to_string());
-        let made = vault(["image", &k, &s, "--text"], input.as_bytes());
-        let c: usize = made
-            .stderr
-            .trim_end()
-            .rsplit(' ')
-            .next()
-            .unwrap()
-            .parse()
-            .unwrap();
-        let mut lost = Vec::new();
-        for shelf in 0..=n.ilog2() {
-            let size = 1 << shelf;
-            let name = if size == n {
-                "C".into()
-            } else {
-                shelf.to_string()
-            };
-            // An empty level may be lost whole.
-            let most = if size == n || c & size != 0 {
-                size
-            } else {
-                2 * size
-            };
-            let some = random.some(2 * size, most).into_iter();
-            lost.extend(some.map(|position| format!("{name}:{position}")));
-        }
-        let mut words = vec!["gaps".to_owned(), k.clone(), s.clone()];
-        words.extend(lost);
+        let (input, book) = written(&mut random, 1 << k, s);
+        let [kw, sw] = [k, s].map(|x| x.to_string());
+        let made = vault(["image", &kw, &sw, "--text"], input.as_bytes());
+        let plate: Vec<&str> = made.stderr.trim_end().split(' ').collect();
+        let ["plate", _, _, c] = plate[..] else {
+            panic!("{made:?}");
+        };
+        let mut words = vec!["gaps".to_owned(), kw, sw];
+        words.extend(half(&mut random, k, c.parse().unwrap()));
         let gaps = vault(&words, &[]);
         let mut image = made.stdout;
         for pair in gaps.stdout.chunks(8) {
             let number =
                 |at: usize| u32::from_le_bytes(pair[at..at + 4].try_into().unwrap()) as usize;
-            image[number(0)..number(0) + number(4)].fill_with(|| random.below(256) as u8);
+            let garbage = random.bytes(number(4));
+            image[number(0)..number(0) + number(4)].copy_from_slice(&garbage);
         }
         let image = file("half", &image);
         let gaps = file("half-gaps", &gaps.stdout);
         let answer = line(&format!("recover {k} {s} {c} {image} {gaps}"));
-        let lines = book
-            .iter()
-            .enumerate()
-            .map(|(i, sheet)| format!("{i} {}\n", spaced(sheet)));
-        assert_eq!(
-            (answer.status, answer.text()),
-            (0, lines.collect()),
-            "{answer:?}"
-        );
+        let lines = book.iter().enumerate();
+        let lines = lines.map(|(i, sheet)| format!("{i} {}\n", spaced(sheet)));
+        let expected = (0, lines.collect());
+        assert_eq!((answer.status, answer.text()), expected, "{answer:?}");
     }
+}
+
+/// The lines of some writes, and the sheets that they leave.
+fn written(random: &mut Random, n: usize, s: usize) -> (String, Vec<Vec<usize>>) {
+    let mut book = vec![vec![0; s]; n];
+    let mut input = String::new();
+    for _ in 0..random.index(3 * n) {
+        let record = random.index(n);
+        let sheet: Vec<usize> = (0..s).map(|_| random.index(65536)).collect();
+        input += &format!("{record} {}\n", spaced(&sheet));
+        book[record] = sheet;
+    }
+    (input, book)
+}
+
+/// Half of the positions of each needed shelf, and all of an empty level, as the words of `vault gaps`.
+fn half(random: &mut Random, k: usize, c: usize) -> Vec<String> {
+    let mut lost = Vec::new();
+    for shelf in 0..=k {
+        let size = 1 << shelf;
+        let full = shelf == k;
+        let name = if full { "C".into() } else { shelf.to_string() };
+        let needed = full || c & size != 0;
+        let some = random.some(2 * size, if needed { size } else { 2 * size });
+        lost.extend(some.iter().map(|position| format!("{name}:{position}")));
+    }
+    lost
 }
 
 fn spaced(words: &[usize]) -> String {
