@@ -1,4 +1,4 @@
-//! Coding of a stripe (document 01: shelf): X, then Y, 2^level positions each.
+//! Coding of a stripe (docs/FORMAT.md; a shelf to users): X, then Y, 2^level positions each.
 use crate::field::{add, mul, pow, root, sub};
 
 /// rev(t): t with its k bits reversed.
@@ -67,7 +67,7 @@ mod tests {
 
     #[test]
     fn columns_are_coded_alone() {
-        // The levels of document 01's listing: record numbers 0, 1 and 2 written with 1, 2 and 3.
+        // The levels of racklist's example in docs/FORMAT.md: record numbers 0, 1 and 2 written with 1, 2 and 3.
         assert_eq!(code(2, 2, 2, &[2, 3]), [2, 3, 8192, 12288]);
         assert_eq!(
             code(2, 0, 2, &[0, 1, 1, 2]),

@@ -1,10 +1,10 @@
-//! Test cases for coding and decoding of stripes: what the program `stripes` reads, and what it has to print.
+//! Test cases for coding and decoding of stripes: what the program `test_stripes` reads, and what it has to print.
 //!
 //! Input: the count of cases, 2 bytes, then the cases. A case is kind (0 codes, 1 decodes), level, k and width, a byte each, t0 in 2 bytes;
 //! for decoding a byte for each position, 1 where it is erased; then the words of all positions, 3 bytes each. Numbers have the low byte first. Where a
 //! case codes, the blocks stand in the first half, and what stands in the second must not matter.
 //!
-//! Output: a line for each case. Coding: the stripe's words. Decoding: 0, 7 or 9 of document 01's table, and after 0 and 9 what is left in the
+//! Output: a line for each case. Coding: the stripe's words. Decoding: 0, 7 or 9 of the table of refusals, and after 0 and 9 what is left in the
 //! stripe's place: the blocks and then zeros, or only zeros.
 use crate::decode::decode;
 use crate::field::P;
@@ -183,7 +183,7 @@ const DECODINGS: [(Erased, Change); 12] = [
     (Erased::TooMany, Change::Garbage),
 ];
 
-/// P1 to P4 of document 01.
+/// Examples P1 to P4 of docs/FORMAT.md.
 fn worked(cases: &mut Vec<Case>) {
     let shape = |level, first| Shape {
         level,

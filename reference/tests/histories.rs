@@ -1,4 +1,4 @@
-//! Recovery after any history gives the record book (document 01), whatever half of each stripe is lost.
+//! Recovery after any history gives the records of the model (docs/FORMAT.md), whatever half of each stripe is lost.
 use random::Random;
 use reference::header::Header;
 use reference::image::image;

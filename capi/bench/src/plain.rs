@@ -1,5 +1,5 @@
-//! The library's algorithm in plain Rust, for a comparison: the same steps on the same buffers as crates/field, crates/code and crates/vault, on slices
-//! and iterators, with nothing proved.
+//! The library's algorithm in plain Rust, for a comparison: the same steps on the same buffers as the crates named below, on slices and iterators, with
+//! nothing proved.
 
 const P: u32 = 65537;
 
@@ -127,7 +127,7 @@ fn unmix_all(half: &mut [u32], level: usize, k: usize, width: usize, root: u32) 
     }
 }
 
-// Coding a stripe (crates/code: stripe).
+// Coding a stripe (crates/code: coding).
 
 fn scale_row(row: &mut [u32], g: u32) {
     for x in row {
@@ -149,7 +149,7 @@ fn code(stripe: &mut [u32], level: usize, k: usize, first: usize, width: usize, 
     mix_all(y, level, k, width, root);
 }
 
-// The weights of a stripe's positions (crates/code: weights).
+// The weights of a stripe's positions (crates/decoder: weights).
 
 fn points(part: &mut [u32], level: usize, k: usize, root: u32) {
     let u = power(root, 1 << (k - level));
@@ -182,7 +182,7 @@ fn weights(part: &mut [u32], marks: &[bool], level: usize, k: usize, root: u32) 
     }
 }
 
-// Decoding (crates/code: decoding).
+// Decoding (crates/decoder: decoding).
 
 fn weigh(rows: &mut [u32], weights: &[u32], marks: &[bool], width: usize) {
     let factors = weights.iter().zip(marks);
@@ -288,7 +288,7 @@ fn count(marks: &[bool]) -> usize {
     marks.iter().filter(|&&erased| erased).count()
 }
 
-// Opening and writing (crates/vault: opening, writing).
+// Opening and writing (crates/store: opening, writing).
 
 impl Header {
     fn fits(self) -> bool {
@@ -431,7 +431,7 @@ pub fn write(
     (0, c + 1)
 }
 
-// Recovery (crates/vault: erasures, columns, stripes, recovering).
+// Recovery (crates/image: erasures, loading; crates/rows, crates/columns, crates/recovery).
 
 /// A stripe of an image: its level (k for the full stripe), the number of its first write, its first byte.
 struct Stripe {

@@ -1,4 +1,4 @@
-//! Losses of a stripe's positions, and the erasure lists (document 01: gap lists) that say so; erasure lists that break each of the rules.
+//! Losses of a stripe's positions, and the erasure lists (docs/FORMAT.md) that say so; erasure lists that break each of the rules.
 use random::Random;
 use reference::header::Header;
 

@@ -1,4 +1,4 @@
-//! Test cases for the calls of the vault: what the program `cases` reads, and what it has to print.
+//! Test cases for the calls of the vault: what the program `test_cases` reads, and what it has to print.
 mod faults;
 mod images;
 mod listings;

@@ -2,7 +2,7 @@
 use crate::program::{bytes, file, image_file, line, numbers, vault, writes};
 use random::Random;
 
-/// The writes of racklist's example in document 01, and its lines.
+/// The writes of racklist's example in docs/FORMAT.md, and its lines.
 const WRITES: [&[u16]; 3] = [&[0, 1], &[1, 2], &[2, 3]];
 const LINES: &str = "C 0 6 0\nC 1 255 0\nC 2 65533 0\nC 3 65280 0\nC 4 7984 0\nC 5 12576 0\nC 6 57041 0\nC 7 53473 0\n\
                      0 0 2 3\n0 1 8192 12288\n1 0 1 3\n1 1 65536 65536\n1 2 65281 65026\n1 3 256 513\n";
