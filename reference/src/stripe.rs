@@ -6,7 +6,7 @@ pub fn rev(k: u32, t: u64) -> u64 {
     (0..k).map(|i| (t >> i & 1) << (k - 1 - i)).sum()
 }
 
-/// A (older) mixed with B (newer) under v: A[i] + v^i B[i] at i and A[i] - v^i B[i] at i + m.
+/// A (older) mixed with B (newer) under v: `A[i] + v^i B[i]` at i and `A[i] - v^i B[i]` at i + m.
 pub fn mix(a: &[u64], b: &[u64], v: u64) -> Vec<u64> {
     let mut factor = 1;
     let mut turned = Vec::new();
