@@ -74,7 +74,7 @@ fn solve(size: usize, mut system: Vec<Vec<u64>>) -> Vec<u64> {
 #[cfg(test)]
 mod tests {
     use super::*;
-    use crate::random::Random;
+    use random::Random;
 
     #[test]
     fn too_few_out_of_field_inconsistent() {
@@ -102,7 +102,7 @@ mod tests {
             for k in level.max(1)..=5 {
                 let size = 1 << level;
                 let first = random.below(1 << (k - level)) << level;
-                let width = 1 + random.below(3) as usize;
+                let width = 1 + random.index(3);
                 let blocks: Vec<u64> = (0..size * width).map(|_| random.below(P)).collect();
                 let mut erased = vec![false; 2 * size];
                 for i in random.some(2 * size, size) {

@@ -1,4 +1,4 @@
-//! Erasure lists (document 01: gap lists): pairs of offset and length, 4 bytes each, low byte first.
+//! Erasure lists (docs/FORMAT.md; gap lists to users): pairs of offset and length, 4 bytes each, low byte first.
 use crate::header::Header;
 use crate::image::number_at;
 use crate::refusal::{test, Refusal};

@@ -1,4 +1,4 @@
-//! The header (document 01: plate), the lengths of all buffers, and which levels are filled.
+//! The header (docs/FORMAT.md; the plate to users), the lengths of all buffers, and which levels are filled.
 use crate::refusal::{test, Refusal};
 
 #[derive(Clone, Copy, Debug, Default, PartialEq)]

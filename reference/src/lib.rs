@@ -1,5 +1,5 @@
-//! A second implementation of the record vault, written from document 01 alone: simple and slow. It makes the test cases that the
-//! proved programs are held to.
+//! A second implementation of the record vault, written from the specification alone (docs/FORMAT.md): simple and slow. It makes the test cases
+//! that the proved programs are held to.
 pub mod cases;
 pub mod decode;
 pub mod erasures;
@@ -9,7 +9,6 @@ pub mod image;
 pub mod listing;
 pub mod machine;
 pub mod opening;
-pub mod random;
 pub mod reading;
 pub mod recovery;
 pub mod refusal;

@@ -64,7 +64,7 @@ mod tests {
     use super::list;
 
     #[test]
-    fn the_document_s_example() {
+    fn the_specification_s_example() {
         let input = [2, 1, 0, 0, 1, 0, 1, 0, 2, 0, 2, 0, 3, 0];
         let expected = "C 0 6 0\nC 1 255 0\nC 2 65533 0\nC 3 65280 0\nC 4 7984 0\nC 5 12576 0\nC 6 57041 0\nC 7 53473 0\n\
              0 0 2 3\n0 1 8192 12288\n1 0 1 3\n1 1 65536 65536\n1 2 65281 65026\n1 3 256 513\n";

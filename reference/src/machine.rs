@@ -1,4 +1,4 @@
-//! Runs commands over the calls of the vault, and keeps what the program `cases` has to print.
+//! Runs commands over the calls of the vault, and keeps what the program `test_cases` has to print.
 //!
 //! Output: for each call a line with its name, its number and what else it answers, then a line for each buffer that was lent to it to be changed: its
 //! name and its words; of more than 16 words, and of bytes, `#`, their count and a checksum. A listing's text of at most 256 bytes is printed as it is.

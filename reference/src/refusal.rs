@@ -1,4 +1,4 @@
-//! The refusals of document 01's table ("Turning away"), in rising number.
+//! The table of refusals of docs/FORMAT.md, in rising number.
 
 #[derive(Clone, Copy, Debug, PartialEq)]
 pub enum Refusal {

@@ -1,4 +1,4 @@
-//! Coding of a stripe (document 01: shelf): X, then Y, 2^level positions each.
+//! Coding of a stripe (docs/FORMAT.md; a shelf to users): X, then Y, 2^level positions each.
 use crate::field::{add, mul, pow, root, sub};
 
 /// rev(t): t with its k bits reversed.
@@ -6,7 +6,7 @@ pub fn rev(k: u32, t: u64) -> u64 {
     (0..k).map(|i| (t >> i & 1) << (k - 1 - i)).sum()
 }
 
-/// A (older) mixed with B (newer) under v: A[i] + v^i B[i] at i and A[i] - v^i B[i] at i + m.
+/// A (older) mixed with B (newer) under v: `A[i] + v^i B[i]` at i and `A[i] - v^i B[i]` at i + m.
 pub fn mix(a: &[u64], b: &[u64], v: u64) -> Vec<u64> {
     let mut factor = 1;
     let mut turned = Vec::new();
@@ -67,7 +67,7 @@ mod tests {
 
     #[test]
     fn columns_are_coded_alone() {
-        // The levels of document 01's listing: record numbers 0, 1 and 2 written with 1, 2 and 3.
+        // The levels of racklist's example in docs/FORMAT.md: record numbers 0, 1 and 2 written with 1, 2 and 3.
         assert_eq!(code(2, 2, 2, &[2, 3]), [2, 3, 8192, 12288]);
         assert_eq!(
             code(2, 0, 2, &[0, 1, 1, 2]),

@@ -1,16 +1,16 @@
-//! Test cases for coding and decoding of stripes: what the program `stripes` reads, and what it has to print.
+//! Test cases for coding and decoding of stripes: what the program `test_stripes` reads, and what it has to print.
 //!
 //! Input: the count of cases, 2 bytes, then the cases. A case is kind (0 codes, 1 decodes), level, k and width, a byte each, t0 in 2 bytes;
 //! for decoding a byte for each position, 1 where it is erased; then the words of all positions, 3 bytes each. Numbers have the low byte first. Where a
 //! case codes, the blocks stand in the first half, and what stands in the second must not matter.
 //!
-//! Output: a line for each case. Coding: the stripe's words. Decoding: 0, 7 or 9 of document 01's table, and after 0 and 9 what is left in the
+//! Output: a line for each case. Coding: the stripe's words. Decoding: 0, 7 or 9 of the table of refusals, and after 0 and 9 what is left in the
 //! stripe's place: the blocks and then zeros, or only zeros.
 use crate::decode::decode;
 use crate::field::P;
-use crate::random::Random;
 use crate::refusal::Refusal;
 use crate::stripe::code;
+use random::Random;
 
 /// The shape of a stripe.
 #[derive(Clone, Copy)]
@@ -79,7 +79,7 @@ fn words(random: &mut Random, count: usize) -> Vec<u64> {
     let edges = [0, 1, 255, 256, 32768, 65535, 65536, 65536];
     let mut word = || {
         if random.below(4) == 0 {
-            edges[random.below(8) as usize]
+            *random.one(&edges)
         } else {
             random.below(P)
         }
@@ -113,10 +113,10 @@ fn erase(random: &mut Random, shape: Shape, which: Erased) -> Vec<bool> {
         Erased::None => 0,
         Erased::X => return marks(shape, 0..size),
         Erased::Y => return marks(shape, size..2 * size),
-        Erased::Some => random.below(size as u64 + 1) as usize,
-        Erased::FewerThanHalf => random.below(size as u64) as usize,
+        Erased::Some => random.index(size + 1),
+        Erased::FewerThanHalf => random.index(size),
         Erased::Half => size,
-        Erased::TooMany => size + 1 + random.below(size as u64) as usize,
+        Erased::TooMany => size + 1 + random.index(size),
     };
     marks(shape, random.some(2 * size, count))
 }
@@ -158,8 +158,7 @@ fn decoding(random: &mut Random, shape: Shape, which: Erased, change: Change) ->
     }
     if let Change::Altered = change {
         let survivors: Vec<usize> = (0..2 * size).filter(|&i| !erased[i]).collect();
-        let i = survivors[random.below(survivors.len() as u64) as usize] * width
-            + random.below(width as u64) as usize;
+        let i = *random.one(&survivors) * width + random.index(width);
         stripe[i] = (stripe[i] + 1 + random.below(P - 1)) % P;
     }
     Case {
@@ -184,7 +183,7 @@ const DECODINGS: [(Erased, Change); 12] = [
     (Erased::TooMany, Change::Garbage),
 ];
 
-/// P1 to P4 of document 01.
+/// Examples P1 to P4 of docs/FORMAT.md.
 fn worked(cases: &mut Vec<Case>) {
     let shape = |level, first| Shape {
         level,
@@ -217,63 +216,58 @@ fn firsts(random: &mut Random, level: u32, k: u32) -> Vec<u64> {
     some.iter().map(|i| i << level).collect()
 }
 
-fn cases() -> Vec<Case> {
-    let mut random = Random::new(2013);
-    let mut cases = Vec::new();
-    worked(&mut cases);
+/// Stripes of every shape up to k = 5: coding, and each kind of decoding.
+fn small(random: &mut Random, cases: &mut Vec<Case>) {
     let mut turn = 0;
     for level in 0..=5 {
         for k in level.max(1)..=5 {
-            for first in firsts(&mut random, level, k) {
+            for first in firsts(random, level, k) {
+                let shape = |width| Shape {
+                    level,
+                    k,
+                    first,
+                    width,
+                };
                 for width in 1..=4 {
-                    cases.push(coding(
-                        &mut random,
-                        Shape {
-                            level,
-                            k,
-                            first,
-                            width,
-                        },
-                    ));
+                    cases.push(coding(random, shape(width)));
                 }
                 for (which, change) in DECODINGS {
                     turn += 1;
-                    cases.push(decoding(
-                        &mut random,
-                        Shape {
-                            level,
-                            k,
-                            first,
-                            width: 1 + turn % 4,
-                        },
-                        which,
-                        change,
-                    ));
+                    cases.push(decoding(random, shape(1 + turn % 4), which, change));
                 }
             }
         }
     }
+}
+
+/// Stripes of a vault of 1024 records.
+fn large(random: &mut Random, cases: &mut Vec<Case>) {
+    let shape = |level, first, width| Shape {
+        level,
+        k: 10,
+        first,
+        width,
+    };
     for level in 6..10 {
         let first = random.below(1 << (10 - level)) << level;
-        let shape = Shape {
-            level,
-            k: 10,
-            first,
-            width: 1,
-        };
-        cases.push(coding(&mut random, shape));
-        cases.push(decoding(&mut random, shape, Erased::Some, Change::Garbage));
+        let shape = shape(level, first, 1);
+        cases.push(coding(random, shape));
+        cases.push(decoding(random, shape, Erased::Some, Change::Garbage));
     }
-    let large = Shape {
-        level: 10,
-        k: 10,
-        first: 0,
-        width: 2,
-    };
-    cases.push(coding(&mut random, large));
+    let full = shape(10, 0, 2);
+    cases.push(coding(random, full));
     for i in [0, 1, 3, 6, 7] {
-        cases.push(decoding(&mut random, large, DECODINGS[i].0, DECODINGS[i].1));
+        let (which, change) = DECODINGS[i];
+        cases.push(decoding(random, full, which, change));
     }
+}
+
+fn cases() -> Vec<Case> {
+    let mut random = Random::new(2013);
+    let mut cases = Vec::new();
+    worked(&mut cases);
+    small(&mut random, &mut cases);
+    large(&mut random, &mut cases);
     cases
 }
 

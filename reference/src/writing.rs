@@ -91,8 +91,8 @@ fn halves(header: Header, log: &[u32], level: u32, j: usize) -> (Vec<u64>, Vec<u
 mod tests {
     use super::*;
     use crate::opening::open;
-    use crate::random::Random;
     use crate::stripe::code;
+    use random::Random;
 
     fn data(random: &mut Random, count: usize) -> Vec<u32> {
         (0..count).map(|_| random.below(65536) as u32).collect()

@@ -1,8 +1,8 @@
-//! Recovery after any history gives the record book (document 01), whatever half of each stripe is lost.
+//! Recovery after any history gives the records of the model (docs/FORMAT.md), whatever half of each stripe is lost.
+use random::Random;
 use reference::header::Header;
 use reference::image::image;
 use reference::opening::open;
-use reference::random::Random;
 use reference::reading::read;
 use reference::recovery::recover;
 use reference::writing::write;

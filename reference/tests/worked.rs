@@ -1,4 +1,4 @@
-//! The worked examples of document 01, P1 to P12: k = 2, s = 1.
+//! The worked examples of docs/FORMAT.md, P1 to P12: k = 2, s = 1.
 use reference::decode::decode;
 use reference::header::Header;
 use reference::image::image;

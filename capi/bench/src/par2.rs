@@ -1,6 +1,6 @@
 //! The program par2, where it is installed: 1,024 blocks of the same data and 1,024 more, half of all lost. It runs on one core, as the library does.
 use crate::measure::children_time;
-use reference::random::Random;
+use random::Random;
 use std::path::{Path, PathBuf};
 use std::process::{Command, Stdio};
 use std::time::Duration;

@@ -1,5 +1,5 @@
-//! The library's algorithm in plain Rust, for a comparison: the same steps on the same buffers as crates/field, crates/code and crates/vault, on slices
-//! and iterators, with nothing proved.
+//! The library's algorithm in plain Rust, for a comparison: the same steps on the same buffers as the crates named below, on slices and iterators, with
+//! nothing proved.
 
 const P: u32 = 65537;
 
@@ -73,6 +73,17 @@ fn reversed(k: usize, t: usize) -> u32 {
 
 // Mixing and its inverse (crates/code: mixing, unmixing).
 
+/// Does a step on each row of the older half and the row of the newer half that stands beside it, with the powers of v.
+fn each_pair(part: &mut [u32], width: usize, v: u32, step: impl Fn(&mut [u32], &mut [u32], u32)) {
+    let (older, newer) = part.split_at_mut(part.len() / 2);
+    let rows = older.chunks_exact_mut(width);
+    let mut g = 1;
+    for (low, high) in rows.zip(newer.chunks_exact_mut(width)) {
+        step(low, high, g);
+        g = mul(g, v);
+    }
+}
+
 fn mix_row(low: &mut [u32], high: &mut [u32], g: u32) {
     for (x, y) in low.iter_mut().zip(high) {
         let a = *x;
@@ -83,13 +94,7 @@ fn mix_row(low: &mut [u32], high: &mut [u32], g: u32) {
 }
 
 fn mix(part: &mut [u32], width: usize, v: u32) {
-    let (older, newer) = part.split_at_mut(part.len() / 2);
-    let rows = older.chunks_exact_mut(width);
-    let mut g = 1;
-    for (low, high) in rows.zip(newer.chunks_exact_mut(width)) {
-        mix_row(low, high, g);
-        g = mul(g, v);
-    }
+    each_pair(part, width, v, mix_row);
 }
 
 fn mix_all(half: &mut [u32], level: usize, k: usize, width: usize, root: u32) {
@@ -110,13 +115,7 @@ fn unmix_row(low: &mut [u32], high: &mut [u32], g: u32) {
 }
 
 fn unmix(part: &mut [u32], width: usize, v: u32) {
-    let (older, newer) = part.split_at_mut(part.len() / 2);
-    let rows = older.chunks_exact_mut(width);
-    let mut g = 1;
-    for (low, high) in rows.zip(newer.chunks_exact_mut(width)) {
-        unmix_row(low, high, g);
-        g = mul(g, v);
-    }
+    each_pair(part, width, v, unmix_row);
 }
 
 fn unmix_all(half: &mut [u32], level: usize, k: usize, width: usize, root: u32) {
@@ -128,7 +127,7 @@ fn unmix_all(half: &mut [u32], level: usize, k: usize, width: usize, root: u32) 
     }
 }
 
-// Coding a stripe (crates/code: stripe).
+// Coding a stripe (crates/code: coding).
 
 fn scale_row(row: &mut [u32], g: u32) {
     for x in row {
@@ -150,7 +149,7 @@ fn code(stripe: &mut [u32], level: usize, k: usize, first: usize, width: usize, 
     mix_all(y, level, k, width, root);
 }
 
-// The weights of a stripe's positions (crates/code: weights).
+// The weights of a stripe's positions (crates/decoder: weights).
 
 fn points(part: &mut [u32], level: usize, k: usize, root: u32) {
     let u = power(root, 1 << (k - level));
@@ -183,7 +182,7 @@ fn weights(part: &mut [u32], marks: &[bool], level: usize, k: usize, root: u32) 
     }
 }
 
-// Decoding (crates/code: decoding).
+// Decoding (crates/decoder: decoding).
 
 fn weigh(rows: &mut [u32], weights: &[u32], marks: &[bool], width: usize) {
     let factors = weights.iter().zip(marks);
@@ -289,7 +288,7 @@ fn count(marks: &[bool]) -> usize {
     marks.iter().filter(|&&erased| erased).count()
 }
 
-// Opening and writing (crates/vault: opening, writing).
+// Opening and writing (crates/store: opening, writing).
 
 impl Header {
     fn fits(self) -> bool {
@@ -432,7 +431,7 @@ pub fn write(
     (0, c + 1)
 }
 
-// Recovery (crates/vault: erasures, columns, stripes, recovering).
+// Recovery (crates/image: erasures, loading; crates/rows, crates/columns, crates/recovery).
 
 /// A stripe of an image: its level (k for the full stripe), the number of its first write, its first byte.
 struct Stripe {
@@ -609,11 +608,8 @@ fn recover_full(
             return 9;
         };
         let skip = usize::from(from == 0);
-        for (i, (record, row)) in out
-            .chunks_exact_mut(s)
-            .zip(rows.chunks_exact(cols))
-            .enumerate()
-        {
+        let pairs = out.chunks_exact_mut(s).zip(rows.chunks_exact(cols));
+        for (i, (record, row)) in pairs.enumerate() {
             if skip == 1 && row[0] as usize != i {
                 number = 10;
             }

@@ -1,6 +1,6 @@
 //! The same vault in three implementations, and the jobs that are timed: opening, a round of writes, recovery.
 use crate::plain;
-use reference::random::Random;
+use random::Random;
 use reference::{opening, recovery, writing};
 use vault_library::{calls, erasures, sizes, stripes, Header};
 

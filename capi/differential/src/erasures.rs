@@ -1,6 +1,6 @@
-//! Losses of a stripe's positions, and the erasure lists (document 01: gap lists) that say so; erasure lists that break each of the rules.
+//! Losses of a stripe's positions, and the erasure lists (docs/FORMAT.md) that say so; erasure lists that break each of the rules.
+use random::Random;
 use reference::header::Header;
-use reference::random::Random;
 
 /// For each level, and then for the full stripe, which positions are erased.
 pub type Marks = Vec<Vec<bool>>;
@@ -46,7 +46,7 @@ impl Loss {
 
     pub fn marks(self, random: &mut Random, header: Header) -> Marks {
         let filled: Vec<u32> = (0..=header.k).filter(|&l| header.filled(l)).collect();
-        let chosen = filled[random.below(filled.len() as u64) as usize];
+        let chosen = *random.one(&filled);
         let density = random.below(5);
         (0..=header.k)
             .map(|stripe| {
@@ -77,15 +77,15 @@ impl Loss {
             Loss::AllX => (0..all).map(|i| i < half).collect(),
             Loss::AllY => (0..all).map(|i| i >= half).collect(),
             Loss::AllXAndOne => {
-                let one = half + random.below(half as u64) as usize;
+                let one = half + random.index(half);
                 (0..all).map(|i| i < half || chosen && i == one).collect()
             }
             Loss::Alternate => {
-                let odd = random.below(2) as usize;
+                let odd = random.index(2);
                 (0..all).map(|i| i % 2 == odd).collect()
             }
             Loss::InARow => {
-                let first = random.below(half as u64 + 1) as usize;
+                let first = random.index(half + 1);
                 (0..all)
                     .map(|i| (first..first + half).contains(&i))
                     .collect()
@@ -130,13 +130,13 @@ pub fn list(random: &mut Random, header: Header, marks: &Marks) -> Vec<u8> {
         let (from, to) = match style {
             0 => (0, size),
             1 => {
-                let at =
-                    [0, size - 1, random.below(size as u64) as usize][random.below(3) as usize];
+                let any = random.index(size);
+                let at = *random.one(&[0, size - 1, any]);
                 (at, at + 1)
             }
             _ => {
-                let at = random.below(size as u64) as usize;
-                (at, at + 1 + random.below((size - at) as u64) as usize)
+                let at = random.index(size);
+                (at, at + 1 + random.index(size - at))
             }
         };
         let join = joined && random.below(2) == 0;
@@ -199,7 +199,7 @@ impl Broken {
     pub fn list(self, random: &mut Random, size: usize) -> Vec<u8> {
         let size = size as u32;
         let mut pairs = good_pairs(random, size);
-        let at = random.below(pairs.len() as u64) as usize;
+        let at = random.index(pairs.len());
         let (offset, length) = pairs[at];
         let end = offset + length;
         match self {
@@ -210,7 +210,7 @@ impl Broken {
                 pairs[last].1 = size + 1 - pairs[last].0;
             }
             Broken::BeginsOutside => {
-                let beyond = [0, 1, 7, u32::MAX - size][random.below(4) as usize];
+                let beyond = *random.one(&[0, 1, 7, u32::MAX - size]);
                 pairs.push((size + beyond, 1));
             }
             Broken::Wraps => {
@@ -229,7 +229,7 @@ impl Broken {
         }
         let mut list = pair_bytes(&pairs);
         if let Broken::Ragged(over) = self {
-            list.truncate(8 * random.below(pairs.len() as u64 + 1) as usize);
+            list.truncate(8 * random.index(pairs.len() + 1));
             list.extend((0..over).map(|i| i as u8));
         }
         list

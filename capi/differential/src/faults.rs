@@ -3,7 +3,6 @@ use crate::calls::Call;
 use crate::erasures::Broken;
 use crate::lent::{Side, Words};
 use crate::session::{Run, Session};
-use reference::random::Random;
 
 #[derive(Clone, Debug)]
 pub enum Fault {
@@ -114,11 +113,11 @@ fn any(session: &mut Session, call: Call) -> Fault {
     let (n, k, s) = (header.records() as u32, header.k, header.s);
     let size = session.side().image.len();
     let random = &mut session.random;
-    let broken = *one(random, &Broken::ALL);
+    let broken = *random.one(&Broken::ALL);
     let mut faults = vec![
-        one(random, &headers(n)).clone(),
-        one(random, &lengths(call)).clone(),
-        one(random, &lengths(call)).clone(),
+        random.one(&headers(n)).clone(),
+        random.one(&lengths(call)).clone(),
+        random.one(&lengths(call)).clone(),
         Fault::K(k + 1),
         Fault::S(s + 1),
     ];
@@ -127,29 +126,24 @@ fn any(session: &mut Session, call: Call) -> Fault {
         faults.push(Fault::Erasures(broken.list(random, size)));
     }
     if matches!(call, Call::Write { .. } | Call::Read { .. }) {
-        let record = *one(random, &[n, n + 1, 65536, 1 << 31, u32::MAX]);
+        let record = *random.one(&[n, n + 1, 65536, 1 << 31, u32::MAX]);
         faults.push(Fault::Record(record));
     }
     if matches!(call, Call::Open | Call::Write { .. }) {
-        let word = *one(random, &[65536, 65537, 1 << 31, u32::MAX]);
-        faults.push(Fault::DataWord(random.below(1 << 20) as usize, word));
+        let word = *random.one(&[65536, 65537, 1 << 31, u32::MAX]);
+        faults.push(Fault::DataWord(random.index(1 << 20), word));
     }
     if let Call::Decode { .. } = call {
         let level = random.below(u64::from(k)) as u32;
-        let stripe = *one(random, &[level, k + 1, k + 2, u32::MAX]);
+        let stripe = *random.one(&[level, k + 1, k + 2, u32::MAX]);
         faults.push(Fault::Stripe(stripe));
     }
-    one(random, &faults).clone()
-}
-
-/// One of some items, at random.
-fn one<'a, T>(random: &mut Random, items: &'a [T]) -> &'a T {
-    &items[random.below(items.len() as u64) as usize]
+    random.one(&faults).clone()
 }
 
 /// Makes a call with one fault, or with several.
 pub fn any_faulty(session: &mut Session, call: Call) -> Run<u32> {
-    let count = [1, 1, 1, 2, 3][session.random.below(5) as usize];
+    let count = *session.random.one(&[1, 1, 1, 2, 3]);
     let faults: Vec<Fault> = (0..count).map(|_| any(session, call)).collect();
     faulty(session, call, &faults)
 }

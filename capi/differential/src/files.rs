@@ -1,9 +1,9 @@
 //! Images and erasure lists in files: those that one implementation made are read by the other.
 use crate::erasures::{self, Loss};
+use random::Random;
 use reference::header::Header;
-use reference::random::Random;
 use reference::{image, opening, recovery, writing};
-use std::path::{Path, PathBuf};
+use std::path::PathBuf;
 use std::{env, fs, process};
 use vault_library as library;
 
@@ -16,6 +16,18 @@ impl Folder {
         fs::create_dir_all(&path).map_err(|error| format!("{}: {error}", path.display()))?;
         Ok(Folder(path))
     }
+
+    fn store(&self, image: &[u8], list: &[u8]) -> Result<(), String> {
+        let put =
+            |name, bytes| fs::write(self.0.join(name), bytes).map_err(|e| format!("{name}: {e}"));
+        put("image", image)?;
+        put("gaps", list)
+    }
+
+    fn load(&self) -> Result<(Vec<u8>, Vec<u8>), String> {
+        let get = |name| fs::read(self.0.join(name)).map_err(|error| format!("{name}: {error}"));
+        Ok((get("image")?, get("gaps")?))
+    }
 }
 
 impl Drop for Folder {
@@ -24,8 +36,13 @@ impl Drop for Folder {
     }
 }
 
-/// A record number and its block.
-type Write = (u32, Vec<u32>);
+/// What both implementations write: records of zeros are opened, and then written to.
+struct History {
+    k: u32,
+    s: u32,
+    /// Record numbers and their blocks.
+    writes: Vec<(u32, Vec<u32>)>,
+}
 
 /// Makes histories by both, has each store its image and an erasure list, and the other recover from these files. Gives how many files were read.
 pub fn exchange(seed: u64, small: bool) -> Result<usize, String> {
@@ -34,115 +51,121 @@ pub fn exchange(seed: u64, small: bool) -> Result<usize, String> {
     let mut count = 0;
     for k in 1..=if small { 3 } else { 8 } {
         for s in [1, 3] {
-            let writes: Vec<Write> = (0..random.below(3 << k))
-                .map(|_| {
-                    let record = random.below(1 << k) as u32;
-                    (record, (0..s).map(|_| random.below(65536) as u32).collect())
-                })
-                .collect();
-            by_library(&folder.0, &mut random, k, s, &writes)?;
-            by_reference(&folder.0, &mut random, k, s, &writes)?;
+            let history = History::drawn(&mut random, k, s);
+            history.by_library(&folder, &mut random)?;
+            history.by_reference(&folder, &mut random)?;
             count += 4;
         }
     }
     Ok(count)
 }
 
-/// The records that the writes leave.
-fn book(k: u32, s: u32, writes: &[Write]) -> Vec<u32> {
-    let mut records = vec![0; (s as usize) << k];
-    for (record, block) in writes {
-        let start = *record as usize * s as usize;
-        records[start..start + s as usize].copy_from_slice(block);
+impl History {
+    fn drawn(random: &mut Random, k: u32, s: u32) -> History {
+        let writes = (0..random.below(3 << k))
+            .map(|_| {
+                let record = random.below(1 << k) as u32;
+                (record, (0..s).map(|_| random.below(65536) as u32).collect())
+            })
+            .collect();
+        History { k, s, writes }
     }
-    records
-}
 
-fn store(folder: &Path, image: &[u8], list: &[u8]) -> Result<(), String> {
-    let put = |name, bytes| fs::write(folder.join(name), bytes).map_err(|e| format!("{name}: {e}"));
-    put("image", image)?;
-    put("gaps", list)
-}
-
-fn load(folder: &Path) -> Result<(Vec<u8>, Vec<u8>), String> {
-    let get = |name| fs::read(folder.join(name)).map_err(|error| format!("{name}: {error}"));
-    Ok((get("image")?, get("gaps")?))
-}
-
-/// The library's image, and a list that its wrapper makes of erased positions, read by the reference.
-fn by_library(
-    folder: &Path,
-    random: &mut Random,
-    k: u32,
-    s: u32,
-    writes: &[Write],
-) -> Result<(), String> {
-    let zeros = vec![0; (s as usize) << k];
-    let mut vault = library::Vault::open(k, s, zeros).map_err(|e| e.to_string())?;
-    for (record, block) in writes {
-        vault.write(*record, block).map_err(|e| e.to_string())?;
-    }
-    let library::Header { c, .. } = vault.header();
-    let header = Header { k, s, c };
-    let marks = Loss::Half.marks(random, header);
-    let mut erased = Vec::new();
-    for stripe in 0..=k {
-        for (i, _) in marks[stripe as usize].iter().enumerate().filter(|x| *x.1) {
-            erased.push(library::stripes::position(k, s, stripe, i));
+    /// The records that the writes leave.
+    fn book(&self) -> Vec<u32> {
+        let s = self.s as usize;
+        let mut records = vec![0; s << self.k];
+        for (record, block) in &self.writes {
+            let start = *record as usize * s;
+            records[start..start + s].copy_from_slice(block);
         }
+        records
     }
-    let image = vault.image().map_err(|e| e.to_string())?;
-    store(folder, &image, &library::erasures::list(erased))?;
 
-    let (image, list) = load(folder)?;
-    let mut records = vec![1; header.raw_len()];
-    let mut scratch = vec![1; header.scratch_len()];
-    let answer = recovery::recover(header, &image, &list, &mut records, &mut scratch);
-    if answer != (0, None) || records != book(k, s, writes) {
-        return Err(format!(
-            "reference, from the library's files at {header:?}: {answer:?}"
-        ));
-    }
-    let gaps = reference::erasures::gaps(&list, image.len()).map_err(|e| format!("{e:?}"))?;
-    let same =
-        |stripe: u32| reference::erasures::erased(header, stripe, &gaps) == marks[stripe as usize];
-    if !(0..=k).all(same) {
-        return Err(format!(
-            "the library's erasure list has other positions at {header:?}"
-        ));
-    }
-    Ok(())
-}
+    /// The library's image, and a list that its wrapper makes of erased positions, read by the reference.
+    fn by_library(&self, folder: &Folder, random: &mut Random) -> Result<(), String> {
+        let vault = self
+            .library_vault()
+            .map_err(|refusal| refusal.to_string())?;
+        let library::Header { k, s, c } = vault.header();
+        let header = Header { k, s, c };
+        let marks = Loss::Half.marks(random, header);
+        let mut erased = Vec::new();
+        for stripe in 0..=k {
+            for (i, _) in marks[stripe as usize].iter().enumerate().filter(|x| *x.1) {
+                erased.push(library::stripes::position(k, s, stripe, i));
+            }
+        }
+        let image = vault.image().map_err(|refusal| refusal.to_string())?;
+        folder.store(&image, &library::erasures::list(erased))?;
 
-/// The reference's image, and a list beside it, read by the library.
-fn by_reference(
-    folder: &Path,
-    random: &mut Random,
-    k: u32,
-    s: u32,
-    writes: &[Write],
-) -> Result<(), String> {
-    let opened = Header { k, s, c: 0 };
-    let mut raw = vec![0; opened.raw_len()];
-    let mut full = vec![0; opened.full_len()];
-    let mut log = vec![0; opened.log_len()];
-    let (_, mut header) = opening::open(k, s, &raw, &mut full, &mut log);
-    for (record, block) in writes {
-        (_, header) = writing::write(header, &mut raw, &mut full, &mut log, *record, block);
+        let (image, list) = folder.load()?;
+        self.recovered_by_reference(header, &image, &list)?;
+        let gaps = reference::erasures::gaps(&list, image.len()).map_err(|e| format!("{e:?}"))?;
+        let same = |stripe: u32| {
+            reference::erasures::erased(header, stripe, &gaps) == marks[stripe as usize]
+        };
+        if !(0..=k).all(same) {
+            return Err(format!(
+                "the library's erasure list has other positions at {header:?}"
+            ));
+        }
+        Ok(())
     }
-    let mut image = vec![0; header.image_len()];
-    image::image(header, &full, &log, &mut image);
-    let marks = Loss::HalfAndEmpty.marks(random, header);
-    store(folder, &image, &erasures::list(random, header, &marks))?;
 
-    let (image, list) = load(folder)?;
-    let given = library::Header { k, s, c: header.c };
-    let mut records = vec![1; library::sizes::raw(k, s)];
-    let mut scratch = vec![1; library::sizes::scratch(k, s)];
-    library::calls::recover(given, &image, &list, &mut records, &mut scratch)
-        .map_err(|fault| format!("library, from the reference's files at {header:?}: {fault}"))?;
-    if records != raw || records != book(k, s, writes) {
-        return Err(format!("library, from the reference's files at {header:?}"));
+    /// The library's vault after the writes.
+    fn library_vault(&self) -> Result<library::Vault, library::Refusal> {
+        let zeros = vec![0; library::sizes::raw(self.k, self.s)];
+        let mut vault = library::Vault::open(self.k, self.s, zeros)?;
+        for (record, block) in &self.writes {
+            vault.write(*record, block)?;
+        }
+        Ok(vault)
     }
-    Ok(())
+
+    fn recovered_by_reference(
+        &self,
+        header: Header,
+        image: &[u8],
+        list: &[u8],
+    ) -> Result<(), String> {
+        let mut records = vec![1; header.raw_len()];
+        let mut scratch = vec![1; header.scratch_len()];
+        let answer = recovery::recover(header, image, list, &mut records, &mut scratch);
+        if answer != (0, None) || records != self.book() {
+            return Err(format!(
+                "reference, from the library's files at {header:?}: {answer:?}"
+            ));
+        }
+        Ok(())
+    }
+
+    /// The reference's image, and a list beside it, read by the library.
+    fn by_reference(&self, folder: &Folder, random: &mut Random) -> Result<(), String> {
+        let (k, s) = (self.k, self.s);
+        let opened = Header { k, s, c: 0 };
+        let mut raw = vec![0; opened.raw_len()];
+        let mut full = vec![0; opened.full_len()];
+        let mut log = vec![0; opened.log_len()];
+        let (_, mut header) = opening::open(k, s, &raw, &mut full, &mut log);
+        for (record, block) in &self.writes {
+            (_, header) = writing::write(header, &mut raw, &mut full, &mut log, *record, block);
+        }
+        let mut image = vec![0; header.image_len()];
+        image::image(header, &full, &log, &mut image);
+        let marks = Loss::HalfAndEmpty.marks(random, header);
+        folder.store(&image, &erasures::list(random, header, &marks))?;
+
+        let (image, list) = folder.load()?;
+        let given = library::Header { k, s, c: header.c };
+        let mut records = vec![1; library::sizes::raw(k, s)];
+        let mut scratch = vec![1; library::sizes::scratch(k, s)];
+        library::calls::recover(given, &image, &list, &mut records, &mut scratch).map_err(
+            |fault| format!("library, from the reference's files at {header:?}: {fault}"),
+        )?;
+        if records != raw || records != self.book() {
+            return Err(format!("library, from the reference's files at {header:?}"));
+        }
+        Ok(())
+    }
 }

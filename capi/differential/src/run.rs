@@ -2,7 +2,7 @@
 use crate::scenarios::{Kind, Scenario};
 use crate::session::{Difference, Run, Settings};
 use crate::tally::Tally;
-use reference::random::Random;
+use random::Random;
 use std::panic::{catch_unwind, AssertUnwindSafe};
 use std::sync::atomic::{AtomicUsize, Ordering};
 use std::sync::Mutex;

@@ -1,13 +1,14 @@
 //! The scenarios: what is opened, written, lost, altered and asked.
-use crate::calls::{self, Answer, Call};
+use crate::by_library::Library;
+use crate::calls::{Answer, Call, Calls};
 use crate::erasures::{self, Broken, Loss, Marks};
 use crate::faults::{self, Fault};
 use crate::lent::Side;
 use crate::session::{Run, Session, Settings};
 use crate::tally::Tally;
+use random::Random;
 use reference::field::P;
 use reference::header::Header;
-use reference::random::Random;
 use reference::stripe::code;
 
 #[derive(Clone, Copy, Debug, PartialEq)]
@@ -147,7 +148,7 @@ fn recover_after(session: &mut Session, loss: Loss) -> Run<()> {
 /// Alters a word at a random place of the image, which may be lost or not looked at.
 fn alter(session: &mut Session) {
     let words = session.side().image.len() / 4;
-    let at = 4 * session.random.below(words as u64) as usize;
+    let at = 4 * session.random.index(words);
     let choice = session.random.below(5);
     let other = session.random.below(P) as u32;
     session.set(|side| {
@@ -173,8 +174,8 @@ fn alter_survivor(session: &mut Session, marks: &Marks, stripe: u32) {
         return;
     }
     let random = &mut session.random;
-    let row = survivors[random.below(survivors.len() as u64) as usize];
-    let column = random.below(header.width() as u64) as usize;
+    let row = *random.one(&survivors);
+    let column = random.index(header.width());
     let at = 4 * (header.stripe_start(stripe) + row * header.width() + column);
     let more = 1 + random.below(65536) as u32;
     let stray = random.below(4) == 0;
@@ -215,7 +216,7 @@ fn decode_all(session: &mut Session) -> Run<()> {
 fn inspect(session: &mut Session) -> Run<()> {
     let header = session.header();
     session.call(Call::Image)?;
-    let loss = Loss::ALL[session.random.below(Loss::ALL.len() as u64) as usize];
+    let loss = *session.random.one(&Loss::ALL);
     let marks = loss.marks(&mut session.random, header);
     lose(session, &marks);
     for _ in 0..session.random.below(3) {
@@ -263,7 +264,7 @@ fn history(session: &mut Session) -> Run<()> {
                 read(session)?;
             }
             66..72 if session.is_allowed() => {
-                let loss = Loss::ALL[session.random.below(Loss::ALL.len() as u64) as usize];
+                let loss = *session.random.one(&Loss::ALL);
                 recover_after(session, loss)?;
             }
             72..80 => inspect(session)?,
@@ -348,10 +349,14 @@ fn foreign(session: &mut Session) -> Run<()> {
             }
         }
     }
-    let image: Vec<u8> = (0..header.image_len())
-        .map(|_| session.random.below(256) as u8)
-        .collect();
-    let below: Vec<u32> = (0..header.image_len() / 4)
+    foreign_images(session)
+}
+
+/// Images that no call made: any bytes, and words of the field.
+fn foreign_images(session: &mut Session) -> Run<()> {
+    let count = session.header().image_len();
+    let image = session.random.bytes(count);
+    let below: Vec<u32> = (0..count / 4)
         .map(|_| session.random.below(P) as u32)
         .collect();
     let below: Vec<u8> = below.into_iter().flat_map(u32::to_le_bytes).collect();
@@ -381,11 +386,11 @@ fn any_blocks(random: &mut Random, header: Header, stripe: u32) -> Vec<u64> {
         blocks.push(number);
         blocks.extend(data(random, header.data()).iter().map(|&x| u64::from(x)));
     }
-    let row = width * random.below(count as u64) as usize;
+    let row = width * random.index(count);
     match random.below(8) {
         0 => blocks[row] = random.below(P),
         1 => blocks[row] = n,
-        2 => blocks[row + 1 + random.below(header.data() as u64) as usize] = 65536,
+        2 => blocks[row + 1 + random.index(header.data())] = 65536,
         3 => blocks[row] = 65536,
         _ => {}
     }
@@ -413,7 +418,7 @@ fn blocks(session: &mut Session) -> Run<()> {
             side.header.c = c;
             side.image.set(&image);
         });
-        let loss = Loss::ALL[session.random.below(Loss::ALL.len() as u64) as usize];
+        let loss = *session.random.one(&Loss::ALL);
         let marks = loss.marks(&mut session.random, header);
         lose(session, &marks);
         session.call_allowed(Call::Recover)?;
@@ -436,63 +441,63 @@ fn refusals(session: &mut Session) -> Run<()> {
     }
     session.call(Call::Image)?;
     let header = session.header();
-    let n = header.records() as u32;
+    let (k, n) = (header.k, header.records() as u32);
     let record = n - 1;
-    let calls = [
-        Call::Open,
-        Call::Write { record },
-        Call::Read { record },
-        Call::Image,
-        Call::Decode { stripe: header.k },
-        Call::Recover,
-    ];
-    let expect = |session: &Session, number, given| {
-        session.expect(number == given, &format!("{number} was given for {given}"))
-    };
-    for call in calls {
-        for fault in faults::headers(n) {
-            // Opening is given no c.
-            if call != Call::Open || !matches!(fault, Fault::C(_)) {
-                let number = faults::faulty(session, call, &[fault])?;
-                expect(session, number, 1)?;
-            }
-        }
-        for fault in faults::lengths(call) {
-            let number = faults::faulty(session, call, &[fault])?;
-            expect(session, number, 2)?;
-        }
+    let (write, read) = (Call::Write { record }, Call::Read { record });
+    let decode = Call::Decode { stripe: k };
+    for call in [Call::Open, write, read, Call::Image, decode, Call::Recover] {
+        headers_and_lengths(session, call)?;
     }
-    for call in [Call::Decode { stripe: header.k }, Call::Recover] {
-        for broken in Broken::ALL {
-            for _ in 0..3 {
-                let list = broken.list(&mut session.random, header.image_len());
-                let number = faults::faulty(session, call, &[Fault::Erasures(list)])?;
-                expect(session, number, 3)?;
-            }
-        }
+    for call in [decode, Call::Recover] {
+        broken_lists(session, call)?;
     }
-    for call in [Call::Write { record }, Call::Read { record }] {
+    for call in [write, read] {
         for record in [n, n + 1, 2 * n, 65536, 1 << 31, u32::MAX] {
-            let number = faults::faulty(session, call, &[Fault::Record(record)])?;
-            expect(session, number, 4)?;
+            refused(session, call, &[Fault::Record(record)], 4)?;
         }
     }
-    for call in [Call::Open, Call::Write { record }] {
+    for call in [Call::Open, write] {
         for word in [65536, 65537, 131_072, 1 << 31, u32::MAX] {
-            let at = session.random.below(1 << 20) as usize;
-            let number = faults::faulty(session, call, &[Fault::DataWord(at, word)])?;
-            expect(session, number, 5)?;
+            let at = session.random.index(1 << 20);
+            refused(session, call, &[Fault::DataWord(at, word)], 5)?;
         }
     }
-    let empty = (0..header.k).filter(|&l| !header.filled(l));
-    let beyond = [header.k + 1, header.k + 2, 32, 64, 1 << 31, u32::MAX];
-    for stripe in empty.chain(beyond) {
-        let call = Call::Decode { stripe };
-        let number = faults::faulty(session, call, &[])?;
-        expect(session, number, 6)?;
+    let empty = (0..k).filter(|&l| !header.filled(l));
+    for stripe in empty.chain([k + 1, k + 2, 32, 64, 1 << 31, u32::MAX]) {
+        refused(session, Call::Decode { stripe }, &[], 6)?;
     }
     for _ in 0..60 {
         any_refusal(session)?;
+    }
+    Ok(())
+}
+
+/// Makes a call with these faults, which must give that number.
+fn refused(session: &mut Session, call: Call, faults: &[Fault], number: u32) -> Run<()> {
+    let given = faults::faulty(session, call, faults)?;
+    session.expect(given == number, &format!("{given} was given for {number}"))
+}
+
+fn headers_and_lengths(session: &mut Session, call: Call) -> Run<()> {
+    for fault in faults::headers(session.header().records() as u32) {
+        // Opening is given no c.
+        if call != Call::Open || !matches!(fault, Fault::C(_)) {
+            refused(session, call, &[fault], 1)?;
+        }
+    }
+    for fault in faults::lengths(call) {
+        refused(session, call, &[fault], 2)?;
+    }
+    Ok(())
+}
+
+fn broken_lists(session: &mut Session, call: Call) -> Run<()> {
+    let size = session.header().image_len();
+    for broken in Broken::ALL {
+        for _ in 0..3 {
+            let list = broken.list(&mut session.random, size);
+            refused(session, call, &[Fault::Erasures(list)], 3)?;
+        }
     }
     Ok(())
 }
@@ -504,21 +509,21 @@ fn alone(session: &mut Session) -> Run<()> {
     let mut side = Side::new(header, 0);
     let raw = data(&mut session.random, header.raw_len());
     side.raw.set(&raw);
-    let mut numbers = vec![calls::library(&mut side, Call::Open).number];
+    let mut numbers = vec![Library::call(&mut side, Call::Open).number];
     for _ in 1..n {
         let block = data(&mut session.random, header.data());
         side.block.set(&block);
         let record = session.random.below(n as u64) as u32;
-        numbers.push(calls::library(&mut side, Call::Write { record }).number);
+        numbers.push(Library::call(&mut side, Call::Write { record }).number);
     }
-    numbers.push(calls::library(&mut side, Call::Image).number);
+    numbers.push(Library::call(&mut side, Call::Image).number);
     let header = side.header;
     let marks = Loss::Half.marks(&mut session.random, header);
     let list = erasures::list(&mut session.random, header, &marks);
     side.erasures.set(&list);
-    numbers.push(calls::library(&mut side, Call::Recover).number);
+    numbers.push(Library::call(&mut side, Call::Recover).number);
     for stripe in 0..=header.k {
-        numbers.push(calls::library(&mut side, Call::Decode { stripe }).number);
+        numbers.push(Library::call(&mut side, Call::Decode { stripe }).number);
     }
     let holds = numbers.iter().all(|&x| x == 0) && side.records.part() == side.raw.part();
     session.expect(holds, "the library alone did not recover the records")

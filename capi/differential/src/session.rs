@@ -1,9 +1,11 @@
 //! A scenario's run: both implementations over buffers that are equal before each call, and must be after it.
-use crate::calls::{self, Answer, Call};
+use crate::by_library::Library;
+use crate::by_reference::Reference;
+use crate::calls::{Answer, Call, Calls};
 use crate::lent::{Side, Words};
 use crate::tally::Tally;
+use random::Random;
 use reference::header::Header;
-use reference::random::Random;
 
 /// What was not as it should be.
 pub struct Difference {
@@ -88,8 +90,8 @@ impl Session {
                 self.reference.describe()
             );
         }
-        let ours = calls::library(&mut self.library, call);
-        let theirs = calls::reference(&mut self.reference, call);
+        let ours = Library::call(&mut self.library, call);
+        let theirs = Reference::call(&mut self.reference, call);
         if ours != theirs || self.library != self.reference {
             let text = format!(
                 "{call:?} at {header:?}\n  library   {ours:?}\n  reference {theirs:?}\n{}",

@@ -1,4 +1,4 @@
-//! Erasure lists (document 01: gap lists): pairs of offset and length, 4 bytes each, low byte first.
+//! Erasure lists (docs/FORMAT.md; gap lists to users): pairs of offset and length, 4 bytes each, low byte first.
 use std::ops::Range;
 
 /// The erasure list of some ranges of bytes: sorted, with ranges that overlap or touch joined. Empty ranges are left out.

@@ -1,4 +1,4 @@
-//! The header (document 01: plate), and which stripes it says are filled.
+//! The header (docs/FORMAT.md; the plate to users), and which stripes it says are filled.
 use crate::sizes;
 
 /// The numbers that a vault is known by: 2^k records of s words, and c writes since the full stripe was last built.

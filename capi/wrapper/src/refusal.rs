@@ -1,19 +1,20 @@
-//! The refusals of the specification's table ("Turning away").
+//! The table of refusals of the specification, docs/FORMAT.md.
 use std::error::Error;
 use std::fmt;
 
 #[derive(Clone, Copy, Debug, PartialEq, Eq)]
+#[repr(u32)]
 pub enum Refusal {
-    Header = 1,
-    Length,
-    Erasures,
-    Record,
-    DataWord,
-    Stripe,
-    TooFew,
-    OutOfField,
-    Inconsistent,
-    NotARecord,
+    Header = vault_sys::VAULT_HEADER,
+    Length = vault_sys::VAULT_LENGTH,
+    Erasures = vault_sys::VAULT_GAP_LIST,
+    Record = vault_sys::VAULT_RECORD,
+    DataWord = vault_sys::VAULT_DATA_WORD,
+    Stripe = vault_sys::VAULT_SHELF,
+    TooFew = vault_sys::VAULT_TOO_FEW,
+    OutOfField = vault_sys::VAULT_STRAY,
+    Inconsistent = vault_sys::VAULT_DISCORD,
+    NotARecord = vault_sys::VAULT_NO_SHEET,
 }
 
 /// Each refusal, by rising number from 1, with the table's name and what it means.
@@ -87,12 +88,12 @@ impl Refusal {
         TABLE[self as usize - 1].2
     }
 
-    /// What a call's number says: 0 is taken.
+    /// What a call's number says.
     pub(crate) fn test(number: u32) -> Result<(), Refusal> {
-        match number.checked_sub(1) {
-            None => Ok(()),
-            // The contract of every call: its number is 0 or one of the table.
-            Some(row) => Err(TABLE[row as usize].0),
+        match number {
+            vault_sys::VAULT_TAKEN => Ok(()),
+            // The contract of every call: any other number is one of the table.
+            _ => Err(TABLE[number as usize - 1].0),
         }
     }
 }

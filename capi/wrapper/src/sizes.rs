@@ -51,7 +51,7 @@ mod tests {
     use super::*;
 
     #[test]
-    fn lengths_of_the_document() {
+    fn lengths_of_the_specification() {
         assert_eq!(image(2, 1), 112);
         assert_eq!(image(10, 128), 2_112_504);
         assert_eq!((raw(2, 1), full(2, 1), log(2, 1)), (4, 16, 12));

@@ -1,5 +1,5 @@
-//! Where the stripes (document 01: shelves) and their positions stand in an image. A stripe is a level, or k for the full stripe; k and s
-//! are in their ranges.
+//! Where the stripes (docs/FORMAT.md; shelves to users) and their positions stand in an image. A stripe is a level, or k for the full stripe;
+//! k and s are in their ranges.
 use crate::sizes;
 use std::ops::Range;
 

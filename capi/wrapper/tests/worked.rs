@@ -1,4 +1,4 @@
-//! The worked examples of document 01 ("Cards worked by hand") through the library's calls: k = 2, s = 1.
+//! The worked examples of docs/FORMAT.md, P1 to P12, through the library's calls: k = 2, s = 1.
 use vault_library::{calls, erasures, sizes, stripes, Fault, Header, Refusal, Vault};
 
 /// The data words of a stripe in an image.

@@ -1,4 +1,4 @@
-//! `cases FOLDER` writes into a folder what the program `cases` reads, `stdin`, and what it has to print, `stdout`.
+//! `cases FOLDER` writes into a folder what the program `test_cases` reads, `stdin`, and what it has to print, `stdout`.
 use reference::cases::cases;
 use std::{env, fs, io, path::Path};
 

@@ -1,4 +1,4 @@
-//! The program `racklist` of document 01.
+//! The program `racklist` of docs/FORMAT.md.
 use reference::listing::list;
 use std::io::{self, Read, Write};
 

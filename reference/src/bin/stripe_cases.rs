@@ -1,4 +1,4 @@
-//! `stripe_cases FOLDER` writes into a folder what the program `stripes` reads, `stdin`, and what it has to print, `stdout`.
+//! `stripe_cases FOLDER` writes into a folder what the program `test_stripes` reads, `stdin`, and what it has to print, `stdout`.
 use reference::stripe_cases::stripe_cases;
 use std::{env, fs, io, path::Path};
 

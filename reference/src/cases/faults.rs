@@ -57,29 +57,14 @@ fn run(script: &mut Script, call: &Call, number: u32, faults: &[&Fault]) {
     let mut given = call.given;
     let image = script.machine.bytes(Bytes::Image);
     let list = script.machine.bytes(Bytes::List);
-    let mut undo = Vec::new();
     for buffer in &call.garbage {
         script.fill(*buffer, 0);
     }
+    let mut undo = Vec::new();
     for fault in faults {
-        match **fault {
-            Fault::Set(name, value) => {
-                undo.push(Command::Set(name, script.machine.number(name)));
-                script.set(name, value);
-            }
-            Fault::Put(buffer, at, word) => {
-                let before = script.machine.words(buffer)[at as usize];
-                undo.push(Command::Put(buffer, at, before));
-                script.push(Command::Put(buffer, at, word));
-            }
-            Fault::Given(other) => given = other,
-            Fault::List(ref bytes) => script.load(Bytes::List, bytes.clone()),
-            Fault::Image(at, word) => {
-                let from = 4 * at as usize;
-                let before = image[from..from + 4].to_vec();
-                undo.push(Command::Load(Bytes::Image, 4 * at, before));
-                script.alter(at as usize, word);
-            }
+        match fault {
+            Fault::Given(other) => given = *other,
+            other => undo.extend(make(script, &image, other)),
         }
     }
     script.push((call.command)(given));
@@ -92,6 +77,33 @@ fn run(script: &mut Script, call: &Call, number: u32, faults: &[&Fault]) {
     }
     if script.machine.bytes(Bytes::List) != list {
         script.load(Bytes::List, list);
+    }
+}
+
+/// Makes a fault, and gives the command that undoes it. The image is the one before all faults; an erasure list is given back by `run`.
+fn make(script: &mut Script, image: &[u8], fault: &Fault) -> Option<Command> {
+    match *fault {
+        Fault::Set(name, value) => {
+            let before = script.machine.number(name);
+            script.set(name, value);
+            Some(Command::Set(name, before))
+        }
+        Fault::Put(buffer, at, word) => {
+            let before = script.machine.words(buffer)[at as usize];
+            script.push(Command::Put(buffer, at, word));
+            Some(Command::Put(buffer, at, before))
+        }
+        Fault::Given(_) => None,
+        Fault::List(ref bytes) => {
+            script.load(Bytes::List, bytes.clone());
+            None
+        }
+        Fault::Image(at, word) => {
+            let from = 4 * at as usize;
+            let before = image[from..from + 4].to_vec();
+            script.alter(at as usize, word);
+            Some(Command::Load(Bytes::Image, 4 * at, before))
+        }
     }
 }
 

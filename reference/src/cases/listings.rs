@@ -14,7 +14,7 @@ fn input(script: &mut Script, k: u8, s: u8, writes: usize) -> Vec<u8> {
         bytes.extend([script.random.below(1 << k) as u8, 0]);
         for _ in 0..s {
             let any = script.random.below(65536) as u16;
-            let word = [any, any, any, 0, 1, 65535][script.random.below(6) as usize];
+            let word = *script.random.one(&[any, any, any, 0, 1, 65535]);
             bytes.extend(word.to_le_bytes());
         }
     }

@@ -2,8 +2,8 @@
 use super::Script;
 use crate::header::Header;
 use crate::image::number_at;
-use crate::random::Random;
 use crate::script::{Bytes, Command};
+use random::Random;
 
 /// How gaps cover the lost positions.
 #[derive(Clone, Copy)]
@@ -72,18 +72,17 @@ fn gap(
     first: usize,
     last: usize,
 ) -> (usize, usize) {
-    let mut below = |n: usize| random.below(n as u64) as usize;
     match cover {
         Cover::Whole => (first, last),
-        Cover::Single => (first + below(bytes - 1), last - 1),
+        Cover::Single => (first + random.index(bytes - 1), last - 1),
         Cover::Part => {
-            let from = first + below(bytes);
+            let from = first + random.index(bytes);
             let least = from.max(last - bytes) + 1;
-            (from, least + below(last + 1 - least))
+            (from, least + random.index(last + 1 - least))
         }
         Cover::Touch if last - first > bytes => (first + bytes - 1, last - bytes + 1),
         Cover::Touch => {
-            let at = first + [0, bytes / 2, bytes - 1][below(3)];
+            let at = first + random.one(&[0, bytes / 2, bytes - 1]);
             (at, at + 1)
         }
     }
@@ -168,9 +167,7 @@ const GARBAGE: [Garbage; 3] = [Garbage::None, Garbage::Gaps, Garbage::Positions]
 fn losses(script: &mut Script, turn: usize) {
     let header = script.machine.header();
     let (cover, garbage) = (COVERS[turn % 4], GARBAGE[turn % 3]);
-    let lost = lose_each(script, |script, size| {
-        script.random.below(size as u64 + 1) as usize
-    });
+    let lost = lose_each(script, |script, size| script.random.index(size + 1));
     damage(script, &lost, cover, garbage);
     recover_all(script);
     let lost = lose_each(script, |_, size| size);
@@ -211,13 +208,13 @@ fn spans(script: &mut Script) {
 fn survivor(script: &mut Script, lost: &[bool], stripe: u32) -> usize {
     let range = positions(script.machine.header(), stripe);
     let kept: Vec<usize> = range.filter(|&i| !lost[i]).collect();
-    kept[script.random.below(kept.len() as u64) as usize]
+    *script.random.one(&kept)
 }
 
 /// Puts another word into a surviving position of a stripe: a word of the field, or one that is not.
 pub fn spoil(script: &mut Script, lost: &[bool], stripe: u32, in_field: bool) {
     let width = script.machine.header().width();
-    let column = script.random.below(width as u64) as usize;
+    let column = script.random.index(width);
     spoil_column(script, lost, stripe, column, in_field);
 }
 
@@ -236,7 +233,9 @@ pub fn spoil_column(
     let word = if in_field {
         (before + 1 + script.random.below(65536)) % 65537
     } else {
-        [65537, 65538, 131073, u64::from(u32::MAX)][script.random.below(4) as usize]
+        *script
+            .random
+            .one(&[65537, 65538, 131073, u64::from(u32::MAX)])
     };
     script.alter(at, word as u32);
 }
@@ -249,9 +248,7 @@ fn alterations(script: &mut Script, turn: usize) {
         for in_field in [true, false] {
             let lost = match (turn + i) % 3 {
                 0 => nothing(header),
-                1 => lose_each(script, |script, size| {
-                    script.random.below(size as u64) as usize
-                }),
+                1 => lose_each(script, |script, size| script.random.index(size)),
                 _ => lose_each(script, |_, size| size),
             };
             damage(script, &lost, COVERS[(turn + i) % 4], Garbage::Gaps);
@@ -261,17 +258,23 @@ fn alterations(script: &mut Script, turn: usize) {
         }
     }
     for _ in 0..3 {
-        let lost = lose_each(script, |script, size| {
-            script.random.below(size as u64) as usize
-        });
+        let lost = lose_each(script, |script, size| script.random.index(size));
         damage(script, &lost, Cover::Whole, Garbage::None);
         for _ in 0..2 {
-            let stripe = filled[script.random.below(filled.len() as u64) as usize];
+            let stripe = *script.random.one(&filled);
             let in_field = script.random.below(2) == 0;
             spoil(script, &lost, stripe, in_field);
         }
         recover_all(script);
     }
+}
+
+/// Each kind of loss and alteration, of the vault as it is.
+fn all(script: &mut Script, turn: usize) {
+    no_loss(script);
+    empty_levels(script);
+    losses(script, turn);
+    alterations(script, turn);
 }
 
 pub fn add(script: &mut Script) {
@@ -292,10 +295,7 @@ pub fn add(script: &mut Script) {
                 script.write();
             }
             turn += 1;
-            no_loss(script);
-            empty_levels(script);
-            losses(script, turn);
-            alterations(script, turn);
+            all(script, turn);
             if i % 3 == 0 {
                 spans(script);
             }
@@ -307,9 +307,6 @@ pub fn add(script: &mut Script) {
             script.write();
         }
         turn += 1;
-        no_loss(script);
-        empty_levels(script);
-        losses(script, turn);
-        alterations(script, turn);
+        all(script, turn);
     }
 }

@@ -1,4 +1,4 @@
-//! Test cases for the calls of the vault: what the program `cases` reads, and what it has to print.
+//! Test cases for the calls of the vault: what the program `test_cases` reads, and what it has to print.
 mod faults;
 mod images;
 mod listings;
@@ -9,8 +9,8 @@ mod writes;
 
 use crate::header::Header;
 use crate::machine::Machine;
-use crate::random::Random;
 use crate::script::{Bytes, Command, Number, Words};
+use random::Random;
 
 /// Commands, and the machine that has run them.
 pub struct Script {
@@ -87,7 +87,7 @@ impl Script {
         self.fill(Words::Log, 0);
         for _ in 0..header.raw_len().min(16) / 4 {
             let at = self.random.below(header.raw_len() as u64) as u32;
-            let word = [0, 65535][self.random.below(2) as usize];
+            let word = *self.random.one(&[0, 65535]);
             self.push(Command::Put(Words::Raw, at, word));
         }
         self.push(Command::Open);
@@ -99,7 +99,7 @@ impl Script {
         self.fill(Words::Block, 65536);
         if self.random.below(4) == 0 {
             let at = self.random.below(header.s.into()) as u32;
-            let word = [0, 65535][self.random.below(2) as usize];
+            let word = *self.random.one(&[0, 65535]);
             self.push(Command::Put(Words::Block, at, word));
         }
         let record = self.random.below(header.records() as u64) as u32;

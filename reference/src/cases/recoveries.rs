@@ -70,44 +70,46 @@ fn in_order(script: &mut Script) {
     script.decode(0);
 }
 
-/// Erasure lists, malformed in every way, and good ones at the edges of what is allowed.
+/// Pairs of offset and length, malformed in every way, and good ones at the edges of what is allowed: the image has 112 bytes.
+const LISTS: [&[(u32, u32)]; 32] = [
+    &[],
+    &[(0, 8), (9, 8)],
+    &[(0, 8), (8, 8)],
+    &[(0, 8), (7, 8)],
+    &[(104, 8)],
+    &[(104, 9)],
+    &[(0, 32)],
+    &[(0, 33)],
+    &[(0, 112)],
+    &[(0, 113)],
+    &[(111, 1)],
+    &[(112, 1)],
+    &[(112, 0)],
+    &[(0, 0)],
+    &[(5, 0)],
+    &[(5, 1), (7, 0)],
+    &[(0, 1), (2, 1), (4, 1), (6, 1)],
+    &[(0, 1), (2, 1), (3, 1), (6, 1)],
+    &[(0, 1), (2, 1), (4, 1), (4, 1)],
+    &[(8, 1), (0, 1)],
+    &[(8, 8), (0, 4)],
+    &[(8, 8), (10, 2)],
+    &[(0, 1), (111, 2)],
+    &[(200, 1)],
+    &[(65536, 1)],
+    &[(256, 1)],
+    &[(8, 256)],
+    &[(u32::MAX, 1)],
+    &[(u32::MAX, u32::MAX)],
+    &[(8, u32::MAX)],
+    &[(8, u32::MAX - 7)],
+    &[(0, 1), (u32::MAX, 2)],
+];
+
+/// Erasure lists of whole pairs, and others.
 fn lists(script: &mut Script) {
     open_and_write(script, 2, 1, 3);
-    let pairs: [&[(u32, u32)]; 32] = [
-        &[],
-        &[(0, 8), (9, 8)],
-        &[(0, 8), (8, 8)],
-        &[(0, 8), (7, 8)],
-        &[(104, 8)],
-        &[(104, 9)],
-        &[(0, 32)],
-        &[(0, 33)],
-        &[(0, 112)],
-        &[(0, 113)],
-        &[(111, 1)],
-        &[(112, 1)],
-        &[(112, 0)],
-        &[(0, 0)],
-        &[(5, 0)],
-        &[(5, 1), (7, 0)],
-        &[(0, 1), (2, 1), (4, 1), (6, 1)],
-        &[(0, 1), (2, 1), (3, 1), (6, 1)],
-        &[(0, 1), (2, 1), (4, 1), (4, 1)],
-        &[(8, 1), (0, 1)],
-        &[(8, 8), (0, 4)],
-        &[(8, 8), (10, 2)],
-        &[(0, 1), (111, 2)],
-        &[(200, 1)],
-        &[(65536, 1)],
-        &[(256, 1)],
-        &[(8, 256)],
-        &[(u32::MAX, 1)],
-        &[(u32::MAX, u32::MAX)],
-        &[(8, u32::MAX)],
-        &[(8, u32::MAX - 7)],
-        &[(0, 1), (u32::MAX, 2)],
-    ];
-    for gaps in pairs {
+    for gaps in LISTS {
         script.erasures(gaps);
         script.recover();
         script.decode(1);
@@ -155,8 +157,8 @@ fn no_records(script: &mut Script, k: u32, s: u32, writes: usize) {
     for stripe in (0..=k).filter(|&stripe| header.filled(stripe)) {
         script.push(Command::Image);
         let good = blocks(script, stripe);
-        let place = script.random.below(1 << stripe) as usize * width;
-        let column = 1 + script.random.below(s.into()) as usize;
+        let place = script.random.index(1 << stripe) * width;
+        let column = 1 + script.random.index(s as usize);
         let other = (good[place] + 1 + script.random.below(n - 1)) % n;
         let changes = [
             (place, n),
@@ -170,48 +172,66 @@ fn no_records(script: &mut Script, k: u32, s: u32, writes: usize) {
         for (turn, (at, word)) in changes.into_iter().enumerate() {
             let mut blocks = good.clone();
             blocks[at] = word;
-            damage(script, &nothing(header), Cover::Whole, Garbage::None);
-            recode(script, stripe, &blocks);
-            script.recover();
-            script.decode(stripe);
-            let lost = lose_each(script, |_, size| size);
-            damage(script, &lost, Cover::Whole, Garbage::None);
-            recode(script, stripe, &blocks);
-            recover_all(script);
-            if [1, 2, 3].contains(&turn) {
-                continue;
-            }
-            // An altered word in any column goes before what the blocks hold, and a word out of field before that.
-            let lost = lose_each(script, |_, size| size - 1);
-            for column in 0..width {
-                damage(script, &lost, Cover::Whole, Garbage::None);
-                recode(script, stripe, &blocks);
-                spoil_column(script, &lost, stripe, column, true);
-                script.recover();
-                if column == turn % width {
-                    script.decode(stripe);
-                    spoil(script, &lost, stripe, false);
-                    script.recover();
-                }
+            changed(script, stripe, &blocks);
+            if ![1, 2, 3].contains(&turn) {
+                changed_and_altered(script, stripe, &blocks, turn);
             }
         }
         // Two numbers exchanged: on the full stripe they are not in their places, on a level the blocks are other writes.
         if stripe > 0 {
             let mut blocks = good.clone();
             blocks.swap(0, width);
-            damage(script, &nothing(header), Cover::Whole, Garbage::None);
-            recode(script, stripe, &blocks);
-            script.recover();
-            script.decode(stripe);
+            whole(script, stripe, &blocks);
         }
-        // No records, and too few positions.
         let mut blocks = good;
         blocks[place] = n;
-        let mut lost = nothing(header);
-        lose(script, &mut lost, stripe, (1 << stripe) + 1);
-        damage(script, &lost, Cover::Whole, Garbage::None);
-        recode(script, stripe, &blocks);
+        too_few(script, stripe, &blocks);
+    }
+}
+
+/// Makes the image anew, loses these positions, and puts the code of other blocks in a stripe's place.
+fn damage_and_recode(script: &mut Script, lost: &[bool], stripe: u32, blocks: &[u64]) {
+    damage(script, lost, Cover::Whole, Garbage::None);
+    recode(script, stripe, blocks);
+}
+
+/// Other blocks, with nothing lost.
+fn whole(script: &mut Script, stripe: u32, blocks: &[u64]) {
+    let lost = nothing(script.machine.header());
+    damage_and_recode(script, &lost, stripe, blocks);
+    script.recover();
+    script.decode(stripe);
+}
+
+/// Other blocks, with one position too many lost.
+fn too_few(script: &mut Script, stripe: u32, blocks: &[u64]) {
+    let mut lost = nothing(script.machine.header());
+    lose(script, &mut lost, stripe, (1 << stripe) + 1);
+    damage_and_recode(script, &lost, stripe, blocks);
+    script.recover();
+}
+
+/// Other blocks, with nothing lost and with half of each stripe lost.
+fn changed(script: &mut Script, stripe: u32, blocks: &[u64]) {
+    whole(script, stripe, blocks);
+    let lost = lose_each(script, |_, size| size);
+    damage_and_recode(script, &lost, stripe, blocks);
+    recover_all(script);
+}
+
+/// An altered word in any column goes before what the blocks hold, and a word out of field before that.
+fn changed_and_altered(script: &mut Script, stripe: u32, blocks: &[u64], turn: usize) {
+    let width = script.machine.header().width();
+    let lost = lose_each(script, |_, size| size - 1);
+    for column in 0..width {
+        damage_and_recode(script, &lost, stripe, blocks);
+        spoil_column(script, &lost, stripe, column, true);
         script.recover();
+        if column == turn % width {
+            script.decode(stripe);
+            spoil(script, &lost, stripe, false);
+            script.recover();
+        }
     }
 }
 
@@ -235,7 +255,7 @@ fn two_stripes(script: &mut Script) {
                 for (stripe, kind) in [first, second].into_iter().zip(kinds) {
                     if kind == 3 {
                         let mut changed = blocks(script, stripe);
-                        let at = script.random.below(1 << stripe) as usize * width;
+                        let at = script.random.index(1 << stripe) * width;
                         changed[at] = 8 + script.random.below(9);
                         recode(script, stripe, &changed);
                     }
@@ -268,9 +288,7 @@ fn large(script: &mut Script) {
             script.decode(0);
         }
         if i == 1030 {
-            let lost = lose_each(script, |script, size| {
-                script.random.below(size as u64) as usize
-            });
+            let lost = lose_each(script, |script, size| script.random.index(size));
             damage(script, &lost, Cover::Touch, Garbage::Gaps);
             spoil(script, &lost, 10, true);
             script.recover();

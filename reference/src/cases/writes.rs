@@ -54,22 +54,11 @@ fn other_buffers(script: &mut Script) {
         }
         script.write();
     }
-    for c in [0, 1, 2, 511, 512, 1022, 1023] {
-        any(script, Header { k: 10, s: 1, c }, 0);
+    let large = [0, 1, 2, 511, 512, 1022, 1023].map(|c| (10, 1, c));
+    for (k, s, c) in large.into_iter().chain([(10, 2, 1023), (9, 3, 511)]) {
+        any(script, Header { k, s, c }, 0);
         script.write();
     }
-    any(
-        script,
-        Header {
-            k: 10,
-            s: 2,
-            c: 1023,
-        },
-        0,
-    );
-    script.write();
-    any(script, Header { k: 9, s: 3, c: 511 }, 0);
-    script.write();
 }
 
 fn refused(script: &mut Script) {

@@ -1,8 +1,8 @@
 //! Each command where it is taken.
 use crate::program::{bytes, file, image_file, line, numbers, vault, writes};
-use crate::random::Random;
+use random::Random;
 
-/// The writes of racklist's example in document 01, and its lines.
+/// The writes of racklist's example in docs/FORMAT.md, and its lines.
 const WRITES: [&[u16]; 3] = [&[0, 1], &[1, 2], &[2, 3]];
 const LINES: &str = "C 0 6 0\nC 1 255 0\nC 2 65533 0\nC 3 65280 0\nC 4 7984 0\nC 5 12576 0\nC 6 57041 0\nC 7 53473 0\n\
                      0 0 2 3\n0 1 8192 12288\n1 0 1 3\n1 1 65536 65536\n1 2 65281 65026\n1 3 256 513\n";
@@ -98,67 +98,61 @@ fn gaps_are_sorted_and_joined() {
 /// Writes, an image, half of each needed shelf lost and overwritten, and the records are as last written.
 #[test]
 fn any_half_of_each_shelf_brings_the_records_back() {
-    let mut random = Random(1);
+    let mut random = Random::new(1);
     for _ in 0..25 {
-        let (k, s) = (1 + random.below(5), 1 + random.below(4));
-        let n = 1 << k;
-        let mut book = vec![vec![0; s]; n];
-        let mut input = String::new();
-        for _ in 0..random.below(3 * n) {
-            let record = random.below(n);
-            let sheet: Vec<usize> = (0..s).map(|_| random.below(65536)).collect();
-            input += &format!("{record} {}\n", spaced(&sheet));
-            book[record] = sheet;
-        }
-        let (k, s) = (k.to_string(), s.to_string());
-        let made = vault(["image", &k, &s, "--text"], input.as_bytes());
-        let c: usize = made
-            .stderr
-            .trim_end()
-            .rsplit(' ')
-            .next()
-            .unwrap()
-            .parse()
-            .unwrap();
-        let mut lost = Vec::new();
-        for shelf in 0..=n.ilog2() {
-            let size = 1 << shelf;
-            let name = if size == n {
-                "C".into()
-            } else {
-                shelf.to_string()
-            };
-            // An empty level may be lost whole.
-            let most = if size == n || c & size != 0 {
-                size
-            } else {
-                2 * size
-            };
-            let some = random.some(2 * size, most).into_iter();
-            lost.extend(some.map(|position| format!("{name}:{position}")));
-        }
-        let mut words = vec!["gaps".to_owned(), k.clone(), s.clone()];
-        words.extend(lost);
+        let (k, s) = (1 + random.index(5), 1 + random.index(4));
+        let (input, book) = written(&mut random, 1 << k, s);
+        let [kw, sw] = [k, s].map(|x| x.to_string());
+        let made = vault(["image", &kw, &sw, "--text"], input.as_bytes());
+        let plate: Vec<&str> = made.stderr.trim_end().split(' ').collect();
+        let ["plate", _, _, c] = plate[..] else {
+            panic!("{made:?}");
+        };
+        let mut words = vec!["gaps".to_owned(), kw, sw];
+        words.extend(half(&mut random, k, c.parse().unwrap()));
         let gaps = vault(&words, &[]);
         let mut image = made.stdout;
         for pair in gaps.stdout.chunks(8) {
             let number =
                 |at: usize| u32::from_le_bytes(pair[at..at + 4].try_into().unwrap()) as usize;
-            image[number(0)..number(0) + number(4)].fill_with(|| random.below(256) as u8);
+            let garbage = random.bytes(number(4));
+            image[number(0)..number(0) + number(4)].copy_from_slice(&garbage);
         }
         let image = file("half", &image);
         let gaps = file("half-gaps", &gaps.stdout);
         let answer = line(&format!("recover {k} {s} {c} {image} {gaps}"));
-        let lines = book
-            .iter()
-            .enumerate()
-            .map(|(i, sheet)| format!("{i} {}\n", spaced(sheet)));
-        assert_eq!(
-            (answer.status, answer.text()),
-            (0, lines.collect()),
-            "{answer:?}"
-        );
+        let lines = book.iter().enumerate();
+        let lines = lines.map(|(i, sheet)| format!("{i} {}\n", spaced(sheet)));
+        let expected = (0, lines.collect());
+        assert_eq!((answer.status, answer.text()), expected, "{answer:?}");
     }
+}
+
+/// The lines of some writes, and the sheets that they leave.
+fn written(random: &mut Random, n: usize, s: usize) -> (String, Vec<Vec<usize>>) {
+    let mut book = vec![vec![0; s]; n];
+    let mut input = String::new();
+    for _ in 0..random.index(3 * n) {
+        let record = random.index(n);
+        let sheet: Vec<usize> = (0..s).map(|_| random.index(65536)).collect();
+        input += &format!("{record} {}\n", spaced(&sheet));
+        book[record] = sheet;
+    }
+    (input, book)
+}
+
+/// Half of the positions of each needed shelf, and all of an empty level, as the words of `vault gaps`.
+fn half(random: &mut Random, k: usize, c: usize) -> Vec<String> {
+    let mut lost = Vec::new();
+    for shelf in 0..=k {
+        let size = 1 << shelf;
+        let full = shelf == k;
+        let name = if full { "C".into() } else { shelf.to_string() };
+        let needed = full || c & size != 0;
+        let some = random.some(2 * size, if needed { size } else { 2 * size });
+        lost.extend(some.iter().map(|position| format!("{name}:{position}")));
+    }
+    lost
 }
 
 fn spaced(words: &[usize]) -> String {

@@ -2,6 +2,5 @@
 mod any_input;
 mod commands;
 mod program;
-mod random;
 mod refusals;
 mod usage;

@@ -181,7 +181,7 @@ fn stray_discord_and_no_sheet() {
     altered(19, &[12289], 9, "discord", "0");
     altered(20, &[2], 9, "discord", "1");
     altered(1, &[1], 9, "discord", "C");
-    // The cards of document 01: a number that no record has.
+    // Example P11 of docs/FORMAT.md: a number that no record has.
     altered(16, &[4, 3, 16384, 12288], 10, "no sheet", "0");
     // A data word 65536 on level 0, with the Y word that goes with it.
     altered(16, &[2, 65536, 8192, 65537 - 4096], 10, "no sheet", "0");

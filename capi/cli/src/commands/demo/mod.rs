@@ -1,6 +1,5 @@
 //! `vault demo`: a small rack is written, loses half of every shelf, is brought back, and loses one position too many.
 mod rack;
-mod random;
 mod sheets;
 
 use super::recover::{recovered, refused};
@@ -12,7 +11,8 @@ use crate::rack::shelf_name;
 use rack::Rack;
 use random::Random;
 use sheets::{Sheet, OPENED, WRITTEN};
-use vault_library::{stripes, Vault};
+use std::time::{SystemTime, UNIX_EPOCH};
+use vault_library::{stripes, Header, Vault};
 
 pub const COMMAND: Command = Command {
     name: "demo",
@@ -37,30 +37,33 @@ many. No file is read or written.
 const K: u32 = 4;
 const S: u32 = 3;
 
+const INTRODUCTION: &str = "\
+After each step a press writes a sheet: the step, its pressure in mbar, the litres drawn.
+This vault keeps 16 sheets. It was opened with yesterday's 16; today 13 were written over
+them: steps 1 to 12 to records 0 to 11, then step 5 again, because its litres were wrong.
+";
+
 fn run(arguments: Arguments) -> Result<(), Failure> {
     let seed = match arguments.value("--seed") {
         Some(word) => number("--seed", word)?,
-        None => random::seed(),
+        None => any_seed(),
     };
     arguments.end()?;
     files::print(story(seed)?.as_bytes())
 }
 
+/// A seed that is another one at each run, short enough to type.
+fn any_seed() -> u32 {
+    let time = SystemTime::now().duration_since(UNIX_EPOCH);
+    time.map_or(0, |time| time.subsec_micros())
+}
+
 fn story(seed: u32) -> Result<String, Failure> {
-    let mut random = Random::new(seed);
-    let mut vault = Vault::open(K, S, OPENED.concat())?;
-    let mut written = OPENED;
-    for (record, sheet) in WRITTEN {
-        vault.write(record, &sheet)?;
-        written[record as usize] = sheet;
-    }
+    let mut random = Random::new(u64::from(seed));
+    let (vault, written) = pressing()?;
     let header = vault.header();
     let mut rack = Rack::new(header, vault.image()?);
-    let mut text = String::from(
-        "After each step a press writes a sheet: the step, its pressure in mbar, the litres drawn.\n\
-         This vault keeps 16 sheets. It was opened with yesterday's 16; today 13 were written over\n\
-         them: steps 1 to 12 to records 0 to 11, then step 5 again, because its litres were wrong.\n",
-    );
+    let mut text = INTRODUCTION.to_owned();
 
     text += "\n1. THE RACK. A shelf spreads the sheets it holds over all of its positions.\n\n";
     text += &rack.picture();
@@ -79,21 +82,38 @@ fn story(seed: u32) -> Result<String, Failure> {
     text += "\n3. THE RECOVERY. All sheets, from the halves that are left.\n\n";
     text += &comparison(&written, &records);
 
-    let filled: Vec<u32> = header.stripes().collect();
-    let stripe = random.one(&filled);
-    let position = rack.lose(stripe, &mut random);
-    let shelf = shelf_name(K, stripe);
     text += "\n4. ONE POSITION MORE. ";
-    text += &format!("Position {position} of shelf {shelf} is lost too.\n\n");
+    text += &one_more(header, &mut rack, &mut random);
+    text += "\n\nThe same again: vault demo --seed ";
+    text += &format!("{seed}. With your own files: vault --help.\n");
+    Ok(text)
+}
+
+/// The vault after the two days' pressings, and the sheet that each record was last written with.
+fn pressing() -> Result<(Vault, [Sheet; OPENED.len()]), Failure> {
+    let mut vault = Vault::open(K, S, OPENED.concat())?;
+    let mut written = OPENED;
+    for (record, sheet) in WRITTEN {
+        vault.write(record, &sheet)?;
+        written[record as usize] = sheet;
+    }
+    Ok((vault, written))
+}
+
+/// Loses a position of any shelf, and tells what recovery says.
+fn one_more(header: Header, rack: &mut Rack, random: &mut Random) -> String {
+    let filled: Vec<u32> = header.stripes().collect();
+    let stripe = *random.one(&filled);
+    let position = rack.lose(stripe, random);
+    let shelf = shelf_name(K, stripe);
+    let mut text = format!("Position {position} of shelf {shelf} is lost too.\n\n");
     text += &rack.shelf(stripe);
     text += "\n   The vault does not guess. Recovery is\n   ";
     text += &match recovered(header, &rack.image, &rack.gaps()) {
         Ok(_) => "taken".into(),
         Err(fault) => refused(header, fault).to_string(),
     };
-    text += "\n\nThe same again: vault demo --seed ";
-    text += &format!("{seed}. With your own files: vault --help.\n");
-    Ok(text)
+    text
 }
 
 /// A line for each record: what was written to it last, and what came back.

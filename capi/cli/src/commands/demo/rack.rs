@@ -1,6 +1,6 @@
 //! A rack that loses positions: its image, its gap list, and its picture.
-use super::random::Random;
 use crate::rack::shelf_name;
+use random::Random;
 use std::cmp::Ordering;
 use std::collections::BTreeSet;
 use vault_library::{erasures, stripes, Header};
@@ -23,9 +23,10 @@ impl Rack {
 
     /// Loses a surviving position of a shelf, picked at random: its bytes in the image become something else. Gives its number.
     pub fn lose(&mut self, stripe: u32, random: &mut Random) -> usize {
-        let position = random.one(&self.survivors(stripe));
+        let position = *random.one(&self.survivors(stripe));
         let bytes = stripes::position(self.header.k, self.header.s, stripe, position);
-        self.image[bytes].fill_with(|| random.number() as u8);
+        let garbage = random.bytes(bytes.len());
+        self.image[bytes].copy_from_slice(&garbage);
         self.lost.insert((stripe, position));
         position
     }
