@@ -9,7 +9,7 @@ ghost use Rattle.layout.specs.Refusals.{ifTaken};
 ghost use Rattle.image.specs.Loading.{rowsIn};
 ghost use Rattle.rows.specs.Decoding.{decodedNumber, decodedWords, solved};
 ghost use Rattle.rows.specs.Ready.{StripeFits, Ready};
-ghost use Rattle.columns.specs.Ranges.{scratchWords, allNumber, withoutFirst};
+ghost use Rattle.columns.specs.Ranges.{Decodable, scratchWords, allNumber, withoutFirst};
 ghost use Rattle.columns.specs.Full.{decodedData};
 
 // Stores the weights of the positions in the last words of the scratch.
@@ -32,8 +32,7 @@ fn decode_all(
     out: &mut [u32],
     scratch: &mut [u32],
 ) -> u32
-    requires { ⌜ Ready st (now marks) (rowsIn st (now marks) (now bytes)) ⌝ }
-    requires { ⌜ (length (now bytes) ≡ 4 * stripeWords st) × (skip ≤ 1) ⌝ }
+    requires { ⌜ Decodable st skip (now bytes) (now marks) ⌝ }
     requires { ⌜ (length (now out) ≡ blockCount st * (st .width - skip)) × (length (now scratch) ≡ scratchWords st) ⌝ }
     ensures { λ r. ⌜ r ≡ allNumber st (now (marks .entry)) (rowsIn st (now (marks .entry)) (now (bytes .entry))) skip ⌝ }
     ensures { λ _. ⌜ now (out .exit) ≡
