@@ -5,10 +5,13 @@ use Prim.Native.Nat.{ℕ, zero, suc, _+_, _-_, _*_, _^_, _≤_, _<_}
 use native.Mathlib.Nat.{add-mul, add-assoc, zero-add, zero-mul, one-mul, mul-assoc, mul-comm, pow-suc, le-mul-of-pos-right}
 use native.Mathlib.Numerals.{add-one}
 use native.Mathlib.Omega.{arith}
+use borrow.Author.Needs.{needs}
 use lib.Pow.{pow-pos, pow-mono, pow-add}
 use lib.ListN.{length, take, drop, length-append, length-drop, take-append-drop}
 use lib.Seq.{length-take-le, take-at, drop-at, take-add, drop-drop, take-append-add, drop-append-add, take-length, drop-length}
 use borrow.Rule.Slice.PartMut.{putMid, mid-len}
+use mir.Syntax.{w64}
+use mir.Val.{Fits}
 use Rattle.field.specs.Words.{Words}
 use Rattle.field.proofs.WordLists.{words-take, words-drop, words-part, words-append}
 use Rattle.code.specs.Rows.{column, lifted}
@@ -95,6 +98,13 @@ module _ {half₀ : List ℕ} {blocks size : ℕ} {f : List ℕ → List ℕ} wh
   pub block-in : {half : List ℕ} {at b : ℕ} → BlockLoop half₀ blocks size f half at b → b < blocks → at + size ≤ length half
   block-in h lt = omega (arith, row-in size lt)
 
+  -- its end is a `usize`, and so is its start, in bytes
+  pub block-fits : {half : List ℕ} {at b : ℕ} → length half₀ * 4 < 2 ^ 63 → BlockLoop half₀ blocks size f half at b → b < blocks → Fits w64 (at + size)
+  block-fits k h lt = record { fits = omega (arith, row-in size lt) }
+
+  pub start-fits : {half : List ℕ} {at b : ℕ} → length half₀ * 4 < 2 ^ 63 → BlockLoop half₀ blocks size f half at b → b < blocks → Fits w64 (at * 4)
+  start-fits k h lt = record { fits = omega (arith, row-in size lt) }
+
   pub blocks-turn : {half ys : List ℕ} {at b : ℕ} → OnBlock 65537 size f → BlockLoop half₀ blocks size f half at b → b < blocks
       → ys ≡ f (take (at + size - at) (drop at half)) → BlockLoop half₀ blocks size f (putMid at (at + size - at) half ys) (at + size) (b + 1)
   blocks-turn {half} {ys} {at} {b} o h lt e =
@@ -111,6 +121,9 @@ module _ {half₀ : List ℕ} {blocks size : ℕ} {f : List ℕ → List ℕ} wh
   blocks-end {half} {at} {b} h le =
       let e : b ≡ blocks = omega arith in
       rw e at (h .now)
+
+-- what the needs of mixing's and of unmixing's loop over blocks follow from
+pub ruleset blocks-needs = (blocks-start, blocks-turn, blocks-end, block-in, block-fits, start-fits, part-long, part-words, mixing-block, unmixing-block, needs)
 
 -- all blocks
 pub words-each : (p b n : ℕ) (f : List ℕ → List ℕ) {l : List ℕ} → 0 < p → ((a : List ℕ) → Words p (f a)) → Words p l → Words p (eachBlock b n f l)

@@ -2,7 +2,7 @@
 use mathlib.Core.Path.{_≡_, refl, sym, ap, ap₂, _∙_, subst}
 use mathlib.Core.Logic.{⊎-elim, _≢_}
 use mathlib.Core.List.{List}
-use Prim.Native.Nat.{ℕ, zero, suc, _+_, _-_, _*_, _/_, _≤_, _<_}
+use Prim.Native.Nat.{ℕ, zero, suc, _+_, _-_, _*_, _/_, _^_, _≤_, _<_}
 use native.Mathlib.Nat.{eq-or-lt-of-le, add-zero, add-suc, add-mul, zero-mul}
 use native.Mathlib.Numerals.{add-one}
 use native.Mathlib.Decide.{decLt}
@@ -10,6 +10,9 @@ use native.Mathlib.Omega.{arith}
 use lib.Arith.{digits-div, digits-lt}
 use lib.ListN.{length, getD, set, take, drop, length-set}
 use lib.Seq.{getD-set-same, getD-set-other, getD-take, getD-drop, length-take-le}
+use borrow.Author.Needs.{needs}
+use mir.Syntax.{w64}
+use mir.Val.{Fits}
 use Rattle.field.specs.Residue.{plus, minus, times}
 use Rattle.field.specs.Power.{power}
 use Rattle.field.specs.Words.{Words}
@@ -238,8 +241,19 @@ module _ {c : Crossing} {part₀ : List ℕ} {m width v : ℕ} where
   }
 
   -- row i is within its half, and that one within the part
-  pub room : {part : List ℕ} {g i low high : ℕ} → RowsLoop c part₀ m width v part g i low high → i < m → (low + width ≤ high) × (high + width ≤ length part)
-  room h lt = (omega (arith, row-in width lt), omega (arith, row-in width lt))
+  pub low-in : {part : List ℕ} {g i low high : ℕ} → RowsLoop c part₀ m width v part g i low high → i < m → low + width ≤ high
+  low-in h lt = omega (arith, row-in width lt)
+
+  pub high-in : {part : List ℕ} {g i low high : ℕ} → RowsLoop c part₀ m width v part g i low high → i < m → high + width ≤ length part
+  high-in h lt = omega (arith, row-in width lt)
+
+  -- and where the next row starts is a `usize`
+  pub low-fits : {part : List ℕ} {g i low high : ℕ} → length part₀ * 4 < 2 ^ 63 → RowsLoop c part₀ m width v part g i low high → i < m → Fits w64 (low + width)
+  low-fits b h lt = record { fits = omega (arith, row-in width lt) }
+
+  pub high-fits : {part : List ℕ} {g i low high : ℕ} → length part₀ * 4 < 2 ^ 63 → RowsLoop c part₀ m width v part g i low high → i < m
+      → Fits w64 (high + width)
+  high-fits b h lt = record { fits = omega (arith, row-in width lt) }
 
   pub factor-lt : {part : List ℕ} {g i low high : ℕ} → RowsLoop c part₀ m width v part g i low high → g < 65537
   factor-lt h = rw (h .g-is) (power-lt 65537 (omega arith) v _)
@@ -266,3 +280,8 @@ module _ {c : Crossing} {part₀ : List ℕ} {m width v : ℕ} where
   rows-end {d} {part} {g} {i} t h le =
       let e : i ≡ m = omega arith in
       (rw e at (h .now)) ∙ all-pairs c v m width d t part₀ (h .long)
+
+-- what the needs of mixing's and of unmixing's loop over rows follow from
+pub ruleset crossings = (mixing-stores, unmixing-stores, mixing-crosses, unmixing-crosses)
+
+pub ruleset rows-needs = (rows-start, rows-turn, rows-end, low-in, high-in, low-fits, high-fits, factor-lt, crossings, needs)

@@ -10,7 +10,7 @@ ghost use Rattle.image.specs.steps.Loading.{rowsIn};
 ghost use Rattle.rows.specs.Decoding.{decodedNumber, decodedWords, solved};
 ghost use Rattle.rows.specs.StripeFits.{StripeFits};
 ghost use Rattle.rows.specs.steps.Ready.{Ready};
-ghost use Rattle.columns.specs.steps.Ranges.{scratchWords, allNumber, withoutFirst};
+ghost use Rattle.columns.specs.steps.Ranges.{Decodable, scratchWords, allNumber, withoutFirst};
 ghost use Rattle.columns.specs.steps.Full.{decodedData};
 
 // Stores the weights of the positions in the last words of the scratch.
@@ -33,8 +33,7 @@ fn decode_all(
     out: &mut [u32],
     scratch: &mut [u32],
 ) -> u32
-    requires { ⌜ Ready st (now marks) (rowsIn st (now marks) (now bytes)) ⌝ }
-    requires { ⌜ (length (now bytes) ≡ 4 * stripeWords st) × (skip ≤ 1) ⌝ }
+    requires { ⌜ Decodable st skip (now bytes) (now marks) ⌝ }
     requires { ⌜ (length (now out) ≡ blockCount st * (st .width - skip)) × (length (now scratch) ≡ scratchWords st) ⌝ }
     ensures { λ r. ⌜ r ≡ allNumber st (now (marks .entry)) (rowsIn st (now (marks .entry)) (now (bytes .entry))) skip ⌝ }
     ensures { λ _. ⌜ now (out .exit) ≡

@@ -7,13 +7,13 @@ ghost use mathlib.Core.Bool.{true};
 ghost use mathlib.Core.List.{_++_};
 ghost use Prim.Native.Nat.{_+_, _*_, _-_, _≤_, _<_, max};
 ghost use lib.ListN.{length, drop};
-ghost use Rattle.code.specs.Stripe.{blockCount, positionCount, stripeWords};
+ghost use Rattle.code.specs.Stripe.{blockCount, positionCount};
 ghost use Rattle.decoder.specs.Decoding.{isConsistent};
 ghost use Rattle.decoder.specs.steps.Decoder.{weightsIn};
 ghost use Rattle.image.specs.steps.Loading.{rowsIn};
 ghost use Rattle.rows.specs.StripeFits.{StripeFits};
-ghost use Rattle.rows.specs.steps.Ready.{Ready};
-ghost use Rattle.columns.specs.steps.Ranges.{placesTo, copiedRows, scratchWords, RangeFits, isConsistentRange, arePlaces, rangeTaken, rangeNumber, allNumber, withoutFirst};
+ghost use Rattle.columns.specs.steps.Ranges.{placesTo, copiedRows, Decodable, scratchWords, RangeFits, isConsistentRange};
+ghost use Rattle.columns.specs.steps.Ranges.{arePlaces, rangeTaken, rangeNumber, allNumber, withoutFirst};
 
 // Copies `count` words of each row.
 fn copy_rows(out: &mut [u32], to: Lines, words: &[u32], from: Lines, count: usize, rows: usize)
@@ -115,8 +115,8 @@ fn decode_range(
     out: &mut [u32],
     scratch: &mut [u32],
 ) -> u32
-    requires { ⌜ Ready st (now marks) (rowsIn st (now marks) (now bytes)) ⌝ }
-    requires { ⌜ (length (now bytes) ≡ 4 * stripeWords st) × (RangeFits st (range .from) (range .cols)) × (range .skip ≤ 1) ⌝ }
+    requires { ⌜ Decodable st (range .skip) (now bytes) (now marks) ⌝ }
+    requires { ⌜ RangeFits st (range .from) (range .cols) ⌝ }
     requires { ⌜ blockCount st * (st .width - range .skip) ≤ length (now out) ⌝ }
     requires { ⌜ length (now scratch) ≡ scratchWords st ⌝ }
     requires { ⌜ drop (scratchWords st - positionCount st) (now scratch) ≡ weightsIn st (now marks) ⌝ }
@@ -148,8 +148,7 @@ pub(crate) fn decode_ranges(
     out: &mut [u32],
     scratch: &mut [u32],
 ) -> u32
-    requires { ⌜ Ready st (now marks) (rowsIn st (now marks) (now bytes)) ⌝ }
-    requires { ⌜ (length (now bytes) ≡ 4 * stripeWords st) × (skip ≤ 1) ⌝ }
+    requires { ⌜ Decodable st skip (now bytes) (now marks) ⌝ }
     requires { ⌜ blockCount st * (st .width - skip) ≤ length (now out) ⌝ }
     requires { ⌜ length (now scratch) ≡ scratchWords st ⌝ }
     requires { ⌜ drop (scratchWords st - positionCount st) (now scratch) ≡ weightsIn st (now marks) ⌝ }

@@ -5,6 +5,10 @@ use mathlib.Core.List.{List, _++_}
 use Prim.Native.Nat.{ℕ, suc, _+_, _*_, _-_, _/_, _^_, _≤_, _<_}
 use native.Mathlib.Decide.{decLt}
 use native.Mathlib.Omega.{arith}
+use borrow.Author.Needs.{needs}
+use borrow.Rule.Slice.PartMut.{putMid}
+use mir.Syntax.{w64}
+use mir.Val.{Fits}
 use lib.Arith.{digits-lt, digits-div}
 use lib.ListN.{length, getD, take, drop, length-drop, take-append-drop}
 use lib.Seq.{getD-take, length-take-le}
@@ -12,16 +16,17 @@ use Rattle.field.specs.Residue.{plus, minus, times}
 use Rattle.field.specs.Power.{inverse}
 use Rattle.field.specs.Words.{Words}
 use Rattle.field.proofs.Laws.{times-comm, times-zero}
-use Rattle.code.specs.Transform.{reversed}
+use Rattle.field.proofs.WordLists.{words-take, words-drop}
+use Rattle.code.specs.Transform.{reversed, transform, untransform, turned}
 use Rattle.code.specs.Rows.{column, lifted}
-use Rattle.code.specs.declared.Stripe.{Stripe}
-use Rattle.code.specs.Stripe.{blockCount, blockWords, stripeWords}
-use Rattle.decoder.specs.steps.Decoder.{halfOf, derivedAt, derived, divisorAt, chosenAt, chosen, weighedAt, weighed}
+use Rattle.decoder.specs.steps.Decoder.{evaluated, split, halfOf, derivedAt, derived, divisorAt, chosenAt, chosen, weighedAt, weighed}
 use Rattle.code.specs.steps.Storing.{stored}
 use Rattle.field.proofs.Booleans.{choice-lt}
+use Rattle.code.proofs.Shapes.{length-transform, length-untransform, words-untransform}
+use Rattle.code.proofs.Lifting.{length-lifted, words-lifted, words-column, lifted-then}
 use Rattle.code.proofs.Lifting.{length-column, column-at, is-lifted, lifted-append, table-lifted, two-halves}
 use Rattle.decoder.proofs.DecoderShapes.{derived-low, derived-high, chosen-at, weighed-at}
-use Rattle.code.proofs.RowLaws.{Parts, cut, length-stored, stored-before, stored-at, stored-front, scaledRowsWord}
+use Rattle.code.proofs.RowLaws.{Parts, length-parts, lent-rest, put-rest, length-stored, stored-before, stored-at, stored-front, scaledRowsWord}
 
 -- STEP 3, word q of the second half
 unfoldable pub deriveWord : (p level width : ℕ) → (rows : List ℕ) → (q : ℕ) → ℕ
@@ -119,19 +124,6 @@ module _ (p : ℕ) (z : 0 < p) (l width : ℕ) (ms : List Bool) (part : List ℕ
       stored-front f (2 ^ suc l * width) part (omega arith)
       ∙ rw (table-lifted width (2 ^ suc l) (2 ^ suc l) (weighed p l ms ws) f (take (2 ^ suc l * width) part) weigh-word)
 
--- STEPS 2 AND 4: a stripe's rows in two halves of `half` words
-pub record Halved (st : Stripe) (half : ℕ) (rows : List ℕ) : Type 0 where
-  pub half-is : half ≡ blockWords st
-  pub long : length rows ≡ half + half
-  pub parts : Parts half rows (take half rows) (drop half rows)
-  pub second : length (drop half rows) ≡ blockWords st
-
-pub halved : (st : Stripe) {b : ℕ} (rows : List ℕ) → b ≡ blockCount st → length rows ≡ stripeWords st → Halved st (b * st .width) rows
-halved st {b} rows e l =
-    let h : b * st .width ≡ blockWords st = ap (λ (n : ℕ). n * st .width) e in
-    let d : length rows ≡ b * st .width + b * st .width = l ∙ two-halves (st .level) (st .width) ∙ sym (ap₂ _+_ h h) in
-    record { half-is = h; long = d; parts = cut (b * st .width) rows (omega arith); second = length-drop (b * st .width) rows ∙ omega arith }
-
 -- what is done to each half of the rows
 pub lifted-halves : (width l : ℕ) (f g : List ℕ → List ℕ) (r : List ℕ) → length r ≡ 2 ^ suc l * width → ((c : List ℕ) → length c ≡ 2 ^ l → length (f c) ≡ 2 ^ l)
     → lifted width (2 ^ l) (2 ^ l) f (take (2 ^ l * width) r) ++ lifted width (2 ^ l) (2 ^ l) g (drop (2 ^ l * width) r)
@@ -141,3 +133,96 @@ lifted-halves width l f g r e keeps =
     let d : n + n ≡ 2 ^ suc l = omega arith in
     lifted-append width n n n n f g (take (n * width) r) (drop (n * width) r) (length-take-le (n * width) r (omega (arith, two-halves l width))) keeps
     ∙ rw (take-append-drop, d)
+
+-- STEPS 2 AND 4: b blocks are a half of the rows
+module _ (l width b : ℕ) (rows : List ℕ) (e : b ≡ 2 ^ l) (long : length rows ≡ 2 ^ suc l * width) where
+  two : length rows ≡ b * width + b * width
+  two = rw e (long ∙ two-halves l width)
+
+  pub half-in : b * width ≤ length rows
+  half-in = omega (arith, two)
+
+  pub half-fits : length rows * 4 < 2 ^ 63 → Fits w64 (b * width)
+  half-fits h = record { fits = omega (arith, two) }
+
+  pub half-bytes : length rows * 4 < 2 ^ 63 → Fits w64 (b * width * 4)
+  half-bytes h = record { fits = omega (arith, two) }
+
+  pub first-is : b * width ≡ length (take (b * width) rows)
+  first-is = sym (length-take-le (b * width) rows half-in)
+
+  pub first-long : length (take (b * width) rows) ≡ 2 ^ l * width
+  first-long = sym first-is ∙ ap (λ (n : ℕ). n * width) e
+
+  pub second-long : length (drop (b * width) rows) ≡ 2 ^ l * width
+  second-long = length-drop (b * width) rows ∙ omega (arith, two, ap (λ (n : ℕ). n * width) e)
+
+-- what is lent of a list from index n on, and the list once y comes back in its place
+abbrev behind : (n : ℕ) → List ℕ → List ℕ
+behind n v = take (length v - n) (drop n v)
+
+abbrev putBehind : (n : ℕ) → (v y : List ℕ) → List ℕ
+putBehind n v y = putMid n (length v - n) v y
+
+-- t stands behind a first half x that is made of rows r
+module _ (l width b : ℕ) (r x t : List ℕ) (f : List ℕ → List ℕ) (e : b ≡ 2 ^ l) (ex : x ≡ lifted width (2 ^ l) (2 ^ l) f r) where
+  once : Parts (b * width) (x ++ t) x t
+  once = record { is = refl; long = ap length ex ∙ length-lifted _ _ _ _ _ ∙ ap (λ (n : ℕ). n * width) (sym e) }
+
+  pub rest-in : b * width ≤ length (x ++ t)
+  rest-in = omega (arith, length-parts once)
+
+  pub rest-long : length t ≡ 2 ^ l * width → length (behind (b * width) (x ++ t)) ≡ 2 ^ l * width
+  rest-long h = ap length (lent-rest once) ∙ h
+
+  pub rest-words : Words 65537 t → Words 65537 (behind (b * width) (x ++ t))
+  rest-words w = rw (lent-rest once) w
+
+  pub again-in : (y : List ℕ) → b * width ≤ length (putBehind (b * width) (x ++ t) y)
+  again-in y = omega (arith, length-parts (put-rest once y))
+
+-- x and y are the halves transformed, or unmixed, and z is y turned
+module _ (w k l width b : ℕ) (rows x y : List ℕ) (e : b ≡ 2 ^ l) where
+  pub evaluated-rows : length rows ≡ 2 ^ suc l * width → x ≡ lifted width (2 ^ l) (2 ^ l) (transform 65537 w k l) (take (b * width) rows)
+      → y ≡ lifted width (2 ^ l) (2 ^ l) (transform 65537 w k l) (behind (b * width) (x ++ drop (b * width) rows))
+      → putBehind (b * width) (x ++ drop (b * width) rows) y ≡ lifted width (2 ^ suc l) (2 ^ suc l) (evaluated 65537 w k l) rows
+  unfolding evaluated
+  evaluated-rows long ex ey =
+      let T = transform 65537 w k l in
+      let p = once l width b (take (b * width) rows) x (drop (b * width) rows) T e ex in
+      put-rest p y .is ∙ ap₂ _++_ ex (ey ∙ ap (lifted _ _ _ _) (lent-rest p)) ∙ rw e (lifted-halves width l T T rows long (length-transform 65537 w k l))
+
+  module _ (ex : x ≡ lifted width (2 ^ l) (2 ^ l) (untransform 65537 w k l) (take (b * width) rows))
+      (ey : y ≡ lifted width (2 ^ l) (2 ^ l) (untransform 65537 w k l) (behind (b * width) (x ++ drop (b * width) rows))) where
+    -- what is turned is the second half unmixed
+    lent-again : behind (b * width) (putBehind (b * width) (x ++ drop (b * width) rows) y)
+        ≡ lifted width (2 ^ l) (2 ^ l) (untransform 65537 w k l) (drop (b * width) rows)
+    lent-again =
+        let p = once l width b (take (b * width) rows) x (drop (b * width) rows) (untransform 65537 w k l) e ex in
+        lent-rest (put-rest p y) ∙ ey ∙ ap (lifted _ _ _ _) (lent-rest p)
+
+    pub again-long : length (behind (b * width) (putBehind (b * width) (x ++ drop (b * width) rows) y)) ≡ 2 ^ l * width
+    again-long = ap length lent-again ∙ length-lifted _ _ _ _ _
+
+    pub again-words : Words 65537 rows → Words 65537 (behind (b * width) (putBehind (b * width) (x ++ drop (b * width) rows) y))
+    again-words u =
+        rw lent-again (words-lifted 65537 width (2 ^ l) (2 ^ l) (untransform 65537 w k l) (drop (b * width) rows) (omega arith)
+        (λ j _. words-untransform 65537 (omega arith) w k l (words-column 65537 width (2 ^ l) j (words-drop 65537 (omega arith) (b * width) u))))
+
+    pub split-rows : (first : ℕ) (z : List ℕ) → length rows ≡ 2 ^ suc l * width
+        → z ≡ lifted width (2 ^ l) (2 ^ l) (turned 65537 w k first) (behind (b * width) (putBehind (b * width) (x ++ drop (b * width) rows) y))
+        → putBehind (b * width) (putBehind (b * width) (x ++ drop (b * width) rows) y) z ≡ lifted width (2 ^ suc l) (2 ^ suc l) (split 65537 w k l first) rows
+    unfolding split
+    split-rows first z long ez =
+        let n = 2 ^ l in
+        let U = untransform 65537 w k l in
+        let T = turned 65537 w k first in
+        let p = once l width b (take (b * width) rows) x (drop (b * width) rows) U e ex in
+        put-rest (put-rest p y) z .is
+        ∙ ap₂ _++_ ex (ez ∙ ap (lifted width n n T) lent-again ∙ lifted-then width n n n U T (drop (b * width) rows) (length-untransform 65537 w k l))
+        ∙ rw e (lifted-halves width l U (λ c. T (U c)) rows long (length-untransform 65537 w k l))
+
+-- what the needs of steps 2 and 4 follow from
+pub ruleset halves-laws = (half-in, half-fits, half-bytes, first-is, first-long, second-long, rest-in, rest-long, rest-words, again-in)
+
+pub ruleset halves-needs = (halves-laws, evaluated-rows, split-rows, words-take, words-drop, needs)

@@ -1,16 +1,17 @@
 -- Ranges of columns of a stripe, and what the loops that copy its rows make of a slice; the clauses of functions inside the crate cite it. Assumes
 -- nothing: these are definitions.
+use mathlib.Core.Path.{_≡_}
 use mathlib.Core.Bool.{Bool, true, false, _&&_}
 use mathlib.Core.List.{List}
 use Prim.Native.Nat.{ℕ, zero, suc, _+_, _*_, _-_, _≤_, _<_, max}
 use lib.Dec.{eqb}
-use lib.ListN.{getD}
+use lib.ListN.{length, getD}
 use Rattle.code.specs.declared.Stripe.{Stripe}
-use Rattle.code.specs.Stripe.{blockCount, positionCount, blockWords}
+use Rattle.code.specs.Stripe.{blockCount, positionCount, blockWords, stripeWords}
 use Rattle.code.specs.steps.Storing.{stored, wordFrom}
 use Rattle.decoder.specs.Decoding.{isConsistent, blocksIn}
-use Rattle.image.specs.steps.Loading.{columnsOf}
-use Rattle.rows.specs.steps.Ready.{narrow}
+use Rattle.image.specs.steps.Loading.{columnsOf, rowsIn}
+use Rattle.rows.specs.steps.Ready.{Ready, narrow}
 
 -- whether the first word of each of the first n rows is its place
 unfoldable pub placesTo : (width : ℕ) → (rows : List ℕ) → (n : ℕ) → Bool
@@ -22,6 +23,12 @@ unfoldable pub copiedRows : (to width from stride count : ℕ) → (words : List
 copiedRows to width from stride count l zero o = o
 copiedRows to width from stride count l (suc n) o =
     stored (to + n * width) (wordFrom l (from + n * stride)) count (copiedRows to width from stride count l n o)
+
+-- a stripe's bytes, of which all columns can be decoded but the first `skip`
+pub record Decodable (st : Stripe) (skip : ℕ) (bytes : List ℕ) (marks : List Bool) : Type 0 where
+  pub ready : Ready st marks (rowsIn st marks bytes)
+  pub long : length bytes ≡ 4 * stripeWords st
+  pub few : skip ≤ 1
 
 -- the scratch that the full stripe is decoded in: the words of its blocks, and four more for each
 abbrev pub scratchWords : Stripe → ℕ

@@ -13,7 +13,8 @@ decode-all-requires : tie.Need-decode-all-requires
 decode-all-requires c κs =
     let s = c .before .before .before .before .before .before in
     let a = s .args in
-    (s .pre .0, ((s .pre .1 .0, omega arith), (lent-whole (a .st) (a .marks .now) (rowsIn (a .st) (a .marks .now) (a .bytes .now)) (s .pre .1 .1 .0), s .pre .1 .1 .1)))
+    let long = lent-whole (a .st) (a .marks .now) (rowsIn (a .st) (a .marks .now) (a .bytes .now)) (s .pre .1 .1 .0) in
+    (record { ready = s .pre .0; long = s .pre .1 .0; few = omega arith }, (long, s .pre .1 .1 .1))
 
 same-length : tie.Need-same-length
 same-length c = search needs

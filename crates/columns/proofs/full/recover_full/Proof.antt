@@ -20,7 +20,9 @@ decode-all-requires : tie.Need-decode-all-requires
 decode-all-requires c κs =
     let s = c .before .before .before .before .before .before .before in
     let a = s .args in
-    (s .pre .0, ((s .pre .1 .0 .0, omega arith), (lent-data (a .st) (a .marks .now) (rowsIn (a .st) (a .marks .now) (a .bytes .now)) (s .pre .1 .0 .1) (omega (arith, s .pre .0 .fits .thick)) (s .pre .1 .1 .0), s .pre .1 .1 .1)))
+    let r = rowsIn (a .st) (a .marks .now) (a .bytes .now) in
+    let long = lent-data (a .st) (a .marks .now) r (s .pre .1 .0 .1) (omega (arith, s .pre .0 .fits .thick)) (s .pre .1 .1 .0) in
+    (record { ready = s .pre .0; long = s .pre .1 .0 .0; few = omega arith }, (long, s .pre .1 .1 .1))
 
 same-length : tie.Need-same-length
 same-length c = search needs

@@ -17,7 +17,7 @@ use Rattle.columns.proofs.ranges.decode_range.Statement.{statement}
 use Rattle.columns.proofs.ranges.decode_range.Tie as tie
 
 two-to-requires : tie.Need-two-to-requires
-two-to-requires c κs = omega (arith, c .before .before .before .before .pre .0 .fits .low, c .before .before .before .before .pre .0 .fits .numbers .within)
+two-to-requires c κs = let f = c .before .before .before .before .pre .0 .ready .fits in omega (arith, f .low, f .numbers .within)
 
 mul-start : tie.Need-mul-start
 mul-start c = search needs
@@ -31,13 +31,17 @@ span-is c = let a = c .before .before .before .before .before .args in span (a .
 
 tail : (c : tie.After-two-to) → let a = c .before .before .before .before .before .args in
     Tail (a .scratch .now) (scratchWords (a .st)) (length (a .scratch .now) - 2 * c .two-to .result * (a .range .cols + 1)) (a .range .cols) (positionCount (a .st))
-tail c = let s = c .before .before .before .before .before in record { long = s .pre .1 .1 .1 .0; begins = omega (arith, span-is c, s .pre .1 .0 .1 .room, s .pre .1 .1 .1 .0) }
+tail c =
+    let s = c .before .before .before .before .before in
+    record { long = s .pre .1 .1 .1 .0; begins = omega (arith, span-is c, s .pre .1 .0 .room, s .pre .1 .1 .1 .0) }
 
 mul-start-2 : tie.Need-mul-start-2
-mul-start-2 c = let s = c .before .before .before .before .before in omega (arith, span-is c, s .pre .1 .0 .1 .room, scratch-low (s .args .st) (s .pre .0 .fits))
+mul-start-2 c =
+    let s = c .before .before .before .before .before in
+    omega (arith, span-is c, s .pre .1 .0 .room, scratch-low (s .args .st) (s .pre .0 .ready .fits))
 
 sub-start : tie.Need-sub-start
-sub-start c = let s = c .before .before .before .before .before in omega (arith, span-is c, s .pre .1 .0 .1 .room, s .pre .1 .1 .1 .0)
+sub-start c = let s = c .before .before .before .before .before in omega (arith, span-is c, s .pre .1 .0 .room, s .pre .1 .1 .1 .0)
 
 mul-part : tie.Need-mul-part
 mul-part c = search needs
@@ -55,7 +59,7 @@ decode-columns-requires : tie.Need-decode-columns-requires
 decode-columns-requires c κs =
     let s = c .before .before .before .before .before .before in
     let T = tail (c .before) in
-    (s .pre .0, ((s .pre .1 .0 .0, s .pre .1 .0 .1 .within), (tail-long T, tail-weights T ∙ s .pre .1 .1 .1 .1)))
+    (s .pre .0 .ready, ((s .pre .0 .long, s .pre .1 .0 .within), (tail-long T, tail-weights T ∙ s .pre .1 .1 .1 .1)))
 
 same-length : tie.Need-same-length
 same-length c = search needs
@@ -98,8 +102,8 @@ take-range-requires : tie.Need-take-range-requires
 take-range-requires c κs =
     let s = c .before .before .before .before .before .before .before .before .before .before .before .before .before in
     let a = s .args in
-    let f = s .pre .1 .0 .1 in (
-      (omega (arith, s .pre .0 .fits .low, s .pre .0 .fits .numbers .within), f .some, f .within, s .pre .1 .0 .2),
+    let f = s .pre .1 .0 in (
+      (omega (arith, s .pre .0 .ready .fits .low, s .pre .0 .ready .fits .numbers .within), f .some, f .within, s .pre .0 .few),
       (rw (words-are (c .before .before .before .before .before .before), c .before .before .before .before .before .before .decode-columns .kept .1 .1 .1 .1 .1 .0, tail-long (tail (c .before .before .before .before .before .before .before .before))) (half-span (a .st .level) (a .range .cols)), s .pre .1 .1 .0),
     )
 
@@ -119,8 +123,10 @@ taken c =
     let r = rowsIn (a .st) (a .marks .now) (a .bytes .now) in
     let d = c .before .before .before .before .before .before .before .decode-columns .ensures in
     let e = sym (d .0) ∙ not-false _ (c .before .before .before .before .if1 .left) in
-    range-taken (a .st) (a .marks .now) r (a .range .from) (a .range .cols) (a .range .skip) (a .out .now) refl refl (words-are (c .before .before .before .before .before .before .before)) (s .pre .1 .0 .1) (s .pre .1 .0 .2)
-    e (range-blocks (a .st) (a .marks .now) r (a .range .from) (a .range .cols) (d .1) (s .pre .1 .0 .1 .within) e) (c .take-range .ensures .0) (c .take-range .ensures .1)
+    let f = s .pre .1 .0 in
+    range-taken (a .st) (a .marks .now) r (a .range .from) (a .range .cols) (a .range .skip) (a .out .now) refl refl
+    (words-are (c .before .before .before .before .before .before .before)) f (s .pre .0 .few) e
+    (range-blocks (a .st) (a .marks .now) r (a .range .from) (a .range .cols) (d .1) (f .within) e) (c .take-range .ensures .0) (c .take-range .ensures .1)
 
 returns-2 : tie.Need-returns-2
 returns-2 c = (taken (c .before .before) .0, (λ _. taken (c .before .before) .1, weights-stay (c .before .before .before .before .before .before .before .before .before)))

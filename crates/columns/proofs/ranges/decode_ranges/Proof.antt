@@ -21,16 +21,17 @@ loop-holds : tie.Need-loop-holds Inv-loop μ-loop
 loop-holds c =
     let s = c .before .before .before .before in
     let a = s .args in
-    (refl, refl, refl, ranging-start (a .st) (a .marks .now) (rowsIn (a .st) (a .marks .now) (a .bytes .now)) (a .skip) (a .out .now) _ (s .pre .1 .1 .1 .0) (s .pre .1 .1 .1 .1))
+    let r = rowsIn (a .st) (a .marks .now) (a .bytes .now) in
+    (refl, refl, refl, ranging-start (a .st) (a .marks .now) r (a .skip) (a .out .now) _ (s .pre .1 .1 .0) (s .pre .1 .1 .1))
 
 range-columns-requires : tie.Need-range-columns-requires Inv-loop μ-loop
-range-columns-requires c κs = (c .before .before .before .before .before .before .pre .0 .fits, omega (arith, c .loop-test .taken))
+range-columns-requires c κs = (c .before .before .before .before .before .before .pre .0 .ready .fits, omega (arith, c .loop-test .taken))
 
 decode-range-requires : tie.Need-decode-range-requires Inv-loop μ-loop
 decode-range-requires c κs =
     let s = c .before .before .before .before .before .before .before .before .before in
     let i = c .before .before .before .before .loop .inv in
-    (s .pre .0, ((s .pre .1 .0 .0, c .before .before .range-columns .ensures, s .pre .1 .0 .1), (omega (arith, i .1, s .pre .1 .1 .0), (i .3 .sized, i .3 .weighed))))
+    (s .pre .0, (c .before .before .range-columns .ensures, (omega (arith, i .1, s .pre .1 .0), (i .3 .sized, i .3 .weighed))))
 
 same-length : tie.Need-same-length Inv-loop μ-loop
 same-length c = c .before .before .before .before .before .decode-range .kept .1 .1 .1 .1 .0 ∙ c .before .before .before .before .before .before .before .before .before .before .loop .inv .1
@@ -46,25 +47,35 @@ returns c =
     (sym (columns-fail (a .skip) _ f), λ t. absurd (false≢true (sym f ∙ t)))
 
 add-from : tie.Need-add-from Inv-loop μ-loop
-add-from c = omega (arith, c .before .before .before .before .before .before .before .before .before .range-columns .ensures .within, c .before .before .before .before .before .before .before .before .before .before .before .before .before .before .before .before .pre .0 .fits .thin)
+add-from c =
+    let p = c .before .before .before .before .before .before .before .before .before in
+    omega (arith, p .range-columns .ensures .within, p .before .before .before .before .before .before .before .pre .0 .ready .fits .thin)
 
 loop-less : tie.Need-loop-less Inv-loop μ-loop
 loop-less c = omega (arith, c .before .before .before .before .before .before .before .before .before .range-columns .ensures .some, c .before .before .before .before .before .before .before .before .before .before .loop-test .taken)
 
 loop-again : tie.Need-loop-again Inv-loop μ-loop
 loop-again c =
-    let s = c .before .before .before .before .before .before .before .before .before .before .before .before .before .before .before .before in
+    let p = c .before .before .before .before .before .before .before .before .before in
+    let i = p .before .before .loop .inv in
+    let s = p .before .before .before .before .before .before .before in
     let a = s .args in
     let r = rowsIn (a .st) (a .marks .now) (a .bytes .now) in
-    let i = c .before .before .before .before .before .before .before .before .before .before .before .loop .inv in
     let d = c .before .before .before .before .before .before .decode-range in
-    let thin : a .skip < a .st .width = omega (arith, s .pre .1 .0 .1, s .pre .0 .fits .thick) in (
+    let x = d .last .1 .1 .1 .1 .1 .0 in
+    let kept = d .kept .1 .1 .1 .1 .1 .0 in
+    let f = p .range-columns .ensures in
+    let few = s .pre .0 .few in
+    let out = s .pre .1 .0 in
+    let e = d .ensures in
+    let n = c .before .if1 .left in
+    let thin : a .skip < a .st .width = omega (arith, few, s .pre .0 .ready .fits .thick) in (
       i .0,
       d .kept .1 .1 .1 .1 .0 ∙ i .1,
-      d .kept .1 .1 .1 .1 .1 .0 ∙ i .2,
+      kept ∙ i .2,
       ⊎-elim
-          (λ w. ranging-first (a .st) (a .marks .now) r (a .skip) (a .out .now) (i .3) (d .last .1 .1 .1 .1 .1 .0) (c .before .before .before .before .before .before .before .before .before .range-columns .ensures) (s .pre .1 .0 .1) thin (s .pre .1 .1 .0) (d .ensures .0) (c .before .if1 .left) (d .ensures .1 .0) (d .kept .1 .1 .1 .1 .1 .0) (d .ensures .1 .1) (w .0 .taken) (w .1))
-          (λ w. ranging-later (a .st) (a .marks .now) r (a .skip) (a .out .now) (i .3) (d .last .1 .1 .1 .1 .1 .0) (c .before .before .before .before .before .before .before .before .before .range-columns .ensures) (s .pre .1 .0 .1) thin (s .pre .1 .1 .0) (d .ensures .0) (c .before .if1 .left) (d .ensures .1 .0) (d .kept .1 .1 .1 .1 .1 .0) (d .ensures .1 .1) (w .0 .left) (w .1))
+          (λ w. ranging-first (a .st) (a .marks .now) r (a .skip) (a .out .now) (i .3) x f few thin out (e .0) n (e .1 .0) kept (e .1 .1) (w .0 .taken) (w .1))
+          (λ w. ranging-later (a .st) (a .marks .now) r (a .skip) (a .out .now) (i .3) x f few thin out (e .0) n (e .1 .0) kept (e .1 .1) (w .0 .left) (w .1))
           (c .if2 .came),
     )
 
@@ -81,10 +92,10 @@ returns-2 c =
     let r = rowsIn (a .st) (a .marks .now) (a .bytes .now) in
     let i = c .before .loop .inv in
     let b = c .loop-test .left in
-    let thin : a .skip < a .st .width = omega (arith, s .pre .1 .0 .1, s .pre .0 .fits .thick) in
+    let thin : a .skip < a .st .width = omega (arith, s .pre .0 .few, s .pre .0 .ready .fits .thick) in
     let g = ranging-agrees (a .st) (a .marks .now) r (a .skip) (a .out .now) (i .3) b in (
       ranging-number (a .st) (a .marks .now) r (a .skip) (a .out .now) (i .3) b (omega arith) ∙ sym (columns-agree (a .skip) _ g),
-      λ t. ranging-rows (a .st) (a .marks .now) r (a .skip) (a .out .now) (i .3) b thin (s .pre .1 .1 .0),
+      λ t. ranging-rows (a .st) (a .marks .now) r (a .skip) (a .out .now) (i .3) b thin (s .pre .1 .0),
     )
 
 pub decode-ranges-spec : {M : Type 1} → statement M
