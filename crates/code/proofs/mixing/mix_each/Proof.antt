@@ -2,7 +2,7 @@
 use Prim.Native.Nat.{_+_, _-_}
 use Rattle.code.specs.Rows.{lifted}
 use Rattle.code.specs.Transform.{mixedHalves}
-use Rattle.code.proofs.Blocks.{BlockLoop}
+use Rattle.code.proofs.Blocks.{BlockLoop, blocks-needs as needs}
 use Rattle.code.proofs.mixing.mix_each.Statement.{statement}
 use Rattle.code.proofs.mixing.mix_each.Tie as tie
 

@@ -1,6 +1,6 @@
 -- `decoder::decoding::split` meets its contract: each half is unmixed in its place, and the second turned, by the laws of steps 2 and 4 of proofs/DecodeSteps.
 -- Assumes nothing.
-use Rattle.decoder.proofs.DecodeSteps.{half-bytes, again-long, again-words}
+use Rattle.decoder.proofs.DecodeSteps.{halves-needs as needs, half-bytes, again-long, again-words}
 use Rattle.decoder.proofs.decoding.split.Statement.{statement}
 use Rattle.decoder.proofs.decoding.split.Tie as tie
 

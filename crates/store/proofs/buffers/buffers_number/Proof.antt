@@ -1,4 +1,5 @@
 -- `store::buffers::buffers_number` meets its contract: each test that holds or fails, in turn. Assumes nothing.
+use Rattle.layout.proofs.Refusals.{sizes-needs as needs}
 use Rattle.store.proofs.buffers.buffers_number.Statement.{statement}
 use Rattle.store.proofs.buffers.buffers_number.Tie as tie
 
