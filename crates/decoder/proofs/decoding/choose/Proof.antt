@@ -102,6 +102,19 @@ Inv-loop part₀ marks level k width root rows half base square u at₀ i₀ par
 abbrev μ-loop : tie.MeasureT-loop
 μ-loop part₀ marks level k width root rows half base square u at₀ i₀ part at i = rows - i
 
+-- PLACES: `x-at-y c` is the place x that stands before y
+abbrev start-at-power : tie.After-power Inv-loop μ-loop → tie.Start Inv-loop μ-loop
+start-at-power c = c .before .before .before .before .before .before
+
+abbrev two-to-at-at-loop : tie.At-loop Inv-loop μ-loop → tie.After-two-to Inv-loop μ-loop
+two-to-at-at-loop c = c .before .before .before .before
+
+abbrev mul-at-in-loop : tie.In-loop Inv-loop μ-loop → tie.After-mul Inv-loop μ-loop
+mul-at-in-loop c = c .before .before .before .before
+
+abbrev in-loop-at-mul3 : tie.After-mul3 Inv-loop μ-loop → tie.In-loop Inv-loop μ-loop
+in-loop-at-mul3 c = c .before .before .before .before .before
+
 -- the count of rows, and the length
 small : (c : tie.After-two-to Inv-loop μ-loop) → c .two-to .result ≤ 32768
 small c = omega (arith, c .two-to .ensures, pow-mono {i = c .before .before .before .args .st .level} {j = 15} (omega arith))
@@ -178,15 +191,15 @@ slice-read-d c = let h = c .before .before .loop .inv in omega (arith, h .long, 
 
 shared-slice-read-if1 : tie.Need-shared-slice-read-if1 Inv-loop μ-loop
 shared-slice-read-if1 c =
-    let s = c .before .before .before .before .before .before .before .before .before .before in
+    let s = start-at-power (c .before .before .before .before) in
     let e : 2 ^ suc (s .args .st .level) ≤ length (s .args .marks .now) = s .pre .1 .0 in
     omega (arith, c .before .before .before .loop .inv .rows-is)
 
 mul-power : tie.Need-mul-power Inv-loop μ-loop
-mul-power c = omega (arith, small (c .before .before .before .before .before .before .before .before))
+mul-power c = omega (arith, small (two-to-at-at-loop (c .before .before .before .before)))
 
 cast-power-2 : tie.Need-cast-power-2 Inv-loop μ-loop
-cast-power-2 c = omega (arith, small (c .before .before .before .before .before .before .before .before))
+cast-power-2 c = omega (arith, small (two-to-at-at-loop (c .before .before .before .before)))
 
 power-requires-2 : tie.Need-power-requires-2 Inv-loop μ-loop
 power-requires-2 c κs = rw (c .before .before .before .before .before .power .ensures) (power-lt 65537 (lit< tt) _ _)
@@ -203,7 +216,7 @@ add-from c =
     omega (arith, room h (at .loop-test .taken), h .long)
 
 mul-requires-3 : tie.Need-mul-requires-3 Inv-loop μ-loop
-mul-requires-3 c κs = (rw (c .before .before .before .before .before .before .before .before .mul .ensures) (times-lt 65537 (lit< tt) _ _), picked (c .before) .small)
+mul-requires-3 c κs = (rw (mul-at-in-loop (c .before .before .before .before) .mul .ensures) (times-lt 65537 (lit< tt) _ _), picked (c .before) .small)
 
 inverse-requires : tie.Need-inverse-requires Inv-loop μ-loop
 inverse-requires c κs = rw (c .mul3 .ensures) (times-lt 65537 (lit< tt) _ _)
@@ -217,7 +230,7 @@ choose-row-requires c κs =
 
 add-at : tie.Need-add-at Inv-loop μ-loop
 add-at c =
-    let at = c .before .before .before .before .before .before .before .before .before in
+    let at = in-loop-at-mul3 (c .before .before .before .before) in
     let h = at .before .loop .inv in
     omega (arith, room h (at .loop-test .taken), h .long)
 
@@ -240,7 +253,7 @@ same-length c = c .before .loop .inv .storing .same
 returns : tie.Need-returns Inv-loop μ-loop
 returns c =
     let h = c .before .loop .inv in
-    let s = c .before .before .before .before .before .before .before .before in
+    let s = start-at-power (c .before .before) in
     let a = s .args in
     storing-rows-done (h .storing) (c .loop-test .left)
     ∙ rw (h .rows-is) (choose-rows 65537 (a .st .root) (a .st .k) (a .st .level) (a .st .width) (a .marks .now) (a .part .now) (omega (arith, s .pre .1 .1 .0)))

@@ -57,6 +57,10 @@ Inv-loop part₀ level width rows b low₀ high₀ j₀ part low high j = Inv pa
 abbrev μ-loop : tie.MeasureT-loop
 μ-loop part₀ level width rows b low₀ high₀ j₀ part low high j = rows - j
 
+-- PLACES: `x-at-y c` is the place x that stands before y
+abbrev mul-at-add : tie.After-add Inv-loop μ-loop → tie.After-mul Inv-loop μ-loop
+mul-at-add c = c .before .before .before .before
+
 -- the count of rows
 small : (c : tie.After-two-to Inv-loop μ-loop) → c .two-to .result ≤ 32768
 small c = omega (arith, c .two-to .ensures, pow-mono {i = c .before .before .args .level} {j = 15} (omega arith))
@@ -135,7 +139,7 @@ loop-again c =
     let add = row .before .before in
     let at = add .before .before in
     let h = at .before .loop .inv in
-    turn h (at .loop-test .taken) (add .add .ensures ∙ ap (λ (n : ℕ). plus 65537 n (c .before .before .before .before .before .before .before .before .mul .result)) (add .before .reversed .ensures)) (row .derive-row .ensures)
+    turn h (at .loop-test .taken) (add .add .ensures ∙ ap (λ (n : ℕ). plus 65537 n (mul-at-add (c .before .before .before .before) .mul .result)) (add .before .reversed .ensures)) (row .derive-row .ensures)
 
 same-length : tie.Need-same-length Inv-loop μ-loop
 same-length c = c .before .loop .inv .storing .same

@@ -4,8 +4,15 @@ use Rattle.decoder.proofs.DecodeSteps.{halves-needs as needs, half-byte
 use Rattle.decoder.proofs.decoding.split.Statement.{statement}
 use Rattle.decoder.proofs.decoding.split.Tie as tie
 
+-- PLACES: `x-at-y c` is the place x that stands before y
+abbrev two-to-at-unmix-all : tie.After-unmix-all → tie.After-two-to
+two-to-at-unmix-all c = c .before .before .before
+
+abbrev two-to-at-unmix-all2 : tie.After-unmix-all2 → tie.After-two-to
+two-to-at-unmix-all2 c = two-to-at-unmix-all (c .before .before .before .before)
+
 mul-turn : tie.Need-mul-turn
-mul-turn c = search (half-bytes, c .before .before .before .before .before .before .before .before .before)
+mul-turn c = search (half-bytes, two-to-at-unmix-all2 (c .before .before))
 
 turn-requires : tie.Need-turn-requires
 turn-requires c κs =

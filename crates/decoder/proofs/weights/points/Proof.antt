@@ -39,6 +39,10 @@ Inv-loop part₀ level k root half u v x₀ i₀ part x i = Inv part₀ level k 
 abbrev μ-loop : tie.MeasureT-loop
 μ-loop part₀ level k root half u v x₀ i₀ part x i = half - i
 
+-- PLACES: `x-at-y c` is the place x that stands before y
+abbrev start-at-two-to2 : tie.After-two-to2 Inv-loop μ-loop → tie.Start Inv-loop μ-loop
+start-at-two-to2 c = c .before .before .before
+
 two-to-requires : tie.Need-two-to-requires Inv-loop μ-loop
 two-to-requires c κs = omega arith
 
@@ -164,7 +168,7 @@ same-length : tie.Need-same-length Inv-loop μ-loop
 same-length c = c .before .loop .inv .same
 
 returns : tie.Need-returns Inv-loop μ-loop
-returns c = done (c .before .loop .inv) (c .loop-test .left) (c .before .before .before .before .before .before .before .pre .1)
+returns c = done (c .before .loop .inv) (c .loop-test .left) (start-at-two-to2 (c .before .before .before .before) .pre .1)
 
 pub points-spec : {M : Type 1} → statement M
 points-spec =

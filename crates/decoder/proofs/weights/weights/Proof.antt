@@ -137,6 +137,13 @@ module _ {front : List ℕ} {marks : List Bool} {level k root count base : ℕ} 
       let e : drop base part ≡ table count W = ap (drop base) (h .now) ∙ drop-at front (table count W) base (h .long) in
       rw e (words-weights 65537 (lit< tt) root k level marks count j)
 
+-- PLACES: `x-at-y c` is the place x that stands before y
+abbrev two-to-at-points : tie.After-points Inv-loop μ-loop → tie.After-two-to Inv-loop μ-loop
+two-to-at-points c = c .before .before
+
+abbrev two-to-at-part2 : tie.After-part2 Inv-loop μ-loop → tie.After-two-to Inv-loop μ-loop
+two-to-at-part2 c = two-to-at-points (c .before .before .before .before .before)
+
 -- the number of positions, twice of which lie within the part
 count-is : (c : tie.After-two-to Inv-loop μ-loop) → c .two-to .result ≡ 2 ^ suc (c .before .before .before .args .st .level)
 count-is c = positions (c .before .before .before .args .st .level) (c .two-to .ensures)
@@ -181,7 +188,7 @@ loop-holds c =
 
 shared-slice-read-if1 : tie.Need-shared-slice-read-if1 Inv-loop μ-loop
 shared-slice-read-if1 c =
-    let at-two = c .before .before .before .before .before .before .before .before .before .before .before in
+    let at-two = two-to-at-part2 (c .before .before .before .before) in
     omega (arith, count-is at-two, at-two .before .before .before .pre .1 .0)
 
 weigh-by-requires : tie.Need-weigh-by-requires Inv-loop μ-loop
@@ -205,7 +212,7 @@ loop-again c =
 
 same-length : tie.Need-same-length Inv-loop μ-loop
 same-length c =
-    let at-two = c .before .before .before .before .before .before .before .before .before .before in
+    let at-two = two-to-at-part2 (c .before .before .before) in
     c .before .loop .inv .same ∙ omega (arith, room at-two)
 
 returns : tie.Need-returns Inv-loop μ-loop

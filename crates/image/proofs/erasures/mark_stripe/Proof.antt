@@ -52,11 +52,12 @@ same-length c = search needs
 
 returns : tie.Need-returns
 returns c =
-    let s = c .before .before .before .before .before .before .before .before .before in
+    let at-two-to = c .before .before .before in
+    let s = at-two-to .before .before .before .before .before .before in
     let h = s .args .header in
     let l = s .args .level in
     c .before .before .mark .ensures
-    ∙ rw (c .before .before .before .two-to .ensures, add-one l, c .before .before .before .before .before .stripe-at .ensures, add-one (h .s)) (marksFor-is h (erasuresIn (s .args .erasures .now)) l)
+    ∙ rw (at-two-to .two-to .ensures, add-one l, at-two-to .before .before .stripe-at .ensures, add-one (h .s)) (marksFor-is h (erasuresIn (s .args .erasures .now)) l)
 
 pub mark-stripe-spec : {M : Type 1} → statement M
 mark-stripe-spec =

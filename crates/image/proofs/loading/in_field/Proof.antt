@@ -25,6 +25,10 @@ Inv-loop bytes marks rows width i₀ i = RowsLoop 65537 rows width (survivingAt 
 abbrev μ-loop : tie.MeasureT-loop
 μ-loop bytes marks rows width i₀ i = rows - i
 
+-- PLACES: `x-at-y c` is the place x that stands before y
+abbrev start-at-two-to : tie.After-two-to Inv-loop μ-loop → tie.Start Inv-loop μ-loop
+start-at-two-to c = c .before .before .before .before
+
 -- the rows are the positions, and row i lies inside the bytes
 pos : (d : tie.In-loop Inv-loop μ-loop) → d .before .before .two-to .result ≡ positionCount (d .before .before .before .before .before .before .args .st)
 pos d = positions (d .before .before .before .before .before .before .args .st .level) (d .before .before .two-to .ensures)
@@ -50,7 +54,7 @@ loop-holds : tie.Need-loop-holds Inv-loop μ-loop
 loop-holds c = rows-start _ _ _ _
 
 shared-slice-read-if1 : tie.Need-shared-slice-read-if1 Inv-loop μ-loop
-shared-slice-read-if1 c = omega (arith, c .before .loop-test .taken, pos (c .before), c .before .before .before .before .before .before .before .pre .2)
+shared-slice-read-if1 c = omega (arith, c .before .loop-test .taken, pos (c .before), start-at-two-to (c .before .before .before) .pre .2)
 
 mul-row-in-field : tie.Need-mul-row-in-field Inv-loop μ-loop
 mul-row-in-field c = omega (arith, fit (c .before .before), sized (c .before .before))

@@ -1,5 +1,5 @@
 -- `image::loading::load` meets its contract, by the loop that stores rows of code/proofs/RowLaws. Assumes nothing.
-use mathlib.Core.Path.{_≡_, refl, sym, ap, _∙_}
+use mathlib.Core.Path.{_≡_, refl, sym, ap, subst, _∙_}
 use mathlib.Core.List.{_++_}
 use mathlib.Core.Logic.{⊎-elim}
 use Prim.Native.Nat.{ℕ, _+_, _*_, _-_, _≤_}
@@ -25,21 +25,29 @@ Inv-loop part₀ bytes marks from cols rows width i₀ part i = StoringRows 0 (c
 abbrev μ-loop : tie.MeasureT-loop
 μ-loop part₀ bytes marks from cols rows width i₀ part i = rows - i
 
+-- PLACES: `x-at-y c` is the place x that stands before y
+abbrev start-at-loop : tie.At-loop Inv-loop μ-loop → tie.Start Inv-loop μ-loop
+start-at-loop c = c .before .before .before .before .before .before
+
 -- the rows are the positions; row i lies inside the bytes and inside the part
-pos : (d : tie.In-loop Inv-loop μ-loop) → d .before .before .two-to .result ≡ positionCount (d .before .before .before .before .before .before .before .args .st)
-pos d = positions (d .before .before .before .before .before .before .before .args .st .level) (d .before .before .two-to .ensures)
+pos : (d : tie.In-loop Inv-loop μ-loop) → d .before .before .two-to .result ≡ positionCount (start-at-loop (d .before) .args .st)
+pos d = positions (start-at-loop (d .before) .args .st .level) (d .before .before .two-to .ensures)
 
-sized : (d : tie.In-loop Inv-loop μ-loop) → length (d .before .before .before .before .before .before .before .args .bytes .now) ≡ 4 * (d .before .before .two-to .result * d .before .before .before .before .before .before .before .args .st .width)
-sized d = rw (pos d) (d .before .before .before .before .before .before .before .pre .0 .1)
+sized : (d : tie.In-loop Inv-loop μ-loop) → length (start-at-loop (d .before) .args .bytes .now) ≡ 4 * (d .before .before .two-to .result * start-at-loop (d .before) .args .st .width)
+sized d =
+    let s = start-at-loop (d .before) in
+    s .pre .0 .1 ∙ ap (λ (n : ℕ). 4 * (n * s .args .st .width)) (sym (pos d))
 
-room : (d : tie.In-loop Inv-loop μ-loop) → d .before .before .two-to .result * d .before .before .before .before .before .before .before .args .cols ≤ length (d .before .before .before .before .before .before .before .args .part .now)
-room d = rw (pos d) (d .before .before .before .before .before .before .before .pre .1 .1)
+room : (d : tie.In-loop Inv-loop μ-loop) → d .before .before .two-to .result * start-at-loop (d .before) .args .cols ≤ length (start-at-loop (d .before) .args .part .now)
+room d =
+    let s = start-at-loop (d .before) in
+    subst (λ (n : ℕ). n * s .args .cols ≤ length (s .args .part .now)) (sym (pos d)) (s .pre .1 .1)
 
-fit : (d : tie.In-loop Inv-loop μ-loop) → d .before .loop .i * d .before .before .before .before .before .before .before .args .st .width + d .before .before .before .before .before .before .before .args .st .width ≤ d .before .before .two-to .result * d .before .before .before .before .before .before .before .args .st .width
-fit d = row-in (d .before .before .before .before .before .before .before .args .st .width) (d .loop-test .taken)
+fit : (d : tie.In-loop Inv-loop μ-loop) → d .before .loop .i * start-at-loop (d .before) .args .st .width + start-at-loop (d .before) .args .st .width ≤ d .before .before .two-to .result * start-at-loop (d .before) .args .st .width
+fit d = row-in (start-at-loop (d .before) .args .st .width) (d .loop-test .taken)
 
-fit-part : (d : tie.In-loop Inv-loop μ-loop) → d .before .loop .i * d .before .before .before .before .before .before .before .args .cols + d .before .before .before .before .before .before .before .args .cols ≤ d .before .before .two-to .result * d .before .before .before .before .before .before .before .args .cols
-fit-part d = row-in (d .before .before .before .before .before .before .before .args .cols) (d .loop-test .taken)
+fit-part : (d : tie.In-loop Inv-loop μ-loop) → d .before .loop .i * start-at-loop (d .before) .args .cols + start-at-loop (d .before) .args .cols ≤ d .before .before .two-to .result * start-at-loop (d .before) .args .cols
+fit-part d = row-in (start-at-loop (d .before) .args .cols) (d .loop-test .taken)
 
 add-two-to : tie.Need-add-two-to Inv-loop μ-loop
 add-two-to c = search needs
@@ -54,22 +62,22 @@ mul-to : tie.Need-mul-to Inv-loop μ-loop
 mul-to c = omega (arith, fit-part c, room c)
 
 shared-slice-read-if1 : tie.Need-shared-slice-read-if1 Inv-loop μ-loop
-shared-slice-read-if1 c = omega (arith, c .before .loop-test .taken, pos (c .before), c .before .before .before .before .before .before .before .before .pre .0 .2)
+shared-slice-read-if1 c = omega (arith, c .before .loop-test .taken, pos (c .before), start-at-loop (c .before .before) .pre .0 .2)
 
 clear-row-requires : tie.Need-clear-row-requires Inv-loop μ-loop
 clear-row-requires c κs = omega (arith, fit-part (c .before .before .before), room (c .before .before .before), c .before .before .before .before .loop .inv .same)
 
 mul-load-row : tie.Need-mul-load-row Inv-loop μ-loop
-mul-load-row c = omega (arith, fit (c .before .before .before), sized (c .before .before .before), c .before .before .before .before .before .before .before .before .before .before .pre .1 .0)
+mul-load-row c = omega (arith, fit (c .before .before .before), sized (c .before .before .before), start-at-loop (c .before .before .before .before) .pre .1 .0)
 
 add-load-row : tie.Need-add-load-row Inv-loop μ-loop
-add-load-row c = omega (arith, fit (c .before .before .before), sized (c .before .before .before), c .before .before .before .before .before .before .before .before .before .before .pre .1 .0)
+add-load-row c = omega (arith, fit (c .before .before .before), sized (c .before .before .before), start-at-loop (c .before .before .before .before) .pre .1 .0)
 
 mul-load-row-2 : tie.Need-mul-load-row-2 Inv-loop μ-loop
-mul-load-row-2 c = omega (arith, fit (c .before .before .before), sized (c .before .before .before), c .before .before .before .before .before .before .before .before .before .before .pre .1 .0)
+mul-load-row-2 c = omega (arith, fit (c .before .before .before), sized (c .before .before .before), start-at-loop (c .before .before .before .before) .pre .1 .0)
 
 load-row-requires : tie.Need-load-row-requires Inv-loop μ-loop
-load-row-requires c κs = (omega (arith, fit-part (c .before .before .before), room (c .before .before .before), c .before .before .before .before .loop .inv .same), omega (arith, fit (c .before .before .before), sized (c .before .before .before), c .before .before .before .before .before .before .before .before .before .before .pre .1 .0))
+load-row-requires c κs = (omega (arith, fit-part (c .before .before .before), room (c .before .before .before), c .before .before .before .before .loop .inv .same), omega (arith, fit (c .before .before .before), sized (c .before .before .before), start-at-loop (c .before .before .before .before) .pre .1 .0))
 
 add-i : tie.Need-add-i Inv-loop μ-loop
 add-i c = omega arith
@@ -80,7 +88,7 @@ loop-less c = omega arith
 loop-again : tie.Need-loop-again Inv-loop μ-loop
 loop-again c =
     let l = c .before .before in
-    let s = l .before .before .before .before .before .before .before in
+    let s = start-at-loop (l .before) in
     let a = s .args in
     let inv = l .before .loop .inv in
     let b = l .loop-test .taken in
@@ -98,9 +106,13 @@ same-length c = c .before .loop .inv .same
 returns : tie.Need-returns Inv-loop μ-loop
 unfolding columnsOf
 returns c =
-    let a = c .before .before .before .before .before .before .before .args in
-    storing-rows-done (c .before .loop .inv) (c .loop-test .left) ∙ stored-front _ _ (a .part .now) (rw (positions (a .st .level) (c .before .before .two-to .ensures)) (c .before .before .before .before .before .before .before .pre .1 .1))
-    ∙ ap (λ (n : ℕ). table (n * a .cols) (columnsWord (a .st .width) (a .from) (a .cols) (surviving (a .st .width) n (a .marks .now) (wordsOf (a .bytes .now)))) ++ drop (n * a .cols) (a .part .now)) (positions (a .st .level) (c .before .before .two-to .ensures))
+    let s = start-at-loop (c .before) in
+    let a = s .args in
+    let e = positions (a .st .level) (c .before .before .two-to .ensures) in
+    storing-rows-done (c .before .loop .inv) (c .loop-test .left)
+    ∙ stored-front _ _ (a .part .now) (subst (λ (n : ℕ). n * a .cols ≤ length (a .part .now)) (sym e) (s .pre .1 .1))
+    ∙ ap (λ (n : ℕ). table (n * a .cols) (columnsWord (a .st .width) (a .from) (a .cols) (surviving (a .st .width) n (a .marks .now) (wordsOf (a .bytes .now))))
+    ++ drop (n * a .cols) (a .part .now)) e
 
 pub load-spec : {M : Type 1} → statement M
 load-spec =

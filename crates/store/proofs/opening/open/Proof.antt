@@ -36,8 +36,21 @@ module _ (k s : ℕ) (r f g : List ℕ) where
         (p ∙ ap (λ (b : Buffers). b .full) u, q ∙ ap (λ (n : ℕ). replicate n 0) (open-taken k s r f g e .log-long) ∙ ap (λ (b : Buffers). b .log) u),
       )
 
+-- PLACES: `x-at-y c` is the place x that stands before y
+abbrev start-at-open-number : tie.After-open-number → tie.Start
+start-at-open-number c = c .before .before .before .before .before .before
+
+abbrev start-at-build : tie.After-build → tie.Start
+start-at-build c = start-at-open-number (c .before .before .before)
+
+abbrev start-at-clear : tie.After-clear → tie.Start
+start-at-clear c = start-at-build (c .before .before .before .before)
+
+abbrev else1-at-clear : tie.After-clear → tie.Else1
+else1-at-clear c = c .before .before .before .before .before .before
+
 number-zero : (c : tie.Else1)
-    → openNumber (c .before .before .before .before .before .before .before .args .k) (c .before .before .before .before .before .before .before .args .s) (c .before .before .before .before .before .before .before .args .raw .now) (c .before .before .before .before .before .before .before .args .full .now) (c .before .before .before .before .before .before .before .args .log .now) ≡ 0
+    → openNumber (start-at-open-number (c .before) .args .k) (start-at-open-number (c .before) .args .s) (start-at-open-number (c .before) .args .raw .now) (start-at-open-number (c .before) .args .full .now) (start-at-open-number (c .before) .args .log .now) ≡ 0
 number-zero c = sym (c .before .open-number .ensures) ∙ c .if1 .left
 
 open-number-requires : tie.Need-open-number-requires
@@ -51,12 +64,12 @@ same-length-2 c = search needs
 
 returns : tie.Need-returns
 returns c =
-    let a = c .before .before .before .before .before .before .before .args in
+    let a = start-at-open-number (c .before) .args in
     refused (a .k) (a .s) (a .raw .now) (a .full .now) (a .log .now) _ (c .before .open-number .ensures) (c .if1 .taken)
 
 build-requires : tie.Need-build-requires
 build-requires c κs =
-    let a = c .before .before .before .before .before .before .before .before .args in
+    let a = start-at-open-number (c .before .before) .args in
     let t = open-taken (a .k) (a .s) (a .raw .now) (a .full .now) (a .log .now) (number-zero (c .before)) in
     let z = fits (headerOf (a .k) (a .s) 0) (t .fitting) in
     ((z .k-high, z .s-high), (t .raw-long, t .full-long))
@@ -72,8 +85,8 @@ same-length-4 c = search needs
 
 returns-2 : tie.Need-returns-2
 returns-2 c =
-    let a = c .before .before .before .before .before .before .before .before .before .before .before .before .before .before .before .args in
-    taken (a .k) (a .s) (a .raw .now) (a .full .now) (a .log .now) (number-zero (c .before .before .before .before .before .before .before .before)) (c .before .before .before .before .before .before .build .ensures) (c .before .before .clear .ensures)
+    let a = start-at-clear (c .before .before) .args in
+    taken (a .k) (a .s) (a .raw .now) (a .full .now) (a .log .now) (number-zero (else1-at-clear (c .before .before))) (c .before .before .before .before .before .before .build .ensures) (c .before .before .clear .ensures)
 
 pub open-spec : {M : Type 1} → statement M
 open-spec =

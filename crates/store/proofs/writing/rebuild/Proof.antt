@@ -22,9 +22,13 @@ use borrow.Author.Needs.{needs}
 use Rattle.store.proofs.writing.rebuild.Statement.{statement}
 use Rattle.store.proofs.writing.rebuild.Tie as tie
 
+-- PLACES: `x-at-y c` is the place x that stands before y
+abbrev start-at-root : tie.After-root → tie.Start
+start-at-root c = c .before .before .before .before .before
+
 -- the places, from the last to the first
 abbrev entry : tie.After-power → tie.Start
-entry c = c .before .before .before .before .before .before .before .before
+entry c = start-at-root (c .before .before .before)
 
 abbrev to-power : tie.After-gather2 → tie.After-power
 to-power c = c .before .before .before .before .before .before

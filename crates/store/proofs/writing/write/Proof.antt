@@ -61,9 +61,19 @@ module _ (h : Header) (r f g : List ℕ) (i : ℕ) (b : List ℕ) where
       let p : lastOfRound h ≡ false = ne-eqb (suc (h .c)) (count h) l in
       (rw (p, nextHeader), rw (p, written))
 
+-- PLACES: `x-at-y c` is the place x that stands before y
+abbrev start-at-slice-known2 : tie.After-slice-known2 → tie.Start
+start-at-slice-known2 c = c .before .before
+
+abbrev start-at-write-number : tie.After-write-number → tie.Start
+start-at-write-number c = start-at-slice-known2 (c .before .before .before .before .before .before)
+
+abbrev slice-known4-at-first-empty : tie.After-first-empty → tie.After-slice-known4
+slice-known4-at-first-empty c = c .before .before .before .before
+
 -- the places, from the last to the first
 abbrev entry : tie.After-write-number → tie.Start
-entry c = c .before .before .before .before .before .before .before .before
+entry c = start-at-write-number c
 
 abbrev to-else : tie.After-slice-known4 → tie.Else1
 to-else c = c .before .before .before .before .before .before
@@ -170,7 +180,7 @@ rebuild-requires c κs =
     )
 
 add-taken : tie.Need-add-taken
-add-taken c = let z = bounds (to-else (c .before .before .before .before .before .before .before)) in omega (arith, z .c-low, z .few)
+add-taken c = let z = bounds (to-else (slice-known4-at-first-empty (c .before .before .before))) in omega (arith, z .c-low, z .few)
 
 taken-requires-2 : tie.Need-taken-requires-2
 taken-requires-2 c κs = search needs
