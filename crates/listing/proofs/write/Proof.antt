@@ -7,6 +7,10 @@ use borrow.Author.Needs.{needs}
 use Rattle.listing.proofs.write.Statement.{statement}
 use Rattle.listing.proofs.write.Tie as tie
 
+-- PLACES: `x-at-y c` is the place x that stands before y
+abbrev start-at-block : tie.After-block → tie.Start
+start-at-block c = c .before .before .before .before .before
+
 array-borrow-prefix-block : tie.Need-array-borrow-prefix-block
 array-borrow-prefix-block c = search needs
 
@@ -29,7 +33,7 @@ pair-requires : tie.Need-pair-requires
 pair-requires c κs = search needs
 
 -- the block's words
-kept : (c : tie.After-load) → length (c .load .last .0) ≡ c .before .before .before .before .before .before .before .args .s
+kept : (c : tie.After-load) → length (c .load .last .0) ≡ start-at-block (c .before .before) .args .s
 kept c = c .load .kept .0 ∙ length-take-le _ _ (omega arith)
 
 array-share-prefix-block : tie.Need-array-share-prefix-block

@@ -113,23 +113,45 @@ slice-aggregate-on-image-4 c = search needs
 on-image-requires : tie.Need-on-image-requires Inv-loop μ-loop
 on-image-requires c κs = search needs
 
+-- THE TURN, from its end: after the calls on the image, on the records, on the bytes, on what is lent and on what is held, and its beginning
+abbrev imaged : tie.After-scratch4 Inv-loop μ-loop → tie.After-image4 Inv-loop μ-loop
+imaged c = c .before .before .before .before .before .before .before .before .before .before
+
+abbrev recorded : tie.After-image4 Inv-loop μ-loop → tie.After-on-records Inv-loop μ-loop
+recorded c = c .before .before .before .before .before .before .before .before
+
+abbrev loaded : tie.After-on-records Inv-loop μ-loop → tie.After-bytes Inv-loop μ-loop
+loaded c = c .before .before .before .before .before .before .before .before
+
+abbrev lent : tie.After-bytes Inv-loop μ-loop → tie.After-lent Inv-loop μ-loop
+lent c = c .before .before .before .before .before
+
+abbrev held : tie.After-lent Inv-loop μ-loop → tie.After-held Inv-loop μ-loop
+held c = c .before .before .before .before .before .before .before .before
+
+abbrev begun : tie.After-held Inv-loop μ-loop → tie.In-loop Inv-loop μ-loop
+begun c = c .before .before .before .before .before .before .before .before .before
+
+abbrev beginning : tie.After-scratch4 Inv-loop μ-loop → tie.In-loop Inv-loop μ-loop
+beginning c = begun (held (lent (loaded (recorded (imaged c)))))
+
 add-i : tie.Need-add-i Inv-loop μ-loop
-add-i c = omega (arith, c .before .before .before .before .before .before .before .before .before .before .before .before .before .before .before .before .before .before .before .before .before .before .before .before .before .before .before .before .before .before .before .before .before .before .before .before .before .before .before .before .before .before .before .before .before .before .before .before .loop-test .taken, c .before .before .before .before .before .before .before .before .before .before .before .before .before .before .before .before .before .before .before .before .before .before .before .before .before .before .before .before .before .before .before .before .before .before .before .before .before .before .before .before .before .before .before .before .before .before .before .before .before .before .number .ensures)
+add-i c = omega (arith, beginning c .loop-test .taken, beginning c .before .before .number .ensures)
 
 loop-less : tie.Need-loop-less Inv-loop μ-loop
-loop-less c = omega (arith, c .before .before .before .before .before .before .before .before .before .before .before .before .before .before .before .before .before .before .before .before .before .before .before .before .before .before .before .before .before .before .before .before .before .before .before .before .before .before .before .before .before .before .before .before .before .before .before .before .loop-test .taken)
+loop-less c = omega (arith, beginning c .loop-test .taken)
 
 loop-again : tie.Need-loop-again Inv-loop μ-loop
 loop-again c =
-    let i = c .before .before .before .before .before .before .before .before .before .before .before .before .before .before .before .before .before .before .before .before .before .before .before .before .before .before .before .before .before .before .before .before .before .before .before .before .before .before .before .before .before .before .before .before .before .before .before .before .before .loop .inv in
-    let h = c .before .before .before .before .before .before .before .before .before .before .before .before .before .before .before .before .before .before .before .before .before .before .before .before .before .before .before .before .before .before .before .before .before .before .before .before .before .before .before .held .ensures in
-    let l = c .before .before .before .before .before .before .before .before .before .before .before .before .before .before .before .before .before .before .before .before .before .before .before .before .before .before .before .before .before .before .before .lent .ensures in
-    let b = c .before .before .before .before .before .before .before .before .before .before .before .before .before .before .before .before .before .before .before .before .before .before .before .before .before .before .bytes .ensures in
-    let r = c .before .before .before .before .before .before .before .before .before .before .before .before .before .before .before .before .before .before .on-records .ensures in
-    let m = c .before .before .before .before .before .before .before .before .before .before .image4 .ensures in
+    let i = beginning c .before .loop .inv in
+    let h = held (lent (loaded (recorded (imaged c)))) .held .ensures in
+    let l = lent (loaded (recorded (imaged c))) .lent .ensures in
+    let b = loaded (recorded (imaged c)) .bytes .ensures in
+    let r = recorded (imaged c) .on-records .ensures in
+    let m = imaged c .image4 .ensures in
     let o = c .before .before .before .on-image .ensures in
     record {
-      turns = omega (arith, c .before .before .before .before .before .before .before .before .before .before .before .before .before .before .before .before .before .before .before .before .before .before .before .before .before .before .before .before .before .before .before .before .before .before .before .before .before .before .before .before .before .before .before .before .before .before .before .before .loop-test .taken);
+      turns = omega (arith, beginning c .loop-test .taken);
       raw-long = r .1 .0 ∙ h .0 ∙ i .raw-long;
       full-long = r .1 .1 .0 ∙ h .1 .0 ∙ i .full-long;
       log-long = r .1 .1 .1 ∙ h .1 .1 .0 ∙ i .log-long;

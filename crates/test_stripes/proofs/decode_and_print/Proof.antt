@@ -6,6 +6,10 @@ use Rattle.decoder.proofs.Survivors.{enough}
 use Rattle.test_stripes.proofs.decode_and_print.Statement.{statement}
 use Rattle.test_stripes.proofs.decode_and_print.Tie as tie
 
+-- PLACES: `x-at-y c` is the place x that stands before y
+abbrev start-at-two-to : tie.After-two-to → tie.Start
+start-at-two-to c = c .before .before .before .before
+
 add-two-to : tie.Need-add-two-to
 add-two-to c = search needs
 
@@ -29,7 +33,7 @@ returns c = search needs
 
 decode-requires : tie.Need-decode-requires
 decode-requires c κs =
-    let s = c .before .before .before .before .before .before .before in
+    let s = start-at-two-to (c .before .before .before) in
     let half = enough (s .args .st .level) (s .args .marks .now) (omega (arith, positions (s .args .st .level) (c .before .before .before .two-to .ensures), c .before .before .count-erased .ensures)) in
     let pre = s .pre in
     (pre .0, ((pre .1 .0, half), pre .1 .1))

@@ -14,6 +14,13 @@ use Rattle.test_stripes.proofs.Buffers.{loaded}
 use Rattle.test_stripes.proofs.decode_case.Statement.{statement}
 use Rattle.test_stripes.proofs.decode_case.Tie as tie
 
+-- PLACES: `x-at-y c` is the place x that stands before y
+abbrev start-at-marks : tie.After-marks → tie.Start
+start-at-marks c = c .before .before .before .before .before .before
+
+abbrev weights-at-words : tie.After-words → tie.After-weights
+weights-at-words c = c .before .before .before .before
+
 add-two-to : tie.Need-add-two-to
 add-two-to c = search needs
 
@@ -28,7 +35,7 @@ marks-requires c κs = omega (arith, positions (c .before .before .before .befor
 
 weights-requires : tie.Need-weights-requires
 weights-requires c κs =
-    let s = c .before .before .before .before .before .before .before .before .before .before in
+    let s = start-at-marks (c .before .before .before .before) in
     (s .pre .0, (omega (arith, c .before .before .before .before .marks .ensures), omega (arith, le-mul-of-pos-right (positionCount (s .args .st)) (s .pre .1 .0))))
 
 words-requires : tie.Need-words-requires
@@ -36,7 +43,7 @@ words-requires c κs = search needs
 
 decode-and-print-requires : tie.Need-decode-and-print-requires
 decode-and-print-requires c κs =
-    let weighed = c .before .before .before .before .before .before .before .before in
+    let weighed = weights-at-words (c .before .before .before .before) in
     let marked = weighed .before .before .before .before .before in
     let two = marked .before .before in
     let s = two .before .before .before .before in

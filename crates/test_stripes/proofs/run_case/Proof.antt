@@ -9,6 +9,19 @@ use Rattle.test_stripes.proofs.Buffers.{numbers, twice, stripe-length, 
 use Rattle.test_stripes.proofs.run_case.Statement.{statement}
 use Rattle.test_stripes.proofs.run_case.Tie as tie
 
+-- PLACES: `x-at-y c` is the place x that stands before y
+abbrev byte2-at-byte4 : tie.After-byte4 → tie.After-byte2
+byte2-at-byte4 c = c .before .before
+
+abbrev byte2-at-two-to : tie.After-two-to → tie.After-byte2
+byte2-at-two-to c = byte2-at-byte4 (c .before .before .before .before .before)
+
+abbrev two-to-at-root : tie.After-root → tie.After-two-to
+two-to-at-root c = c .before .before .before .before .before
+
+abbrev else4-at-root : tie.After-root → tie.Else4
+else4-at-root c = c .before .before .before .before
+
 byte-requires : tie.Need-byte-requires
 byte-requires c κs = search needs
 
@@ -43,19 +56,19 @@ two-to-requires : tie.Need-two-to-requires
 two-to-requires c κs = omega (arith, ltb-false)
 
 add-positions : tie.Need-add-positions
-add-positions c = omega (arith, small-length (c .before .before .before .before .before .before .before .byte2 .result) (c .before .before .before .before .before .byte4 .result) (c .two-to .ensures) (omega (arith, ltb-false)) (omega arith))
+add-positions c = omega (arith, small-length (byte2-at-two-to c .byte2 .result) (c .before .before .before .before .before .byte4 .result) (c .two-to .ensures) (omega (arith, ltb-false)) (omega arith))
 
 mul-count : tie.Need-mul-count
-mul-count c = omega (arith, small-length (c .before .before .before .before .before .before .before .byte2 .result) (c .before .before .before .before .before .byte4 .result) (c .two-to .ensures) (omega (arith, ltb-false)) (omega arith))
+mul-count c = omega (arith, small-length (byte2-at-two-to c .byte2 .result) (c .before .before .before .before .before .byte4 .result) (c .two-to .ensures) (omega (arith, ltb-false)) (omega arith))
 
 add-all : tie.Need-add-all
-add-all c = omega (arith, small-length (c .before .before .before .before .before .before .before .byte2 .result) (c .before .before .before .before .before .byte4 .result) (c .two-to .ensures) (omega (arith, ltb-false)) (omega arith))
+add-all c = omega (arith, small-length (byte2-at-two-to c .byte2 .result) (c .before .before .before .before .before .byte4 .result) (c .two-to .ensures) (omega (arith, ltb-false)) (omega arith))
 
 rem-if4 : tie.Need-rem-if4
-rem-if4 c = rw (c .two-to .ensures) (pow-pos (c .before .before .before .before .before .before .before .byte2 .result))
+rem-if4 c = rw (c .two-to .ensures) (pow-pos (byte2-at-two-to c .byte2 .result))
 
 add-if5 : tie.Need-add-if5
-add-if5 c = omega (arith, small-length (c .before .before .before .before .before .before .before .before .byte2 .result) (c .before .before .before .before .before .before .byte4 .result) (c .before .two-to .ensures) (omega (arith, ltb-false)) (omega arith))
+add-if5 c = omega (arith, small-length (byte2-at-two-to (c .before) .byte2 .result) (c .before .before .before .before .before .before .byte4 .result) (c .before .two-to .ensures) (omega (arith, ltb-false)) (omega arith))
 
 returns-2 : tie.Need-returns-2
 returns-2 c = search needs
@@ -71,11 +84,11 @@ slice-aggregate-decode-case c = sym (length-take-le _ _ (omega (arith, ltb-false
 
 decode-case-requires : tie.Need-decode-case-requires
 decode-case-requires c κs =
-    let t = c .before .before .before .before .before .before .before .before in
-    let l = t .before .before .before .before .before .before .before .byte2 .result in
+    let t = two-to-at-root (c .before .before .before) in
+    let l = byte2-at-two-to t .byte2 .result in
     let width = t .before .before .before .before .before .byte4 .result in
     let e = t .two-to .ensures in (
-      numbers e (c .before .before .before .before .before .before .before .if4 .left) (omega (arith, ltb-false)) (omega (arith, ltb-false)) (omega (arith, ltb-false)) (c .before .before .before .root .ensures),
+      numbers e (else4-at-root (c .before .before .before) .if4 .left) (omega (arith, ltb-false)) (omega (arith, ltb-false)) (omega (arith, ltb-false)) (c .before .before .before .root .ensures),
       (
         omega (arith, eqb-false),
         (
@@ -93,8 +106,8 @@ slice-aggregate-code-case c = sym (length-take-le _ _ (omega (arith, ltb-false))
 
 code-case-requires : tie.Need-code-case-requires
 code-case-requires c κs =
-    let t = c .before .before .before .before .before .before .before in
-    let l = t .before .before .before .before .before .before .before .byte2 .result in
+    let t = two-to-at-root (c .before .before) in
+    let l = byte2-at-two-to t .byte2 .result in
     let width = t .before .before .before .before .before .byte4 .result in
     let e = t .two-to .ensures in (
       numbers e (c .before .before .before .before .before .before .if4 .left) (omega (arith, ltb-false)) (omega (arith, ltb-false)) (omega (arith, ltb-false)) (c .before .before .root .ensures),

@@ -11,12 +11,19 @@ use Rattle.columns.proofs.FullNumbers.{filled, zero-agrees}
 use Rattle.columns.proofs.full.decode_all.Statement.{statement}
 use Rattle.columns.proofs.full.decode_all.Tie as tie
 
+-- PLACES: `x-at-y c` is the place x that stands before y
+abbrev start-at-store-weights : tie.After-store-weights → tie.Start
+start-at-store-weights c = c .before .before .before .before .before .before
+
+abbrev clear-at-clear2 : tie.After-clear2 → tie.After-clear
+clear-at-clear2 c = c .before .before .before .before .before
+
 store-weights-requires : tie.Need-store-weights-requires
 store-weights-requires c κs = search needs
 
 decode-ranges-requires : tie.Need-decode-ranges-requires
 decode-ranges-requires c κs =
-    let s = c .before .before .before .before .before .before .before .before .before .before in
+    let s = start-at-store-weights (c .before .before .before .before) in
     let w = c .before .before .before .before .store-weights in
     (s .pre .0, (omega (arith, s .pre .1 .0), (w .kept .1 .1 .0 ∙ s .pre .1 .1, w .ensures)))
 
@@ -49,7 +56,7 @@ cleared p =
 
 returns : tie.Need-returns
 returns c =
-    let p = c .before .before .before .before .before .before .before in
+    let p = clear-at-clear2 (c .before .before) in
     let d = at-ranges p .decode-ranges in
     let zeros = c .before .before .clear2 .ensures ∙ ap (λ (n : ℕ). replicate n 0) (d .kept .1 .1 .1 .1 .0 ∙ start p .pre .1 .0) in
     (d .ensures .0, (zeros ∙ sym (if-refused _ _ (λ z. c .before .before .before .before .if1 .taken (d .ensures .0 ∙ z))), cleared p))

@@ -13,12 +13,25 @@ use Rattle.columns.proofs.FullNumbers.{lent-data, data-refused, data-gi
 use Rattle.columns.proofs.full.recover_full.Statement.{statement}
 use Rattle.columns.proofs.full.recover_full.Tie as tie
 
+-- PLACES: `x-at-y c` is the place x that stands before y
+abbrev start-at-two-to : tie.After-two-to → tie.Start
+start-at-two-to c = c .before .before .before .before .before
+
+abbrev decode-all-at-else1 : tie.Else1 → tie.After-decode-all
+decode-all-at-else1 c = c .before .before .before .before .before
+
+abbrev decode-all-at-clear : tie.After-clear → tie.After-decode-all
+decode-all-at-clear c = decode-all-at-else1 (c .before .before .before .before .before .before)
+
+abbrev else1-at-clear : tie.After-clear → tie.Else1
+else1-at-clear c = c .before .before .before .before .before .before
+
 two-to-requires : tie.Need-two-to-requires
 two-to-requires c κs = omega (arith, c .before .before .before .before .pre .0 .fits .numbers .within, c .before .before .before .before .pre .0 .fits .low)
 
 decode-all-requires : tie.Need-decode-all-requires
 decode-all-requires c κs =
-    let s = c .before .before .before .before .before .before .before in
+    let s = start-at-two-to (c .before .before) in
     let a = s .args in
     let r = rowsIn (a .st) (a .marks .now) (a .bytes .now) in
     let long = lent-data (a .st) (a .marks .now) r (s .pre .1 .0 .1) (omega (arith, s .pre .0 .fits .thick)) (s .pre .1 .1 .0) in
@@ -32,7 +45,7 @@ same-length-2 c = search needs
 
 -- the stripe's words once its columns are decoded, and the length that the output keeps
 abbrev start : tie.After-decode-all → tie.Start
-start c = c .before .before .before .before .before .before .before .before
+start c = start-at-two-to (c .before .before .before)
 
 abbrev words : tie.After-decode-all → List ℕ
 words c = rowsIn (start c .args .st) (start c .args .marks .now) (start c .args .bytes .now)
@@ -55,10 +68,10 @@ returns c =
     (f .0, (f .1, d .1 .1))
 
 sub-records-fit : tie.Need-sub-records-fit
-sub-records-fit c = omega (arith, thick (c .before .before .before .before .before .before .before))
+sub-records-fit c = omega (arith, thick (decode-all-at-else1 (c .before .before)))
 
 records-fit-requires : tie.Need-records-fit-requires
-records-fit-requires c κs = let p = c .before .before .before .before .before .before .before in omega (arith, ap₂ _*_ (sizes p .1) (sizes p .0), long p)
+records-fit-requires c κs = let p = decode-all-at-else1 (c .before .before) in omega (arith, ap₂ _*_ (sizes p .1) (sizes p .0), long p)
 
 same-length-3 : tie.Need-same-length-3
 same-length-3 c = search needs
@@ -67,15 +80,15 @@ same-length-4 : tie.Need-same-length-4
 same-length-4 c = search needs
 
 -- test 10
-tested : (c : tie.After-records-fit) (b : Bool) → c .records-fit .result ≡ b → let p = c .before .before .before .before .before .before .before .before in
+tested : (c : tie.After-records-fit) (b : Bool) → c .records-fit .result ≡ b → let p = decode-all-at-else1 (c .before .before .before) in
     recordsFit (pred (start p .args .st .width)) (p .decode-all .last .1 .1 .1 .1 .0) (blockCount (start p .args .st)) ≡ b
 tested c b e =
-    let p = c .before .before .before .before .before .before .before .before in
+    let p = decode-all-at-else1 (c .before .before .before) in
     sym (ap₂ (λ (s n : ℕ). recordsFit s (p .decode-all .last .1 .1 .1 .1 .0) n) (sizes p .0) (sizes p .1)) ∙ sym (c .records-fit .ensures) ∙ e
 
 returns-2 : tie.Need-returns-2
 returns-2 c =
-    let p = c .before .before .before .before .before .before .before .before .before in
+    let p = decode-all-at-else1 (c .before .before .before .before) in
     let a = start p .args in
     let d = p .decode-all .ensures in
     let f = data-given (a .st) (a .marks .now) (words p) (start p .pre .1 .0 .1) (thick p) (d .0) (d .1 .0) (c .before .before .before .before .if1 .left) (tested (c .before) _ (c .if2 .taken)) in
@@ -92,10 +105,10 @@ same-length-6 c = search needs
 
 returns-3 : tie.Need-returns-3
 returns-3 c =
-    let p = c .before .before .before .before .before .before .before .before .before .before .before .before .before in
+    let p = decode-all-at-clear (c .before .before) in
     let a = start p .args in
     let d = p .decode-all .ensures in
-    let f = data-wrong (a .st) (a .marks .now) (words p) (start p .pre .1 .0 .1) (thick p) (d .0) (d .1 .0) (c .before .before .before .before .before .before .before .before .if1 .left) (tested (c .before .before .before .before .before) _ (c .before .before .before .before .if2 .left)) (c .before .before .clear .ensures) (long p) in
+    let f = data-wrong (a .st) (a .marks .now) (words p) (start p .pre .1 .0 .1) (thick p) (d .0) (d .1 .0) (else1-at-clear (c .before .before) .if1 .left) (tested (c .before .before .before .before .before) _ (c .before .before .before .before .if2 .left)) (c .before .before .clear .ensures) (long p) in
     (f .0, (f .1, d .1 .1))
 
 pub recover-full-spec : {M : Type 1} → statement M

@@ -14,6 +14,10 @@ use Rattle.columns.proofs.ScratchTails.{Tail, tail-long, stored-weights
 use Rattle.columns.proofs.full.store_weights.Statement.{statement}
 use Rattle.columns.proofs.full.store_weights.Tie as tie
 
+-- PLACES: `x-at-y c` is the place x that stands before y
+abbrev start-at-two-to : tie.After-two-to → tie.Start
+start-at-two-to c = c .before .before .before .before
+
 add-two-to : tie.Need-add-two-to
 add-two-to c = search needs
 
@@ -54,7 +58,7 @@ same-length c = search needs
 
 returns : tie.Need-returns
 returns c =
-    let st = c .before .before .before .before .before .before .before .before .args .st in
+    let st = start-at-two-to (c .before .before .before .before) .args .st in
     stored-weights (tail (c .before .before .before .before)) (c .before .before .weights .last .0) (table (positionCount st) (pointAt (modulusOf st) (st .root) (st .k) (st .level))) _ _
     (length-table (positionCount st) (pointAt (modulusOf st) (st .root) (st .k) (st .level))) (c .before .before .weights .ensures)
 

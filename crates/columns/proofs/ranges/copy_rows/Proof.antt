@@ -11,6 +11,10 @@ Inv-loop out₀ words count rows stride width x₀ y₀ i₀ out x y i = Copying
 abbrev μ-loop : tie.MeasureT-loop
 μ-loop out₀ words count rows stride width x₀ y₀ i₀ out x y i = rows - i
 
+-- PLACES: `x-at-y c` is the place x that stands before y
+abbrev start-at-copy-row : tie.After-copy-row Inv-loop μ-loop → tie.Start Inv-loop μ-loop
+start-at-copy-row c = c .before .before .before .before .before .before
+
 loop-holds : tie.Need-loop-holds Inv-loop μ-loop
 loop-holds c = copying-start _ _ _ _ _ _ _ _
 
@@ -22,10 +26,10 @@ copy-row-requires c κs =
     (copying-fits (l .loop .inv) b (s .pre .0 .0) (s .pre .0 .1), copying-reads (l .loop .inv) b (s .pre .1 .0) (s .pre .1 .1))
 
 add-x : tie.Need-add-x Inv-loop μ-loop
-add-x c = omega (arith, next-source (c .before .before .before .before .before .loop .inv) (c .before .before .before .before .loop-test .taken) (omega (arith, c .before .before .before .before .before .before .before .before .pre .1 .0)) (c .before .before .before .before .before .before .before .before .pre .1 .1))
+add-x c = omega (arith, next-source (c .before .before .before .before .before .loop .inv) (c .before .before .before .before .loop-test .taken) (omega (arith, start-at-copy-row (c .before .before) .pre .1 .0)) (start-at-copy-row (c .before .before) .pre .1 .1))
 
 add-y : tie.Need-add-y Inv-loop μ-loop
-add-y c = omega (arith, next-target (c .before .before .before .before .before .loop .inv) (c .before .before .before .before .loop-test .taken) (omega (arith, c .before .before .before .before .before .before .before .before .pre .0 .0)) (c .before .before .before .before .before .before .before .before .pre .0 .1))
+add-y c = omega (arith, next-target (c .before .before .before .before .before .loop .inv) (c .before .before .before .before .loop-test .taken) (omega (arith, start-at-copy-row (c .before .before) .pre .0 .0)) (start-at-copy-row (c .before .before) .pre .0 .1))
 
 add-i : tie.Need-add-i Inv-loop μ-loop
 add-i c = omega arith

@@ -16,6 +16,22 @@ use Rattle.columns.proofs.RangeDecoding.{range-weights, range-blocks}
 use Rattle.columns.proofs.ranges.decode_range.Statement.{statement}
 use Rattle.columns.proofs.ranges.decode_range.Tie as tie
 
+-- PLACES: `x-at-y c` is the place x that stands before y
+abbrev start-at-part : tie.After-part → tie.Start
+start-at-part c = c .before .before .before .before .before .before
+
+abbrev start-at-scratch2 : tie.After-scratch2 → tie.Start
+start-at-scratch2 c = start-at-part (c .before .before .before .before .before)
+
+abbrev two-to-at-scratch2 : tie.After-scratch2 → tie.After-two-to
+two-to-at-scratch2 c = c .before .before .before .before .before .before
+
+abbrev decode-columns-at-scratch2 : tie.After-scratch2 → tie.After-decode-columns
+decode-columns-at-scratch2 c = c .before .before .before .before
+
+abbrev decode-columns-at-take-range : tie.After-take-range → tie.After-decode-columns
+decode-columns-at-take-range c = decode-columns-at-scratch2 (c .before .before .before)
+
 two-to-requires : tie.Need-two-to-requires
 two-to-requires c κs = let f = c .before .before .before .before .pre .0 .ready .fits in omega (arith, f .low, f .numbers .within)
 
@@ -65,17 +81,17 @@ same-length : tie.Need-same-length
 same-length c = search needs
 
 -- the weights stay
-weights-stay : (c : tie.After-decode-columns) → let a = c .before .before .before .before .before .before .before .args in let n = length (a .scratch .now) - 2 * c .before .before .two-to .result * (a .range .cols + 1) in
+weights-stay : (c : tie.After-decode-columns) → let a = start-at-part (c .before) .args in let n = length (a .scratch .now) - 2 * c .before .before .two-to .result * (a .range .cols + 1) in
     drop (scratchWords (a .st) - positionCount (a .st)) (putMid n (length (a .scratch .now) - n) (a .scratch .now) (c .decode-columns .last .1 .1 .1 .1 .1 .0)) ≡ drop (scratchWords (a .st) - positionCount (a .st)) (a .scratch .now)
 weights-stay c =
-    let s = c .before .before .before .before .before .before .before in
+    let s = start-at-part (c .before) in
     let a = s .args in
     let T = tail (c .before .before) in
     put-weights T _ (range-weights (a .st) (a .marks .now) (rowsIn (a .st) (a .marks .now) (a .bytes .now)) (a .range .from) (a .range .cols) (c .decode-columns .ensures .1) ∙ sym (tail-weights T ∙ s .pre .1 .1 .1 .1))
 
 returns : tie.Need-returns
 returns c =
-    let s = c .before .before .before .before .before .before .before .before .before .before in
+    let s = start-at-part (c .before .before .before .before) in
     let e = sym (c .before .before .before .decode-columns .ensures .0) ∙ not-true _ (c .if1 .taken) in
     (sym (range-fails (s .args .range .from) (s .args .range .skip) _ e), (λ t. absurd (false≢true (sym e ∙ t)), weights-stay (c .before .before .before)))
 
@@ -92,19 +108,19 @@ part-take-range-end : tie.Need-part-take-range-end
 part-take-range-end c = search needs
 
 -- the words of the range, lent again
-words-are : (c : tie.After-decode-columns) → let l = c .before .before .before .before .before .before .before .args .scratch .now in
-    let start = length l - 2 * c .before .before .two-to .result * (c .before .before .before .before .before .before .before .args .range .cols + 1) in
+words-are : (c : tie.After-decode-columns) → let l = start-at-part (c .before) .args .scratch .now in
+    let start = length l - 2 * c .before .before .two-to .result * (start-at-part (c .before) .args .range .cols + 1) in
     let x = c .decode-columns .last .1 .1 .1 .1 .1 .0 in
     let l′ = putMid start (length l - start) l x in take (length l′ - start) (drop start l′) ≡ x
 words-are c = lent-again (tail (c .before .before)) _ (c .decode-columns .kept .1 .1 .1 .1 .1 .0)
 
 take-range-requires : tie.Need-take-range-requires
 take-range-requires c κs =
-    let s = c .before .before .before .before .before .before .before .before .before .before .before .before .before in
+    let s = start-at-scratch2 (c .before .before) in
     let a = s .args in
     let f = s .pre .1 .0 in (
       (omega (arith, s .pre .0 .ready .fits .low, s .pre .0 .ready .fits .numbers .within), f .some, f .within, s .pre .0 .few),
-      (rw (words-are (c .before .before .before .before .before .before), c .before .before .before .before .before .before .decode-columns .kept .1 .1 .1 .1 .1 .0, tail-long (tail (c .before .before .before .before .before .before .before .before))) (half-span (a .st .level) (a .range .cols)), s .pre .1 .1 .0),
+      (rw (words-are (c .before .before .before .before .before .before), c .before .before .before .before .before .before .decode-columns .kept .1 .1 .1 .1 .1 .0, tail-long (tail (two-to-at-scratch2 (c .before .before)))) (half-span (a .st .level) (a .range .cols)), s .pre .1 .1 .0),
     )
 
 same-length-2 : tie.Need-same-length-2
@@ -114,22 +130,22 @@ same-length-3 : tie.Need-same-length-3
 same-length-3 c = search needs
 
 -- the range taken
-taken : (c : tie.After-take-range) → let a = c .before .before .before .before .before .before .before .before .before .before .before .before .before .before .args in let r = rowsIn (a .st) (a .marks .now) (a .bytes .now) in
+taken : (c : tie.After-take-range) → let a = start-at-scratch2 (c .before .before .before) .args in let r = rowsIn (a .st) (a .marks .now) (a .bytes .now) in
     (c .take-range .result ≡ rangeNumber (a .range .from) (a .range .skip) (isConsistentRange (a .st) (a .marks .now) r (a .range .from) (a .range .cols)) (arePlaces (a .st) (a .marks .now) r))
     × (c .take-range .last .1 .1 .1 .0 ≡ rangeTaken (a .st) (a .marks .now) r (a .range .from) (a .range .cols) (a .range .skip) (a .out .now))
 taken c =
-    let s = c .before .before .before .before .before .before .before .before .before .before .before .before .before .before in
+    let s = start-at-scratch2 (c .before .before .before) in
     let a = s .args in
     let r = rowsIn (a .st) (a .marks .now) (a .bytes .now) in
-    let d = c .before .before .before .before .before .before .before .decode-columns .ensures in
+    let d = decode-columns-at-take-range c .decode-columns .ensures in
     let e = sym (d .0) ∙ not-false _ (c .before .before .before .before .if1 .left) in
     let f = s .pre .1 .0 in
     range-taken (a .st) (a .marks .now) r (a .range .from) (a .range .cols) (a .range .skip) (a .out .now) refl refl
-    (words-are (c .before .before .before .before .before .before .before)) f (s .pre .0 .few) e
+    (words-are (decode-columns-at-take-range c)) f (s .pre .0 .few) e
     (range-blocks (a .st) (a .marks .now) r (a .range .from) (a .range .cols) (d .1) (f .within) e) (c .take-range .ensures .0) (c .take-range .ensures .1)
 
 returns-2 : tie.Need-returns-2
-returns-2 c = (taken (c .before .before) .0, (λ _. taken (c .before .before) .1, weights-stay (c .before .before .before .before .before .before .before .before .before)))
+returns-2 c = (taken (c .before .before) .0, (λ _. taken (c .before .before) .1, weights-stay (decode-columns-at-take-range (c .before .before))))
 
 pub decode-range-spec : {M : Type 1} → statement M
 decode-range-spec =

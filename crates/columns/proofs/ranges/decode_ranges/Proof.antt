@@ -17,6 +17,28 @@ Inv-loop st bytes marks skip out₀ scratch₀ width number₀ from₀ out scrat
 abbrev μ-loop : tie.MeasureT-loop
 μ-loop st bytes marks skip out₀ scratch₀ width number₀ from₀ out scratch number from = width - from
 
+-- PLACES: `x-at-y c` is the place x that stands before y
+abbrev start-at-loop : tie.At-loop Inv-loop μ-loop → tie.Start Inv-loop μ-loop
+start-at-loop c = c .before .before .before .before .before
+
+abbrev start-at-range-columns : tie.After-range-columns Inv-loop μ-loop → tie.Start Inv-loop μ-loop
+start-at-range-columns c = start-at-loop (c .before .before)
+
+abbrev in-loop-at-decode-range : tie.After-decode-range Inv-loop μ-loop → tie.In-loop Inv-loop μ-loop
+in-loop-at-decode-range c = c .before .before .before .before
+
+abbrev start-at-out : tie.After-out Inv-loop μ-loop → tie.Start Inv-loop μ-loop
+start-at-out c = start-at-loop (c .before .before .before .before .before .before)
+
+abbrev loop-at-out : tie.After-out Inv-loop μ-loop → tie.At-loop Inv-loop μ-loop
+loop-at-out c = c .before .before .before .before .before .before
+
+abbrev in-loop-at-scratch : tie.After-scratch Inv-loop μ-loop → tie.In-loop Inv-loop μ-loop
+in-loop-at-scratch c = in-loop-at-decode-range (c .before .before .before)
+
+abbrev range-columns-at-scratch : tie.After-scratch Inv-loop μ-loop → tie.After-range-columns Inv-loop μ-loop
+range-columns-at-scratch c = c .before .before .before .before .before .before
+
 loop-holds : tie.Need-loop-holds Inv-loop μ-loop
 loop-holds c =
     let s = c .before .before .before .before in
@@ -29,36 +51,36 @@ range-columns-requires c κs = (c .before .before .before .before .before .befor
 
 decode-range-requires : tie.Need-decode-range-requires Inv-loop μ-loop
 decode-range-requires c κs =
-    let s = c .before .before .before .before .before .before .before .before .before in
+    let s = start-at-range-columns (c .before .before) in
     let i = c .before .before .before .before .loop .inv in
     (s .pre .0, (c .before .before .range-columns .ensures, (omega (arith, i .1, s .pre .1 .0), (i .3 .sized, i .3 .weighed))))
 
 same-length : tie.Need-same-length Inv-loop μ-loop
-same-length c = c .before .before .before .before .before .decode-range .kept .1 .1 .1 .1 .0 ∙ c .before .before .before .before .before .before .before .before .before .before .loop .inv .1
+same-length c = c .before .before .before .before .before .decode-range .kept .1 .1 .1 .1 .0 ∙ loop-at-out (c .before .before .before .before) .loop .inv .1
 
 same-length-2 : tie.Need-same-length-2 Inv-loop μ-loop
-same-length-2 c = c .before .before .before .before .before .decode-range .kept .1 .1 .1 .1 .1 .0 ∙ c .before .before .before .before .before .before .before .before .before .before .loop .inv .2
+same-length-2 c = c .before .before .before .before .before .decode-range .kept .1 .1 .1 .1 .1 .0 ∙ loop-at-out (c .before .before .before .before) .loop .inv .2
 
 returns : tie.Need-returns Inv-loop μ-loop
 returns c =
-    let a = c .before .before .before .before .before .before .before .before .before .before .before .before .before .before .before .args in
+    let a = start-at-out (c .before .before .before .before) .args in
     let r = rowsIn (a .st) (a .marks .now) (a .bytes .now) in
-    let f = ranging-fails (a .st) (a .marks .now) r (a .skip) (a .out .now) (c .before .before .before .before .before .before .before .before .before .before .loop .inv .3) (c .before .before .before .before .before .before .before .before .range-columns .ensures) (c .before .before .before .before .before .decode-range .ensures .0) (c .if1 .taken) in
+    let f = ranging-fails (a .st) (a .marks .now) r (a .skip) (a .out .now) (loop-at-out (c .before .before .before .before) .loop .inv .3) (range-columns-at-scratch (c .before .before) .range-columns .ensures) (c .before .before .before .before .before .decode-range .ensures .0) (c .if1 .taken) in
     (sym (columns-fail (a .skip) _ f), λ t. absurd (false≢true (sym f ∙ t)))
 
 add-from : tie.Need-add-from Inv-loop μ-loop
 add-from c =
-    let p = c .before .before .before .before .before .before .before .before .before in
-    omega (arith, p .range-columns .ensures .within, p .before .before .before .before .before .before .before .pre .0 .ready .fits .thin)
+    let p = range-columns-at-scratch (c .before .before .before) in
+    omega (arith, p .range-columns .ensures .within, start-at-range-columns p .pre .0 .ready .fits .thin)
 
 loop-less : tie.Need-loop-less Inv-loop μ-loop
-loop-less c = omega (arith, c .before .before .before .before .before .before .before .before .before .range-columns .ensures .some, c .before .before .before .before .before .before .before .before .before .before .loop-test .taken)
+loop-less c = omega (arith, range-columns-at-scratch (c .before .before .before) .range-columns .ensures .some, in-loop-at-scratch (c .before .before .before) .loop-test .taken)
 
 loop-again : tie.Need-loop-again Inv-loop μ-loop
 loop-again c =
-    let p = c .before .before .before .before .before .before .before .before .before in
+    let p = range-columns-at-scratch (c .before .before .before) in
     let i = p .before .before .loop .inv in
-    let s = p .before .before .before .before .before .before .before in
+    let s = start-at-range-columns p in
     let a = s .args in
     let r = rowsIn (a .st) (a .marks .now) (a .bytes .now) in
     let d = c .before .before .before .before .before .before .decode-range in

@@ -10,6 +10,19 @@ use Rattle.columns.proofs.RangeCopies.{range-first, range-later, places
 use Rattle.columns.proofs.ranges.take_range.Statement.{statement}
 use Rattle.columns.proofs.ranges.take_range.Tie as tie
 
+-- PLACES: `x-at-y c` is the place x that stands before y
+abbrev start-at-two-to : tie.After-two-to → tie.Start
+start-at-two-to c = c .before .before .before
+
+abbrev start-at-copy-rows2 : tie.After-copy-rows2 → tie.Start
+start-at-copy-rows2 c = start-at-two-to (c .before .before .before .before)
+
+abbrev start-at-copy-rows : tie.After-copy-rows → tie.Start
+start-at-copy-rows c = start-at-two-to (c .before .before .before .before)
+
+abbrev two-to-at-copy-rows2 : tie.After-copy-rows2 → tie.After-two-to
+two-to-at-copy-rows2 c = c .before .before .before .before
+
 two-to-requires : tie.Need-two-to-requires
 two-to-requires c κs = omega (arith, c .before .before .pre .0 .0)
 
@@ -29,7 +42,7 @@ same-length c = search needs
 
 returns : tie.Need-returns
 returns c =
-    let s = c .before .before .before .before .before .before .before .before .before in
+    let s = start-at-copy-rows (c .before .before) in
     let a = s .args in
     let g = a .range in (
       sym (range-later (g .from) (g .skip) _ (c .before .before .before .before .if1 .taken)),
@@ -49,31 +62,31 @@ same-length-2 : tie.Need-same-length-2
 same-length-2 c = search needs
 
 -- the first range is copied from column `skip` on
-first-copied : (c : tie.After-copy-rows2) → let a = c .before .before .before .before .before .before .before .args in let g = a .range in
+first-copied : (c : tie.After-copy-rows2) → let a = start-at-copy-rows2 c .args in let g = a .range in
     c .copy-rows2 .last .0 ≡ copiedRows (max (g .from) (g .skip) - g .skip) (a .st .width - g .skip) (max (g .from) (g .skip) - g .from) (g .cols) (g .from + g .cols - max (g .from) (g .skip)) (a .words .now) (blockCount (a .st)) (a .out .now)
 first-copied c =
-    let a = c .before .before .before .before .before .before .before .args in
+    let a = start-at-copy-rows2 c .args in
     let g = a .range in
     c .copy-rows2 .ensures ∙ ap (λ (n : ℕ). copiedRows 0 (a .st .width - g .skip) (g .skip) (g .cols) (g .cols - g .skip) (a .words .now) n (a .out .now)) (c .before .before .before .before .two-to .ensures)
     ∙ copied-first (g .from) (g .skip) (g .cols) (a .st .width) (a .words .now) (blockCount (a .st)) (a .out .now) (c .before .before .if1 .left)
 
 returns-2 : tie.Need-returns-2
 returns-2 c =
-    let g = c .before .before .before .before .before .before .before .before .before .before .args .range in
+    let g = start-at-copy-rows2 (c .before .before .before) .args .range in
     (sym (range-first (g .from) (g .skip) _ (c .before .before .before .before .before .if1 .left) ∙ places-kept (g .skip) _ (c .if2 .taken)), first-copied (c .before .before .before))
 
 are-places-requires : tie.Need-are-places-requires
-are-places-requires c κs = (c .before .before .before .before .before .before .before .before .before .before .pre .0 .1, rw (c .before .before .before .before .before .before .before .two-to .ensures) (c .before .before .before .before .before .before .before .before .before .before .pre .1 .0))
+are-places-requires c κs = (start-at-copy-rows2 (c .before .before .before) .pre .0 .1, rw (two-to-at-copy-rows2 (c .before .before .before) .two-to .ensures) (start-at-copy-rows2 (c .before .before .before) .pre .1 .0))
 
 same-length-3 : tie.Need-same-length-3
 same-length-3 c = search needs
 
 -- the number where column 0 is skipped
-numbered : (c : tie.After-are-places) (b : Bool) → c .are-places .result ≡ b → let a = c .before .before .before .before .before .before .before .before .before .before .before .args in
+numbered : (c : tie.After-are-places) (b : Bool) → c .are-places .result ≡ b → let a = start-at-copy-rows2 (c .before .before .before .before) .args in
     elim b [ true ↦ 0 | false ↦ 10 ] ≡ rangeNumber (a .range .from) (a .range .skip) true (placesTo (a .range .cols) (a .words .now) (blockCount (a .st)))
 numbered c b e =
-    let a = c .before .before .before .before .before .before .before .before .before .before .before .args in
-    let p : placesTo (a .range .cols) (a .words .now) (blockCount (a .st)) ≡ b = ap (placesTo (a .range .cols) (a .words .now)) (sym (c .before .before .before .before .before .before .before .before .two-to .ensures)) ∙ sym (c .are-places .ensures) ∙ e in
+    let a = start-at-copy-rows2 (c .before .before .before .before) .args in
+    let p : placesTo (a .range .cols) (a .words .now) (blockCount (a .st)) ≡ b = ap (placesTo (a .range .cols) (a .words .now)) (sym (two-to-at-copy-rows2 (c .before .before .before .before) .two-to .ensures)) ∙ sym (c .are-places .ensures) ∙ e in
     sym (range-first (a .range .from) (a .range .skip) _ (c .before .before .before .before .before .before .if1 .left) ∙ places-skipped (a .range .skip) _ (c .before .if2 .left) ∙ ap (λ (x : Bool). elim x [ true ↦ 0 | false ↦ 10 ]) p)
 
 returns-3 : tie.Need-returns-3

@@ -13,6 +13,13 @@ use Rattle.rows.proofs.RowParts.{columns, narrow-numbers, loaded-front,
 use Rattle.rows.proofs.decoding.decode_columns.Statement.{statement}
 use Rattle.rows.proofs.decoding.decode_columns.Tie as tie
 
+-- PLACES: `x-at-y c` is the place x that stands before y
+abbrev start-at-load : tie.After-load → tie.Start
+start-at-load c = c .before .before .before .before .before
+
+abbrev start-at-slice-known2 : tie.After-slice-known2 → tie.Start
+start-at-slice-known2 c = start-at-load (c .before .before)
+
 load-requires : tie.Need-load-requires
 load-requires c κs =
     let s = c .before .before .before .before in
@@ -25,7 +32,7 @@ loaded c = let s = c .before .before .before .before .before in let a = s .args 
 
 decode-requires : tie.Need-decode-requires
 decode-requires c κs =
-    let s = c .before .before .before .before .before .before .before .before in
+    let s = start-at-slice-known2 (c .before) in
     let a = s .args in
     let r = rowsIn (a .st) (a .marks .now) (a .bytes .now) in
     let L = loaded (c .before .before .before) in
@@ -36,7 +43,7 @@ same-length c = search needs
 
 returns : tie.Need-returns
 returns c =
-    let a = c .before .before .before .before .before .before .before .before .before .before .before .args in
+    let a = start-at-slice-known2 (c .before .before .before .before) .args in
     let e = loaded-front (a .st) (a .marks .now) (rowsIn (a .st) (a .marks .now) (a .bytes .now)) (a .from) (a .cols) (loaded (c .before .before .before .before .before .before)) in
     let d = c .before .before .decode .ensures in
     (d .0 ∙ ap (isConsistent (narrow (a .st) (a .cols)) (a .marks .now)) e, d .1 ∙ ap (λ (x : List ℕ). leftOf (narrow (a .st) (a .cols)) (a .marks .now) x ++ weightsIn (a .st) (a .marks .now)) e)

@@ -17,6 +17,10 @@ use Rattle.rows.proofs.RowParts.{columns, loaded-front, loaded-weights,
 use Rattle.rows.proofs.decoding.load_and_solve.Statement.{statement}
 use Rattle.rows.proofs.decoding.load_and_solve.Tie as tie
 
+-- PLACES: `x-at-y c` is the place x that stands before y
+abbrev start-at-weights : tie.After-weights → tie.Start
+start-at-weights c = c .before .before .before .before .before
+
 weights-requires : tie.Need-weights-requires
 weights-requires c κs =
     let s = c .before .before .before .before in
@@ -24,12 +28,12 @@ weights-requires c κs =
 
 load-requires : tie.Need-load-requires
 load-requires c κs =
-    let s = c .before .before .before .before .before .before .before .before in
+    let s = start-at-weights (c .before .before .before) in
     ((omega (arith, s .pre .0 .fits .low, s .pre .0 .fits .numbers .within), s .pre .1 .0, s .pre .0 .long), (omega arith, omega (arith, c .before .before .before .weights .kept .0, s .pre .1 .1)))
 
 -- the part once the rows are loaded
 abbrev start : tie.After-load → tie.Start
-start c = c .before .before .before .before .before .before .before .before .before
+start c = start-at-weights (c .before .before .before .before)
 
 abbrev words : tie.After-load → List ℕ
 words c = rowsIn (start c .args .st) (start c .args .marks .now) (start c .args .bytes .now)

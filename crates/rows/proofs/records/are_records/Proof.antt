@@ -15,6 +15,22 @@ Inv-loop blocks level k n width rows at₀ j₀ at j = Testing level k n width b
 abbrev μ-loop : tie.MeasureT-loop
 μ-loop blocks level k n width rows at₀ j₀ at j = rows - j
 
+-- PLACES: `x-at-y c` is the place x that stands before y
+abbrev start-at-two-to : tie.After-two-to Inv-loop μ-loop → tie.Start Inv-loop μ-loop
+start-at-two-to c = c .before .before
+
+abbrev start-at-number-fits : tie.After-number-fits Inv-loop μ-loop → tie.Start Inv-loop μ-loop
+start-at-number-fits c = start-at-two-to (c .before .before .before .before .before)
+
+abbrev two-to-at-number-fits : tie.After-number-fits Inv-loop μ-loop → tie.After-two-to Inv-loop μ-loop
+two-to-at-number-fits c = c .before .before .before .before .before
+
+abbrev two-to2-at-number-fits : tie.After-number-fits Inv-loop μ-loop → tie.After-two-to2 Inv-loop μ-loop
+two-to2-at-number-fits c = c .before .before .before .before
+
+abbrev loop-at-number-fits : tie.After-number-fits Inv-loop μ-loop → tie.At-loop Inv-loop μ-loop
+loop-at-number-fits c = c .before .before .before
+
 two-to-requires : tie.Need-two-to-requires Inv-loop μ-loop
 two-to-requires c κs = omega (arith, c .before .pre .0 .low)
 
@@ -43,22 +59,22 @@ number-fits-requires c κs = search needs
 returns : tie.Need-returns Inv-loop μ-loop
 returns c =
     sym (rw (← c .before .before .before .before .before .two-to2 .ensures)
-    (testing-number (c .before .before .before .before .loop .inv) (c .before .before .before .before .before .before .before .before .args .st) refl refl (sym (c .before .before .before .before .before .before .two-to .ensures)) refl (c .before .before .before .loop-test .taken) (sym (c .before .number-fits .ensures) ∙ not-true _ (c .if1 .taken))))
+    (testing-number (c .before .before .before .before .loop .inv) (start-at-number-fits (c .before) .args .st) refl refl (sym (c .before .before .before .before .before .before .two-to .ensures)) refl (c .before .before .before .loop-test .taken) (sym (c .before .number-fits .ensures) ∙ not-true _ (c .if1 .taken))))
 
 add-next : tie.Need-add-next Inv-loop μ-loop
 add-next c = omega (arith, reads (c .before .before .before))
 
 add-all-data : tie.Need-add-all-data Inv-loop μ-loop
-add-all-data c = omega (arith, reads (c .before .before .before), c .before .before .before .before .before .before .before .before .pre .0 .thick)
+add-all-data c = omega (arith, reads (c .before .before .before), start-at-number-fits (c .before) .pre .0 .thick)
 
 mul-all-data : tie.Need-mul-all-data Inv-loop μ-loop
-mul-all-data c = omega (arith, reads (c .before .before .before), c .before .before .before .before .before .before .before .before .pre .0 .thick)
+mul-all-data c = omega (arith, reads (c .before .before .before), start-at-number-fits (c .before) .pre .0 .thick)
 
 sub-all-data : tie.Need-sub-all-data Inv-loop μ-loop
-sub-all-data c = omega (arith, c .before .before .before .before .before .before .before .before .pre .0 .thick)
+sub-all-data c = omega (arith, start-at-number-fits (c .before) .pre .0 .thick)
 
 part-all-data-start : tie.Need-part-all-data-start Inv-loop μ-loop
-part-all-data-start c = omega (arith, c .before .before .before .before .before .before .before .before .pre .0 .thick)
+part-all-data-start c = omega (arith, start-at-number-fits (c .before) .pre .0 .thick)
 
 part-all-data-end : tie.Need-part-all-data-end Inv-loop μ-loop
 part-all-data-end c = omega (arith, reads (c .before .before .before))
@@ -68,8 +84,8 @@ all-data-requires c κs = search needs
 
 returns-2 : tie.Need-returns-2 Inv-loop μ-loop
 returns-2 c =
-    sym (rw (← c .before .before .before .before .before .before .before .before .two-to2 .ensures)
-    (testing-data (c .before .before .before .before .before .before .before .loop .inv) (c .before .before .before .before .before .before .before .before .before .before .before .args .st) refl refl (sym (c .before .before .before .before .before .before .before .before .before .two-to .ensures)) refl (c .before .before .before .before .before .before .loop-test .taken) (sym (c .before .all-data .ensures) ∙ not-true _ (c .if2 .taken))))
+    sym (rw (← two-to2-at-number-fits (c .before .before .before .before) .two-to2 .ensures)
+    (testing-data (loop-at-number-fits (c .before .before .before .before) .loop .inv) (start-at-number-fits (c .before .before .before .before) .args .st) refl refl (sym (two-to-at-number-fits (c .before .before .before .before) .two-to .ensures)) refl (c .before .before .before .before .before .before .loop-test .taken) (sym (c .before .all-data .ensures) ∙ not-true _ (c .if2 .taken))))
 
 add-j : tie.Need-add-j Inv-loop μ-loop
 add-j c = omega arith
@@ -79,7 +95,7 @@ loop-less c = omega arith
 
 loop-again : tie.Need-loop-again Inv-loop μ-loop
 loop-again c =
-    testing-turn (c .before .before .before .before .before .before .before .loop .inv) (c .before .before .before .before .before .before .loop-test .taken) (sym (c .before .before .before .before .number-fits .ensures) ∙ not-false _ (c .before .before .before .if1 .left)) (sym (c .before .all-data .ensures) ∙ not-false _ (c .if2 .left))
+    testing-turn (loop-at-number-fits (c .before .before .before .before) .loop .inv) (c .before .before .before .before .before .before .loop-test .taken) (sym (c .before .before .before .before .number-fits .ensures) ∙ not-false _ (c .before .before .before .if1 .left)) (sym (c .before .all-data .ensures) ∙ not-false _ (c .if2 .left))
 
 returns-3 : tie.Need-returns-3 Inv-loop μ-loop
 returns-3 c =
