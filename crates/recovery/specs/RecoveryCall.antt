@@ -1,4 +1,5 @@
 -- What the call `recover` answers and leaves, for every input. Assumes nothing: these are definitions.
+use mathlib.Core.Path.{_≡_}
 use mathlib.Core.Bool.{true, false, _&&_}
 use mathlib.Core.List.{List}
 use Prim.Native.Nat.{ℕ}
@@ -11,6 +12,13 @@ use Rattle.image.specs.Erasures.{erasuresIn, erasuresFit}
 use Rattle.stripe.specs.Decoding.{decodeStripe}
 use Rattle.recovery.specs.Recovery.{Recovered, stopped, recovered, recover}
 use Rattle.layout.specs.Refusals.{done, test, refusal, ifTaken}
+
+-- a header that fits, and an image, an output of its records and a scratch of its sizes
+pub record RecoveryFits (h : Header) (m o s : List ℕ) : Type 0 where
+  pub fits : headerFits h ≡ true
+  pub image : length m ≡ imageSize h
+  pub output : length o ≡ rawSize h
+  pub room : length s ≡ scratchSize h
 
 -- RECOVERY names the first stripe at fault; with 0 to 3 it names none
 abbrev pub recoverEarly : Header → (image erasures out scratch : List ℕ) → ℕ

@@ -6,7 +6,7 @@ use Rattle.recovery.proofs.recovering.recover_level.Tie as tie
 
 lay-level-requires : tie.Need-lay-level-requires
 lay-level-requires c κs =
-    let w = le-of-lt (c .before .before .before .before .before .before .before .before .before .before .before .before .before .pre .0 .1) in
+    let w = le-of-lt (c .before .before .before .before .before .before .before .before .before .before .before .before .before .pre .1) in
     (search needs, ((search needs, search needs), (search needs, search needs)))
 
 pub recover-level-spec : {M : Type 1} → statement M
