@@ -8,8 +8,8 @@ use native.Mathlib.Omega.{arith}
 use borrow.Author.Tests.{eqb-true}
 use lib.Dec.{eqb}
 use lib.ListN.{length, take, drop, replicate, length-replicate, drop-of-length-le, length-append, length-drop}
-use lib.Seq.{take-at, drop-drop, drop-append-add, length-take-le}
 use Rattle.layout.proofs.RecordWords.{replaced-is}
+use lib.Seq.{length-take-le, take-at, drop-drop, drop-append-add}
 use Rattle.code.specs.declared.Stripe.{Stripe}
 use Rattle.code.specs.Stripe.{blockCount, positionCount, blockWords, stripeWords}
 use Rattle.decoder.specs.Decoding.{isConsistent, blocksIn}
@@ -17,13 +17,14 @@ use Rattle.field.proofs.Booleans.{first-true, second-true}
 use Rattle.layout.specs.Records.{recordsFit}
 use Rattle.image.specs.steps.Loading.{columnsOf}
 use Rattle.rows.specs.Decoding.{Decoded, failed, decoded, blockNumber, blockData, areRecords, decodedNumber, decodedWords, solved}
+use Rattle.rows.specs.StripeFits.{StripeFits}
 use Rattle.rows.proofs.BlockRecords.{record-at, number-low}
 use Rattle.rows.proofs.ColumnRanges.{columns-none, length-columns}
 use Rattle.rows.proofs.RowParts.{length-blocks}
 use Rattle.rows.proofs.StripeNumbers.{solved-nine, solved-ten, solved-blocks}
 use Rattle.columns.specs.steps.Ranges.{placesTo}
 use Rattle.columns.specs.steps.Full.{dataOf, decodedData}
-use Rattle.stripe.proofs.LevelParts.{lent-front}
+use Rattle.stripe.proofs.LevelParts.{lent-front, scratch-in, level-needs}
 use Rattle.columns.proofs.FullNumbers.{data-row, records-full}
 use Rattle.recovery.specs.Recovery.{laid}
 use Rattle.recovery.specs.steps.Laying.{laidFrom}
@@ -39,35 +40,56 @@ solved-zero st ms r z = by (isConsistent st ms r) refl (areRecords st (blocksIn 
     by true c false a = absurd (omega (arith, sym z ∙ ap decodedNumber (solved-ten st ms r c a)))
     by true c true a = (solved-blocks st ms r c a, a)
 
--- ON A LEVEL the blocks stand in the first-true words of the part that it was decoded in
-pub level-front : (st : Stripe) (ms : List Bool) (r : List ℕ) {x : List ℕ} (rest : List ℕ) → x ≡ decodedWords (solved st ms r) (stripeWords st + positionCount st) ++ rest
-    → decodedNumber (solved st ms r) ≡ 0 → {n : ℕ} → n ≡ blockWords st → take n x ≡ blocksIn st ms r
-level-front st ms r {x} rest q z e =
-    let bs = blocksIn st ms r in
-    let size = stripeWords st + positionCount st in
-    ap (λ (n : ℕ). take n x) e ∙ lent-front st ms r rest q ∙ ap (λ (d : Decoded). take (blockWords st) (decodedWords d size)) (solved-zero st ms r z .0)
-    ∙ take-at bs (replicate (size - length bs) 0) (blockWords st) (length-blocks st ms r)
+-- ON A LEVEL with the number n, the part x that it was decoded in holds its b blocks in the first words
+module _ (st : Stripe) (ms : List Bool) (r : List ℕ) {n : ℕ} (d : n ≡ decodedNumber (solved st ms r)) where
+  module _ (f : StripeFits st) (z : n ≡ 0) (rest : List ℕ) {x : List ℕ} (q : x ≡ decodedWords (solved st ms r) (stripeWords st + positionCount st) ++ rest)
+      {b : ℕ} (e : b ≡ blockCount st) where
+    level-front : take (b * st .width) x ≡ blocksIn st ms r
+    level-front =
+        let bs = blocksIn st ms r in
+        let size = stripeWords st + positionCount st in
+        rw e
+        (lent-front st ms r rest q ∙ ap (λ (y : Decoded). take (blockWords st) (decodedWords y size)) (solved-zero st ms r (sym d ∙ z) .0)
+        ∙ take-at bs (replicate (size - length bs) 0) (blockWords st) (length-blocks st ms r))
 
--- and are laid: the loop is handed the blocks bs, s data words each, and how many they are
-module _ (st : Stripe) (ms : List Bool) (r : List ℕ) (z : decodedNumber (solved st ms r) ≡ 0) {bs : List ℕ} {s n : ℕ} (a : bs ≡ blocksIn st ms r) (b : suc s ≡ st .width) (c : n ≡ blockCount st) where
-  -- each block's record lies inside
-  pub level-inside : st .level < st .k → {size : ℕ} → size ≡ 2 ^ st .k * pred (st .width) → (j : ℕ) → j < n → suc (blockNumber (suc s) bs j) * s ≤ size
-  level-inside w e j i =
-      let t : j < blockCount st = omega (arith, c, i) in
-      let p : pred (st .width) ≡ s = omega (arith, b) in
-      rw (a, b, e, p) (mul-le-mul-right s (number-low st (blocksIn st ms r) j w (record-at st (blocksIn st ms r) (blockCount st) (solved-zero st ms r z .1) j t)))
+    -- each block's record lies inside
+    pub level-inside : st .level < st .k → {size : ℕ} → size ≡ 2 ^ st .k * pred (st .width) → (j : ℕ) → j < b
+        → suc (blockNumber (suc (st .width - 1)) (take (b * st .width) x) j) * (st .width - 1) ≤ size
+    level-inside w es j i =
+        let t : j < blockCount st = omega (arith, e, i) in
+        let s : suc (st .width - 1) ≡ st .width = omega (arith, f .thick) in
+        let p : pred (st .width) ≡ st .width - 1 = omega (arith, f .thick) in
+        let at = record-at st (blocksIn st ms r) (blockCount st) (solved-zero st ms r (sym d ∙ z) .1) j t in
+        rw (level-front, s, es, p) (mul-le-mul-right (st .width - 1) (number-low st (blocksIn st ms r) j w at))
 
-  pub level-laid : (o : List ℕ) {o′ : List ℕ} → o′ ≡ laid s bs n o → o′ ≡ laidFrom (pred (st .width)) (solved st ms r) (blockCount st) o
-  level-laid o q =
-      let p : s ≡ pred (st .width) = omega (arith, b) in
-      q ∙ rw (a, c, p) (sym (ap (λ (x : Decoded). laidFrom (pred (st .width)) x (blockCount st) o) (solved-zero st ms r z .0)))
+    pub level-laid : (o : List ℕ) {o′ : List ℕ} → o′ ≡ laid (st .width - 1) (take (b * st .width) x) b o
+        → o′ ≡ laidFrom (pred (st .width)) (solved st ms r) (blockCount st) o
+    level-laid o ql =
+        let p : st .width - 1 ≡ pred (st .width) = omega (arith, f .thick) in
+        ql ∙ rw (level-front, e, p) (sym (ap (λ (y : Decoded). laidFrom (pred (st .width)) y (blockCount st) o) (solved-zero st ms r (sym d ∙ z) .0)))
 
-pub level-kept : (st : Stripe) (ms : List Bool) (r o : List ℕ) → (decodedNumber (solved st ms r) ≡ 0 → ⊥) → o ≡ laidFrom (pred (st .width)) (solved st ms r) (blockCount st) o
-level-kept st ms r o d = by (solved st ms r) d
-  where
-    by : (x : Decoded) → (decodedNumber x ≡ 0 → ⊥) → o ≡ laidFrom (pred (st .width)) x (blockCount st) o
-    by (failed n) d = refl
-    by (decoded bs) d = absurd (d refl)
+  -- a level that fails leaves the records
+  pub level-kept : (o : List ℕ) → (n ≡ 0 → ⊥) → o ≡ laidFrom (pred (st .width)) (solved st ms r) (blockCount st) o
+  level-kept o z = by (solved st ms r) (λ y. z (d ∙ y))
+    where
+      by : (x : Decoded) → (decodedNumber x ≡ 0 → ⊥) → o ≡ laidFrom (pred (st .width)) x (blockCount st) o
+      by (failed n) y = refl
+      by (decoded bs) y = absurd (y refl)
+
+-- the words that are lent
+module _ (st : Stripe) (w : st .level < st .k) {b : ℕ} (e : b ≡ blockCount st) {n : ℕ}
+    (en : n ≡ 2 ^ st .k * st .width + 4 * 2 ^ st .k) (x : List ℕ) (k : length x ≡ n) where
+  pub lent-is : b * st .width ≡ length (take (b * st .width) x)
+  lent-is = sym (length-take-le (b * st .width) x (scratch-in st w e en k))
+
+  pub lent-long : StripeFits st → length (take (b * st .width) x) ≡ b * suc (st .width - 1)
+  lent-long f = sym lent-is ∙ ap (λ (m : ℕ). b * m) {x = st .width} {y = suc (st .width - 1)} (omega (arith, f .thick))
+
+pub is-zero : {n m : ℕ} → n ≡ 0 → n ≡ m → 0 ≡ m
+is-zero z e = sym z ∙ e
+
+-- what the needs of the function that lays a level follow from
+pub ruleset laying-needs = (level-inside, level-laid, level-kept, lent-is, lent-long, is-zero, level-needs)
 
 -- ON THE FULL STRIPE the blocks laid over any records are their data
 module _ (st : Stripe) (full : st .level ≡ st .k) (thick : 0 < st .width) (bs : List ℕ) where

@@ -3,11 +3,10 @@ use crate::Recovery;
 use code::Stripe;
 use layout::Header;
 ghost use mathlib.Core.Path.{_≡_};
-ghost use mathlib.Core.Bool.{true};
 ghost use Prim.Native.Nat.{ℕ, suc, pred, _+_, _*_, _^_, _≤_, _<_};
 ghost use lib.ListN.{length, replicate};
 ghost use Rattle.code.specs.Stripe.{blockCount, stripeWords};
-ghost use Rattle.layout.specs.Header.{headerFits, count, rawSize, scratchSize, imageSize};
+ghost use Rattle.layout.specs.Header.{count, rawSize};
 ghost use Rattle.image.specs.Erasures.{erasuresIn};
 ghost use Rattle.image.specs.steps.Loading.{rowsIn};
 ghost use Rattle.rows.specs.Decoding.{blockNumber, decodedNumber, solved};
@@ -16,6 +15,7 @@ ghost use Rattle.stripe.specs.Decoding.{decodeStripe};
 ghost use Rattle.recovery.specs.Recovery.{laid, levelsOver, recover};
 ghost use Rattle.recovery.specs.steps.Laying.{laidFrom};
 ghost use Rattle.recovery.specs.RecoveryCall.{answerOf, recoveredWords, recoverAnswer, recoverLeaves, recoverScratch};
+ghost use Rattle.recovery.specs.steps.Laying.{RecoveryFits};
 
 // Lays blocks of s data words over the records, one after the other.
 fn lay(blocks: &[u32], s: usize, rows: usize, out: &mut [u32])
@@ -60,8 +60,7 @@ fn recover_full(
     out: &mut [u32],
     scratch: &mut [u32],
 ) -> u32
-    requires { ⌜ (headerFits header ≡ true) × (length (now image) ≡ imageSize header) ⌝ }
-    requires { ⌜ (length (now out) ≡ rawSize header) × (length (now scratch) ≡ scratchSize header) ⌝ }
+    requires { ⌜ RecoveryFits header (now image) (now out) (now scratch) ⌝ }
     ensures { λ r. ⌜ r ≡ decodedNumber (decodeStripe header (now (image .entry)) (erasuresIn (now (erasures .entry))) (header .k)) ⌝ }
     ensures { λ r. ⌜ (r ≡ 0 →
         now (out .exit) ≡
@@ -88,8 +87,8 @@ fn recover_level(
     out: &mut [u32],
     scratch: &mut [u32],
 ) -> u32
-    requires { ⌜ (headerFits header ≡ true) × (level < header .k) × (length (now image) ≡ imageSize header) ⌝ }
-    requires { ⌜ (length (now out) ≡ rawSize header) × (length (now scratch) ≡ scratchSize header) ⌝ }
+    requires { ⌜ RecoveryFits header (now image) (now out) (now scratch) ⌝ }
+    requires { ⌜ level < header .k ⌝ }
     ensures { λ r. ⌜ r ≡ decodedNumber (decodeStripe header (now (image .entry)) (erasuresIn (now (erasures .entry))) level) ⌝ }
     ensures { λ _. ⌜ now (out .exit) ≡
         laidFrom (header .s) (decodeStripe header (now (image .entry)) (erasuresIn (now (erasures .entry))) level) (2 ^ level) (now (out .entry)) ⌝ }
@@ -112,8 +111,7 @@ fn recover_levels(
     out: &mut [u32],
     scratch: &mut [u32],
 ) -> Recovery
-    requires { ⌜ headerFits header ≡ true ⌝ }
-    requires { ⌜ (length (now image) ≡ imageSize header) × (length (now out) ≡ rawSize header) × (length (now scratch) ≡ scratchSize header) ⌝ }
+    requires { ⌜ RecoveryFits header (now image) (now out) (now scratch) ⌝ }
     ensures { λ r. ⌜ r ≡ answerOf (levelsOver (header .k) header (decodeStripe header (now (image .entry)) (erasuresIn (now (erasures .entry)))) (now (out .entry))) ⌝ }
     ensures { λ r. ⌜ (r .number ≡ 0 →
         now (out .exit) ≡
@@ -148,8 +146,7 @@ fn recover_all(
     out: &mut [u32],
     scratch: &mut [u32],
 ) -> Recovery
-    requires { ⌜ headerFits header ≡ true ⌝ }
-    requires { ⌜ (length (now image) ≡ imageSize header) × (length (now out) ≡ rawSize header) × (length (now scratch) ≡ scratchSize header) ⌝ }
+    requires { ⌜ RecoveryFits header (now image) (now out) (now scratch) ⌝ }
     ensures { λ r. ⌜ r ≡ answerOf (recover header (decodeStripe header (now (image .entry)) (erasuresIn (now (erasures .entry))))) ⌝ }
     ensures { λ r. ⌜ (r .number ≡ 0 →
         now (out .exit) ≡ recoveredWords (recover header (decodeStripe header (now (image .entry)) (erasuresIn (now (erasures .entry))))) (rawSize header)) ⌝ }

@@ -1,4 +1,4 @@
--- Decoding of a stripe's words and marks, both-true ways round: the promises of specs/Promises. Assumes nothing.
+-- Decoding of a stripe's words and marks, both ways round: the promises of specs/Promises. Assumes nothing.
 use mathlib.Core.Path.{_≡_, refl, sym, ap, _∙_}
 use mathlib.Core.Bool.{Bool, true, false, _&&_, false≢true}
 use mathlib.Core.List.{List, [], _∷_}

@@ -5,6 +5,9 @@ use mathlib.Core.List.{List, _++_, append-assoc}
 use Prim.Native.Nat.{ℕ, suc, _+_, _*_, _-_, _^_, _≤_, _<_}
 use native.Mathlib.Nat.{mul-le-mul-right, mul-le-mul}
 use native.Mathlib.Omega.{arith}
+use borrow.Author.Needs.{needs}
+use mir.Syntax.{w64}
+use mir.Val.{Fits}
 use lib.ListN.{length, take, drop, replicate, length-replicate, replicate-append-replicate, getD, length-append, take-append-drop}
 use lib.Seq.{take-at, drop-at, length-take-le, getD-take}
 use lib.Pow.{pow-mono}
@@ -20,35 +23,33 @@ use Rattle.rows.specs.StripeFits.{StripeFits}
 use Rattle.rows.proofs.RowParts.{length-blocks, twice}
 use Rattle.rows.proofs.StripeNumbers.{solved-nine, solved-ten, solved-blocks}
 
--- THE ROOM: the rows of a level and a weight for each position fit into the scratch
-level-room : (st : Stripe) → st .level < st .k → stripeWords st + positionCount st ≤ 2 ^ st .k * st .width + 4 * 2 ^ st .k
-level-room st b =
-    let e : 2 ^ suc (st .level) ≤ 2 ^ st .k = pow-mono {i = suc (st .level)} {j = st .k} b in
-    omega (arith, mul-le-mul-right (st .width) e)
-
-scratch-low : (st : Stripe) → StripeFits st → 2 ^ st .k * st .width + 4 * 2 ^ st .k ≤ 136192
-scratch-low st f =
-    let b : 2 ^ st .k ≤ 1024 = pow-mono {i = st .k} {j = 10} (f .low) in
-    omega (arith, mul-le-mul {n₂ = 1024} {m₂ = 129} b (f .thin))
-
+-- THE ROOM of a level: its rows and a weight for each position fit into the scratch, and its blocks into an output
 pub blocks-room : (st : Stripe) → blockWords st ≤ stripeWords st + positionCount st
 blocks-room st = omega (arith, twice st)
 
 pub blocks-in : (st : Stripe) → st .level < st .k → blockWords st ≤ 2 ^ st .k * st .width
 blocks-in st b = mul-le-mul-right (st .width) (pow-mono {i = st .level} {j = st .k} (omega arith))
 
--- A LEVEL OF b BLOCKS in a scratch of n words, as the functions that decode it there ask
-pub record LevelIn (st : Stripe) (b n : ℕ) : Type 0 where
-  pub size : b * st .width ≡ blockWords st
-  pub room : stripeWords st + positionCount st ≤ n
-  pub front : b * st .width ≤ n
-  pub low : n ≤ 136192
+module _ (st : Stripe) (w : st .level < st .k) where
+  pub level-room : {n : ℕ} → n ≡ 2 ^ st .k * st .width + 4 * 2 ^ st .k → stripeWords st + positionCount st ≤ n
+  level-room e =
+      let d : 2 ^ suc (st .level) ≤ 2 ^ st .k = pow-mono {i = suc (st .level)} {j = st .k} w in
+      omega (arith, mul-le-mul-right (st .width) d)
 
-pub level-in : (st : Stripe) → StripeFits st → st .level < st .k → {b n : ℕ} → b ≡ blockCount st → n ≡ 2 ^ st .k * st .width + 4 * 2 ^ st .k → LevelIn st b n
-level-in st f w e q =
-    let size = ap (λ (m : ℕ). m * st .width) e in
-    let room = level-room st w in
-    record { size = size; room = omega (arith, room, q); front = omega (arith, size, blocks-room st, room, q); low = omega (arith, scratch-low st f, q) }
+  module _ {b : ℕ} (e : b ≡ blockCount st) where
+    size : b * st .width ≡ blockWords st
+    size = ap (λ (m : ℕ). m * st .width) e
+
+    pub size-fits : StripeFits st → Fits w64 (b * st .width)
+    size-fits f =
+        let c : 2 ^ st .k ≤ 1024 = pow-mono {i = st .k} {j = 10} (f .low) in
+        record { fits = omega (arith, size, blocks-in st w, mul-le-mul {n₂ = 1024} {m₂ = 129} c (f .thin)) }
+
+    pub scratch-in : {n n′ : ℕ} → n ≡ 2 ^ st .k * st .width + 4 * 2 ^ st .k → n′ ≡ n → b * st .width ≤ n′
+    scratch-in en k = omega (arith, size, blocks-room st, level-room en)
+
+    pub out-in : {n n′ : ℕ} → n ≡ 2 ^ st .k * st .width → n′ ≡ n → b * st .width ≤ n′
+    out-in en k = omega (arith, size, blocks-in st w)
 
 -- what a stripe that is decoded has as its blocks
 data Comes (st : Stripe) (d : Decoded) : Type 0 where
@@ -106,3 +107,23 @@ lent-front st ms r {x} rest q =
 
     take-before : (n : ℕ) (a b : List ℕ) → n ≤ length a → take n (a ++ b) ≡ take n a
     take-before n a b h = ap (λ (y : List ℕ). take n (y ++ b)) (sym (take-append-drop n a)) ∙ ap (take n) (append-assoc (take n a) (drop n a) b) ∙ take-at (take n a) (drop n a ++ b) n (length-take-le n a h)
+
+-- A LEVEL that is decoded in the scratch l and copied from there to an output o of zeros
+pub copied-level : (st : Stripe) (ms : List Bool) (r rest : List ℕ) → st .level < st .k → {b : ℕ} → b ≡ blockCount st → {l : List ℕ}
+    → l ≡ decodedWords (solved st ms r) (stripeWords st + positionCount st) ++ rest → {n : ℕ} → n ≡ 2 ^ st .k * st .width + 4 * 2 ^ st .k → length l ≡ n
+    → {m : ℕ} {o x : List ℕ} → m ≡ 2 ^ st .k * st .width → o ≡ replicate m 0 → x ≡ stored 0 (wordFrom l 0) (b * st .width) o
+    → x ≡ decodedWords (solved st ms r) (2 ^ st .k * st .width)
+copied-level st ms r rest w {b} e {l} el en k {m} {o} {x} em eo ex =
+    let n = 2 ^ st .k * st .width in
+    ex ∙ copied-front (b * st .width) l o n (scratch-in st w e en k) (out-in st w e em (sym em)) (eo ∙ ap (λ (i : ℕ). replicate i 0) em)
+    ∙ ap (λ (i : ℕ). take i l ++ replicate (n - i) 0) (size st w e) ∙ ap (λ (y : List ℕ). y ++ replicate (n - blockWords st) 0) (lent-front st ms r rest el)
+    ∙ front st ms r (stripeWords st + positionCount st) n (blocks-room st) (blocks-in st w)
+
+pub cleared-level : {x : List ℕ} {n n′ n″ : ℕ} → n′ ≡ n″ → n ≡ n′ → x ≡ replicate n 0 → x ≡ replicate n″ 0
+cleared-level e e′ ex = ex ∙ rw (e′, e)
+
+pub from-zero : {n m : ℕ} → n ≤ m → 0 + n ≤ m
+from-zero h = omega arith
+
+-- what the needs of the functions that decode a level in the scratch follow from
+pub ruleset level-needs = (level-room, size-fits, scratch-in, out-in, copied-level, cleared-level, from-zero, needs)

@@ -1,9 +1,10 @@
 -- A stripe of an image handed on as its numbers, its marks and its bytes: what the steps that work with these say of `decodeStripe`. Assumes nothing.
-use mathlib.Core.Path.{_≡_, sym, ap, _∙_}
+use mathlib.Core.Path.{_≡_, refl, sym, ap, ap₂, _∙_}
 use mathlib.Core.Bool.{Bool, true}
 use mathlib.Core.List.{List}
 use Prim.Native.Nat.{ℕ, suc, _+_, _*_, _^_, _≤_, _<_}
 use native.Mathlib.Omega.{arith}
+use borrow.Author.Needs.{needs}
 use lib.ListN.{length, replicate}
 use lib.Pow.{pow-mono}
 use Rattle.code.specs.declared.Stripe.{Stripe}
@@ -25,15 +26,6 @@ use Rattle.rows.proofs.StripeNumbers.{ready, decoded-unready, is-solved, stripe
 use Rattle.columns.specs.steps.Ranges.{scratchWords}
 use Rattle.stripe.specs.Decoding.{decodeStripe}
 
--- A STRIPE THAT IS HANDED ON: st, marks and bs are the numbers, the marks and the bytes of stripe l of the image m under the erasures gs
-pub record Handed (h : Header) (m : List ℕ) (gs : List Erasure) (l : ℕ) (st : Stripe) (marks : List Bool) (bs : List ℕ) : Type 0 where
-  pub fits : headerFits h ≡ true
-  pub within : l ≤ h .k
-  pub image : length m ≡ imageSize h
-  pub numbers : st ≡ stripeOf h l
-  pub marked : marks ≡ marksOf h gs l
-  pub bytes : bs ≡ stripeIn h m l
-
 -- the number of its tests 7 and 8
 abbrev pub readyOf : Header → (image : List ℕ) → List Erasure → (stripe : ℕ) → ℕ
 readyOf h m gs l = readyNumber (stripeOf h l) (marksOf h gs l) (rowsIn (stripeOf h l) (marksOf h gs l) (stripeIn h m l))
@@ -49,50 +41,87 @@ module _ (h : Header) (m : List ℕ) (gs : List Erasure) (l : ℕ) {n : ℕ} (q 
   pub unready-number : n ≡ decodedNumber (decodeStripe h m gs l)
   unready-number = sym (ap decodedNumber unready-is)
 
-  pub unready-words : (size : ℕ) → replicate size 0 ≡ decodedWords (decodeStripe h m gs l) size
-  unready-words size = sym (ap (λ (x : Decoded). decodedWords x size) unready-is)
+  pub unready-words : {size size′ : ℕ} {x : List ℕ} → size ≡ size′ → x ≡ replicate size 0 → x ≡ decodedWords (decodeStripe h m gs l) size′
+  unready-words {size} {size′} es ex = ex ∙ rw es (sym (ap (λ (y : Decoded). decodedWords y size′) unready-is))
 
-module _ {h : Header} {m : List ℕ} {gs : List Erasure} {l : ℕ} {st : Stripe} {marks : List Bool} {bs : List ℕ} (H : Handed h m gs l st marks bs) where
-  marks-enough : positionCount (stripeOf h l) ≤ length (marksOf h gs l)
-  marks-enough = rw (length-flags 0 2048 (markAt h gs l)) (pow-mono {i = suc l} {j = 11} (omega (arith, H .within, fits h (H .fits) .k-high)))
-
-  pub numbers-fit : StripeFits st
-  numbers-fit = rw (H .numbers) (stripe-fits h l (H .fits) (H .within))
-
-  pub marks-fit : positionCount st ≤ length marks
-  marks-fit = rw (H .numbers, H .marked) marks-enough
-
-  pub bytes-fit : length bs ≡ 4 * stripeWords st
-  bytes-fit = rw (H .numbers, H .bytes) (stripe-long h m l (rw (H .image) (inside h l (fits h (H .fits)) (H .within))))
-
-  pub same-number : readyNumber st marks (rowsIn st marks bs) ≡ readyOf h m gs l
-  same-number = rw (H .numbers, H .marked, H .bytes)
-
-  module _ (z : readyOf h m gs l ≡ 0) where
-    pub is-ready : Ready st marks (rowsIn st marks bs)
-    is-ready =
-        rw (H .numbers, H .marked, H .bytes)
-        (ready (stripeOf h l) (marksOf h gs l) (rowsIn (stripeOf h l) (marksOf h gs l) (stripeIn h m l)) (stripe-fits h l (H .fits) (H .within)) marks-enough z)
-
-    pub same-solved : solved st marks (rowsIn st marks bs) ≡ decodeStripe h m gs l
-    same-solved =
-        rw (H .numbers, H .marked, H .bytes) (sym (is-solved (stripeOf h l) (marksOf h gs l) (rowsIn (stripeOf h l) (marksOf h gs l) (stripeIn h m l)) z))
-
-  -- sizes in the stripe's words and in the header's
-  pub full-out : l ≡ h .k → blockWords st ≡ outSize h
-  full-out f = rw (H .numbers, f)
-
-  pub full-scratch : l ≡ h .k → scratchWords st ≡ scratchSize h
-  full-scratch f = rw (H .numbers, f)
+-- THE NUMBERS st of stripe l: sizes in the stripe's words and in the header's
+module _ (h : Header) (l : ℕ) {st : Stripe} (e : st ≡ stripeOf h l) where
+  pub numbers-fit : headerFits h ≡ true → l ≤ h .k → StripeFits st
+  numbers-fit f w = rw e (stripe-fits h l f w)
 
   pub is-full : l ≡ h .k → st .level ≡ st .k
-  is-full f = rw (H .numbers) f
-
-  pub level-out : 2 ^ st .k * st .width ≡ outSize h
-  level-out = rw (H .numbers)
-
-  pub level-scratch : 2 ^ st .k * st .width + 4 * 2 ^ st .k ≡ scratchSize h
-  level-scratch = rw (H .numbers)
+  is-full f = rw e f
 
   pub is-level : l < h .k → st .level < st .k
-  is-level f = rw (H .numbers) f
+  is-level f = rw e f
+
+  module _ {n : ℕ} where
+    pub full-out : l ≡ h .k → n ≡ outSize h → n ≡ blockWords st
+    full-out f o = o ∙ rw (e, f)
+
+    pub full-scratch : l ≡ h .k → n ≡ scratchSize h → n ≡ scratchWords st
+    full-scratch f o = o ∙ rw (e, f)
+
+    pub level-out : n ≡ outSize h → n ≡ 2 ^ st .k * st .width
+    level-out o = o ∙ rw e
+
+    pub level-scratch : n ≡ scratchSize h → n ≡ 2 ^ st .k * st .width + 4 * 2 ^ st .k
+    level-scratch o = o ∙ rw e
+
+  -- a scratch of zeros
+  module _ {x : List ℕ} where
+    pub full-zeros : l ≡ h .k → x ≡ replicate (scratchWords st) 0 → x ≡ replicate (scratchSize h) 0
+    full-zeros f o = o ∙ rw (e, f)
+
+    pub level-zeros : x ≡ replicate (2 ^ st .k * st .width + 4 * 2 ^ st .k) 0 → x ≡ replicate (scratchSize h) 0
+    level-zeros o = o ∙ rw e
+
+  -- its marks and its bytes
+  marks-enough : (gs : List Erasure) → headerFits h ≡ true → l ≤ h .k → positionCount (stripeOf h l) ≤ length (marksOf h gs l)
+  marks-enough gs f w = rw (length-flags 0 2048 (markAt h gs l)) (pow-mono {i = suc l} {j = 11} (omega (arith, fits h f .k-high)))
+
+  pub marks-fit : (gs : List Erasure) {marks : List Bool} → headerFits h ≡ true → l ≤ h .k → marks ≡ marksOf h gs l → positionCount st ≤ length marks
+  marks-fit gs f w em = rw (e, em) (marks-enough gs f w)
+
+  pub bytes-fit : (m : List ℕ) {bs : List ℕ} → headerFits h ≡ true → l ≤ h .k → length m ≡ imageSize h → bs ≡ stripeIn h m l → length bs ≡ 4 * stripeWords st
+  bytes-fit m f w i eb = rw (e, eb) (stripe-long h m l (rw i (inside h l (fits h f) w)))
+
+-- A STRIPE THAT IS HANDED ON: st, marks and bs are the numbers, the marks and the bytes of stripe l of the image m under the erasures gs
+module _ (h : Header) (m : List ℕ) (gs : List Erasure) (l : ℕ) {st : Stripe} {marks : List Bool} {bs : List ℕ}
+    (e : st ≡ stripeOf h l) (em : marks ≡ marksOf h gs l) (eb : bs ≡ stripeIn h m l) where
+  pub same-number : {n : ℕ} → n ≡ readyNumber st marks (rowsIn st marks bs) → n ≡ readyOf h m gs l
+  same-number q = q ∙ rw (e, em, eb)
+
+  -- whose tests 7 and 8 gave 0
+  module _ {r : ℕ} (q : r ≡ readyOf h m gs l) (z : r ≡ 0) where
+    pub is-ready : headerFits h ≡ true → l ≤ h .k → Ready st marks (rowsIn st marks bs)
+    is-ready f w =
+        rw (e, em, eb)
+        (ready (stripeOf h l) (marksOf h gs l) (rowsIn (stripeOf h l) (marksOf h gs l) (stripeIn h m l)) (stripe-fits h l f w)
+        (marks-enough h l e gs f w) (sym q ∙ z))
+
+    pub same-solved : solved st marks (rowsIn st marks bs) ≡ decodeStripe h m gs l
+    same-solved = rw (e, em, eb) (sym (is-solved (stripeOf h l) (marksOf h gs l) (rowsIn (stripeOf h l) (marksOf h gs l) (stripeIn h m l)) (sym q ∙ z)))
+
+    pub solved-number : {n : ℕ} → n ≡ decodedNumber (solved st marks (rowsIn st marks bs)) → n ≡ decodedNumber (decodeStripe h m gs l)
+    solved-number o = o ∙ ap decodedNumber same-solved
+
+    module _ {x : List ℕ} where
+      pub full-words : l ≡ h .k → x ≡ decodedWords (solved st marks (rowsIn st marks bs)) (blockWords st) → x ≡ decodedWords (decodeStripe h m gs l) (outSize h)
+      full-words f o = o ∙ ap₂ decodedWords same-solved (sym (full-out h l e f refl))
+
+      pub level-words : x ≡ decodedWords (solved st marks (rowsIn st marks bs)) (2 ^ st .k * st .width) → x ≡ decodedWords (decodeStripe h m gs l) (outSize h)
+      level-words o = o ∙ ap₂ decodedWords same-solved (sym (level-out h l e refl))
+
+pub not-full : {l k : ℕ} → l ≤ k → (l ≡ k → ⊥) → l < k
+not-full w d = omega arith
+
+pub cleared : {n n′ : ℕ} {x : List ℕ} → n ≡ n′ → x ≡ replicate n 0 → x ≡ replicate n′ 0
+cleared e o = o ∙ rw e
+
+-- what the needs of the functions that hand a stripe on follow from
+pub ruleset stripe-sizes = (is-full, is-level, not-full, full-out, full-scratch, full-zeros, level-out, level-scratch, level-zeros, cleared)
+
+pub ruleset stripe-answers = (unready-number, unready-words, same-number, is-ready, solved-number, full-words, level-words)
+
+pub ruleset handed-needs = (stripe-sizes, numbers-fit, marks-fit, bytes-fit, stripe-answers, needs)

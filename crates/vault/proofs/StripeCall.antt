@@ -1,4 +1,4 @@
--- The call `decode`, both-true ways round: what it gives where no number from 1 to 6 applies, and what it leaves. Promises 3 of specs/Promises. Assumes nothing.
+-- The call `decode`, both ways round: what it gives where no number from 1 to 6 applies, and what it leaves. Promises 3 of specs/Promises. Assumes nothing.
 use mathlib.Core.Path.{_≡_, refl, sym, ap, _∙_}
 use mathlib.Core.Bool.{Bool, true, false, _&&_, _||_}
 use mathlib.Core.Logic.{inl, inr}

@@ -27,7 +27,7 @@ sizes c z = let a = c .before .before .before .before .before .before .args in l
 recover-all-requires : tie.Need-recover-all-requires
 recover-all-requires c κs =
     let L = sizes (c .before .before .before) (c .before .before .if1 .left) in
-    (L .fits, (L .image, L .output, L .room))
+    record { fits = L .fits; image = L .image; output = L .output; room = L .room }
 
 clear-requires : tie.Need-clear-requires
 clear-requires c κs = search needs

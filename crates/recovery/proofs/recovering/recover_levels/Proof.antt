@@ -30,16 +30,24 @@ sub-level : tie.Need-sub-level Inv-loop μ-loop
 sub-level c = omega arith
 
 is-filled-requires : tie.Need-is-filled-requires Inv-loop μ-loop
-is-filled-requires c κs = let s = c .before .before .before .before .before .before .before in omega (arith, c .before .loop .inv .2 .within, fits (s .args .header) (s .pre .0) .k-high)
+is-filled-requires c κs =
+    let s = c .before .before .before .before .before .before .before in
+    omega (arith, c .before .loop .inv .2 .within, fits (s .args .header) (s .pre .fits) .k-high)
 
 recover-level-requires : tie.Need-recover-level-requires Inv-loop μ-loop
 recover-level-requires c κs =
     let s = c .before .before .before .before .before .before .before .before .before .before .before in
     let i = c .before .before .before .before .before .loop .inv in
-    ((s .pre .0, omega (arith, i .2 .within, c .before .before .before .before .loop-test .taken), s .pre .1 .0), (i .0 ∙ s .pre .1 .1, i .1 ∙ s .pre .1 .2))
+    let t = c .before .before .before .before .loop-test .taken in (
+      record { fits = s .pre .fits; image = s .pre .image; output = i .0 ∙ s .pre .output; room = i .1 ∙ s .pre .room },
+      omega (arith, i .2 .within, t),
+    )
 
 cast-t15 : tie.Need-cast-t15 Inv-loop μ-loop
-cast-t15 c = let s = c .before .before .before .before .before .before .before .before .before .before .before .before .before .before .before .before .before in omega (arith, c .before .before .before .before .before .before .before .before .before .before .before .loop .inv .2 .within, fits (s .args .header) (s .pre .0) .k-high)
+cast-t15 c =
+    let p = c .before .before .before .before .before .before .before .before .before .before .before in
+    let s = p .before .before .before .before .before .before in
+    omega (arith, p .loop .inv .2 .within, fits (s .args .header) (s .pre .fits) .k-high)
 
 same-length : tie.Need-same-length Inv-loop μ-loop
 same-length c = c .before .before .before .before .before .recover-level .kept .1 .1 .1 .1 .0 ∙ c .before .before .before .before .before .before .before .before .before .before .before .loop .inv .0
