@@ -13,6 +13,13 @@ Inv-loop blocks s rows out₀ at₀ j₀ out at j = Laying s blocks rows out₀ 
 abbrev μ-loop : tie.MeasureT-loop
 μ-loop blocks s rows out₀ at₀ j₀ out at j = rows - j
 
+-- PLACES: `x-at-y c` is the place x that stands before y
+abbrev start-at-loop : tie.At-loop Inv-loop μ-loop → tie.Start Inv-loop μ-loop
+start-at-loop c = c .before .before .before
+
+abbrev start-at-copy-row : tie.After-copy-row Inv-loop μ-loop → tie.Start Inv-loop μ-loop
+start-at-copy-row c = start-at-loop (c .before .before .before .before)
+
 loop-holds : tie.Need-loop-holds Inv-loop μ-loop
 loop-holds c = laying-start _ _ _ _
 
@@ -55,7 +62,7 @@ loop-less : tie.Need-loop-less Inv-loop μ-loop
 loop-less c = omega arith
 
 loop-again : tie.Need-loop-again Inv-loop μ-loop
-loop-again c = laying-turn (c .before .before .before .before .before .before .loop .inv) (c .before .before .before .before .before .loop-test .taken) _ refl (fits-at (c .before .before .before .before .before)) (rw (c .before .before .before .before .before .before .before .before .before .pre .0) (omega arith)) (c .before .before .copy-row .ensures)
+loop-again c = laying-turn (c .before .before .before .before .before .before .loop .inv) (c .before .before .before .before .before .loop-test .taken) _ refl (fits-at (c .before .before .before .before .before)) (rw (start-at-copy-row (c .before .before) .pre .0) (omega arith)) (c .before .before .copy-row .ensures)
 
 same-length : tie.Need-same-length Inv-loop μ-loop
 same-length c = c .before .loop .inv .same

@@ -8,6 +8,46 @@ use Rattle.recovery.proofs.RecoverCall.{answers-refused, answers-stoppe
 use Rattle.recovery.proofs.recovering.recover.Statement.{statement}
 use Rattle.recovery.proofs.recovering.recover.Tie as tie
 
+-- PLACES: `x-at-y c` is the place x that stands before y
+abbrev start-at-image-number : tie.After-image-number → tie.Start
+start-at-image-number c = c .before .before .before .before .before .before
+
+abbrev start-at-recover-all : tie.After-recover-all → tie.Start
+start-at-recover-all c = start-at-image-number (c .before .before .before .before)
+
+abbrev image-number-at-recover-all : tie.After-recover-all → tie.After-image-number
+image-number-at-recover-all c = c .before .before .before .before
+
+abbrev else1-at-recover-all : tie.After-recover-all → tie.Else1
+else1-at-recover-all c = c .before .before .before
+
+abbrev start-at-clear : tie.After-clear → tie.Start
+start-at-clear c = start-at-recover-all (c .before .before .before .before .before .before)
+
+abbrev image-number-at-clear : tie.After-clear → tie.After-image-number
+image-number-at-clear c = image-number-at-recover-all (c .before .before .before .before .before .before)
+
+abbrev else1-at-clear : tie.After-clear → tie.Else1
+else1-at-clear c = else1-at-recover-all (c .before .before .before .before .before .before)
+
+abbrev recover-all-at-clear : tie.After-clear → tie.After-recover-all
+recover-all-at-clear c = c .before .before .before .before .before .before
+
+abbrev start-at-clear2 : tie.After-clear2 → tie.Start
+start-at-clear2 c = start-at-clear (c .before .before .before .before .before .before)
+
+abbrev image-number-at-clear2 : tie.After-clear2 → tie.After-image-number
+image-number-at-clear2 c = image-number-at-clear (c .before .before .before .before .before .before)
+
+abbrev else1-at-clear2 : tie.After-clear2 → tie.Else1
+else1-at-clear2 c = else1-at-clear (c .before .before .before .before .before .before)
+
+abbrev recover-all-at-clear2 : tie.After-clear2 → tie.After-recover-all
+recover-all-at-clear2 c = recover-all-at-clear (c .before .before .before .before .before .before)
+
+abbrev clear-at-clear2 : tie.After-clear2 → tie.After-clear
+clear-at-clear2 c = c .before .before .before .before .before .before
+
 cast-row : tie.Need-cast-row
 cast-row c = search needs
 
@@ -16,7 +56,7 @@ image-number-requires c κs = search needs
 
 returns : tie.Need-returns
 returns c =
-    let a = c .before .before .before .before .before .before .before .args in
+    let a = start-at-image-number (c .before) .args in
     answers-refused (a .header) (a .image .now) (a .erasures .now) (a .out .now) (a .scratch .now) (c .before .image-number .ensures) (c .if1 .taken)
 
 -- the sizes, where no test applies
@@ -43,10 +83,10 @@ same-length-2 c = search needs
 
 returns-2 : tie.Need-returns-2
 returns-2 c =
-    let a = c .before .before .before .before .before .before .before .before .before .before .before .before .before .before .before .before .before .before .before .before .before .before .before .before .args in
-    let L = sizes (c .before .before .before .before .before .before .before .before .before .before .before .before .before .before .before .before .before .before) (c .before .before .before .before .before .before .before .before .before .before .before .before .before .before .before .before .before .if1 .left) in
-    let r = c .before .before .before .before .before .before .before .before .before .before .before .before .before .before .recover-all in
-    answers-stopped (a .header) (a .image .now) (a .erasures .now) (a .out .now) (a .scratch .now) (sym (c .before .before .before .before .before .before .before .before .before .before .before .before .before .before .before .before .before .before .image-number .ensures) ∙ c .before .before .before .before .before .before .before .before .before .before .before .before .before .before .before .before .before .if1 .left) (r .ensures .0) (c .before .before .before .before .before .before .before .before .clear .ensures ∙ ap (λ (n : ℕ). replicate n 0) (r .kept .1 .1 .1 .1 .0 ∙ L .room)) (c .before .before .before .before .if2 .taken) (c .before .before .clear2 .ensures ∙ ap (λ (n : ℕ). replicate n 0) (r .kept .1 .1 .1 .0 ∙ L .output))
+    let a = start-at-clear2 (c .before .before) .args in
+    let L = sizes (image-number-at-clear2 (c .before .before)) (else1-at-clear2 (c .before .before) .if1 .left) in
+    let r = recover-all-at-clear2 (c .before .before) .recover-all in
+    answers-stopped (a .header) (a .image .now) (a .erasures .now) (a .out .now) (a .scratch .now) (sym (image-number-at-clear2 (c .before .before) .image-number .ensures) ∙ else1-at-clear2 (c .before .before) .if1 .left) (r .ensures .0) (clear-at-clear2 (c .before .before) .clear .ensures ∙ ap (λ (n : ℕ). replicate n 0) (r .kept .1 .1 .1 .1 .0 ∙ L .room)) (c .before .before .before .before .if2 .taken) (c .before .before .clear2 .ensures ∙ ap (λ (n : ℕ). replicate n 0) (r .kept .1 .1 .1 .0 ∙ L .output))
 
 same-length-3 : tie.Need-same-length-3
 same-length-3 c = search needs
@@ -56,10 +96,10 @@ same-length-4 c = search needs
 
 returns-3 : tie.Need-returns-3
 returns-3 c =
-    let a = c .before .before .before .before .before .before .before .before .before .before .before .before .before .before .before .before .before .before .before .before .args in
-    let L = sizes (c .before .before .before .before .before .before .before .before .before .before .before .before .before .before) (c .before .before .before .before .before .before .before .before .before .before .before .before .before .if1 .left) in
-    let r = c .before .before .before .before .before .before .before .before .before .before .recover-all in
-    answers-recovered (a .header) (a .image .now) (a .erasures .now) (a .out .now) (a .scratch .now) (sym (c .before .before .before .before .before .before .before .before .before .before .before .before .before .before .image-number .ensures) ∙ c .before .before .before .before .before .before .before .before .before .before .before .before .before .if1 .left) (r .ensures .0) (c .before .before .before .before .clear .ensures ∙ ap (λ (n : ℕ). replicate n 0) (r .kept .1 .1 .1 .1 .0 ∙ L .room)) (c .if2 .left) (r .ensures .1)
+    let a = start-at-clear (c .before .before .before .before) .args in
+    let L = sizes (image-number-at-clear (c .before .before .before .before)) (else1-at-clear (c .before .before .before .before) .if1 .left) in
+    let r = recover-all-at-clear (c .before .before .before .before) .recover-all in
+    answers-recovered (a .header) (a .image .now) (a .erasures .now) (a .out .now) (a .scratch .now) (sym (image-number-at-clear (c .before .before .before .before) .image-number .ensures) ∙ else1-at-clear (c .before .before .before .before) .if1 .left) (r .ensures .0) (c .before .before .before .before .clear .ensures ∙ ap (λ (n : ℕ). replicate n 0) (r .kept .1 .1 .1 .1 .0 ∙ L .room)) (c .if2 .left) (r .ensures .1)
 
 pub recover-spec : {M : Type 1} → statement M
 recover-spec =

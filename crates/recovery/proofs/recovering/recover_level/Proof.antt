@@ -4,9 +4,16 @@ use Rattle.recovery.proofs.StripeRecords.{records-needs as needs}
 use Rattle.recovery.proofs.recovering.recover_level.Statement.{statement}
 use Rattle.recovery.proofs.recovering.recover_level.Tie as tie
 
+-- PLACES: `x-at-y c` is the place x that stands before y
+abbrev start-at-marks : tie.After-marks → tie.Start
+start-at-marks c = c .before .before .before .before .before
+
+abbrev start-at-stripe-of : tie.After-stripe-of → tie.Start
+start-at-stripe-of c = start-at-marks (c .before .before .before .before)
+
 lay-level-requires : tie.Need-lay-level-requires
 lay-level-requires c κs =
-    let w = le-of-lt (c .before .before .before .before .before .before .before .before .before .before .before .before .before .pre .1) in
+    let w = le-of-lt (start-at-stripe-of (c .before .before .before .before) .pre .1) in
     (search needs, ((search needs, search needs), (search needs, search needs)))
 
 pub recover-level-spec : {M : Type 1} → statement M

@@ -20,6 +20,31 @@ Inv-loop header image erasures out₀ scratch₀ level₀ out scratch level = (l
 abbrev μ-loop : tie.MeasureT-loop
 μ-loop header image erasures out₀ scratch₀ level₀ out scratch level = level
 
+-- PLACES: `x-at-y c` is the place x that stands before y
+abbrev start-at-loop : tie.At-loop Inv-loop μ-loop → tie.Start Inv-loop μ-loop
+start-at-loop c = c .before .before .before .before .before .before
+
+abbrev start-at-is-filled : tie.After-is-filled Inv-loop μ-loop → tie.Start Inv-loop μ-loop
+start-at-is-filled c = start-at-loop (c .before .before)
+
+abbrev loop-at-is-filled : tie.After-is-filled Inv-loop μ-loop → tie.At-loop Inv-loop μ-loop
+loop-at-is-filled c = c .before .before
+
+abbrev start-at-out : tie.After-out Inv-loop μ-loop → tie.Start Inv-loop μ-loop
+start-at-out c = start-at-is-filled (c .before .before .before .before .before)
+
+abbrev loop-at-out : tie.After-out Inv-loop μ-loop → tie.At-loop Inv-loop μ-loop
+loop-at-out c = loop-at-is-filled (c .before .before .before .before .before)
+
+abbrev in-loop-at-out : tie.After-out Inv-loop μ-loop → tie.In-loop Inv-loop μ-loop
+in-loop-at-out c = c .before .before .before .before .before .before
+
+abbrev is-filled-at-out : tie.After-out Inv-loop μ-loop → tie.After-is-filled Inv-loop μ-loop
+is-filled-at-out c = c .before .before .before .before .before
+
+abbrev then1-at-out : tie.After-out Inv-loop μ-loop → tie.Then1 Inv-loop μ-loop
+then1-at-out c = c .before .before .before .before
+
 cast-level : tie.Need-cast-level Inv-loop μ-loop
 cast-level c = search needs
 
@@ -31,12 +56,12 @@ sub-level c = omega arith
 
 is-filled-requires : tie.Need-is-filled-requires Inv-loop μ-loop
 is-filled-requires c κs =
-    let s = c .before .before .before .before .before .before .before in
+    let s = start-at-loop (c .before) in
     omega (arith, c .before .loop .inv .2 .within, fits (s .args .header) (s .pre .fits) .k-high)
 
 recover-level-requires : tie.Need-recover-level-requires Inv-loop μ-loop
 recover-level-requires c κs =
-    let s = c .before .before .before .before .before .before .before .before .before .before .before in
+    let s = start-at-is-filled (c .before .before .before) in
     let i = c .before .before .before .before .before .loop .inv in
     let t = c .before .before .before .before .loop-test .taken in (
       record { fits = s .pre .fits; image = s .pre .image; output = i .0 ∙ s .pre .output; room = i .1 ∙ s .pre .room },
@@ -45,19 +70,19 @@ recover-level-requires c κs =
 
 cast-t15 : tie.Need-cast-t15 Inv-loop μ-loop
 cast-t15 c =
-    let p = c .before .before .before .before .before .before .before .before .before .before .before in
+    let p = loop-at-out (c .before .before .before .before) in
     let s = p .before .before .before .before .before .before in
     omega (arith, p .loop .inv .2 .within, fits (s .args .header) (s .pre .fits) .k-high)
 
 same-length : tie.Need-same-length Inv-loop μ-loop
-same-length c = c .before .before .before .before .before .recover-level .kept .1 .1 .1 .1 .0 ∙ c .before .before .before .before .before .before .before .before .before .before .before .loop .inv .0
+same-length c = c .before .before .before .before .before .recover-level .kept .1 .1 .1 .1 .0 ∙ loop-at-out (c .before .before .before .before) .loop .inv .0
 
 same-length-2 : tie.Need-same-length-2 Inv-loop μ-loop
-same-length-2 c = c .before .before .before .before .before .recover-level .kept .1 .1 .1 .1 .1 .0 ∙ c .before .before .before .before .before .before .before .before .before .before .before .loop .inv .1
+same-length-2 c = c .before .before .before .before .before .recover-level .kept .1 .1 .1 .1 .1 .0 ∙ loop-at-out (c .before .before .before .before) .loop .inv .1
 
 returns : tie.Need-returns Inv-loop μ-loop
 returns c =
-    let e = levels-stop (c .before .before .before .before .before .before .before .before .before .before .before .loop .inv .2) (c .before .before .before .before .before .before .before .before .before .before .loop-test .taken) (sym (c .before .before .before .before .before .before .before .before .before .is-filled .ensures) ∙ c .before .before .before .before .before .before .before .before .if1 .taken) (c .before .before .before .before .before .recover-level .ensures .0) (c .if2 .taken) in
+    let e = levels-stop (loop-at-out (c .before .before .before .before) .loop .inv .2) (in-loop-at-out (c .before .before .before .before) .loop-test .taken) (sym (is-filled-at-out (c .before .before .before .before) .is-filled .ensures) ∙ then1-at-out (c .before .before .before .before) .if1 .taken) (c .before .before .before .before .before .recover-level .ensures .0) (c .if2 .taken) in
     (sym (ap answerOf e), λ z. absurd (c .if2 .taken z))
 
 loop-less : tie.Need-loop-less Inv-loop μ-loop
@@ -65,12 +90,12 @@ loop-less c = omega arith
 
 loop-again : tie.Need-loop-again Inv-loop μ-loop
 loop-again c =
-    let i = c .before .before .before .before .before .before .before .before .before .before .before .loop .inv in
-    let a = c .before .before .before .before .before .before .before .before .before .before .before .before .before .before .before .before .before .args in
+    let i = loop-at-out (c .before .before .before .before) .loop .inv in
+    let a = start-at-out (c .before .before .before .before) .args in
     let d = c .before .before .before .before .before .recover-level in (
       d .kept .1 .1 .1 .1 .0 ∙ i .0,
       d .kept .1 .1 .1 .1 .1 .0 ∙ i .1,
-      levels-lay (i .2) (c .before .before .before .before .before .before .before .before .before .before .loop-test .taken) (sym (c .before .before .before .before .before .before .before .before .before .is-filled .ensures) ∙ c .before .before .before .before .before .before .before .before .if1 .taken) (d .ensures .0) (sound (a .header) (a .image .now) (erasuresIn (a .erasures .now)) _) (c .if2 .left) (d .ensures .1),
+      levels-lay (i .2) (in-loop-at-out (c .before .before .before .before) .loop-test .taken) (sym (is-filled-at-out (c .before .before .before .before) .is-filled .ensures) ∙ then1-at-out (c .before .before .before .before) .if1 .taken) (d .ensures .0) (sound (a .header) (a .image .now) (erasuresIn (a .erasures .now)) _) (c .if2 .left) (d .ensures .1),
     )
 
 loop-less-2 : tie.Need-loop-less-2 Inv-loop μ-loop
@@ -90,7 +115,7 @@ same-length-4 c = c .before .loop .inv .1
 returns-2 : tie.Need-returns-2 Inv-loop μ-loop
 returns-2 c =
     let e = levels-done (c .before .loop .inv .2) (c .loop-test .left) in
-    (sym (ap answerOf e), λ _. sym (ap (λ (x : Recovered). recoveredWords x (rawSize (c .before .before .before .before .before .before .before .args .header))) e))
+    (sym (ap answerOf e), λ _. sym (ap (λ (x : Recovered). recoveredWords x (rawSize (start-at-loop (c .before) .args .header))) e))
 
 pub recover-levels-spec : {M : Type 1} → statement M
 recover-levels-spec =
