@@ -1,4 +1,5 @@
--- Laws of `eachBlock` of specs/steps/Mixing: a part of a list put back, block after block, blocks of twice the size, one function after the other. Assumes nothing.
+-- Laws of `eachBlock` of specs/steps/Mixing: a part of a list put back, block after block, blocks of twice the size, one function after the other. Assumes
+-- nothing.
 use mathlib.Core.Path.{_≡_, refl, sym, ap, ap₂, _∙_}
 use mathlib.Core.List.{List, _++_, append-assoc, append-nil}
 use Prim.Native.Nat.{ℕ, zero, suc, _+_, _-_, _*_, _^_, _≤_, _<_}
@@ -61,7 +62,8 @@ module _ (from n : ℕ) where
 
   words-patched : {p : ℕ} (f : List ℕ → List ℕ) {l : List ℕ} → 0 < p → Words p l → Words p (f (take n (drop from l))) → Words p (patched from n f l)
   unfolding patched
-  words-patched {p} f {l} h w u = words-append p h {a = take from l} (words-take p h from w) (words-append p h {a = f (take n (drop from l))} u (words-drop p h (from + n) w))
+  words-patched {p} f {l} h w u =
+      words-append p h {a = take from l} (words-take p h from w) (words-append p h {a = f (take n (drop from l))} u (words-drop p h (from + n) w))
 
   -- past the end of a first list it is done to the second
   patched-append : (k : ℕ) (f : List ℕ → List ℕ) (a b : List ℕ) → length a ≡ k → patched (k + from) n f (a ++ b) ≡ a ++ patched from n f b
@@ -73,12 +75,14 @@ block-first : (n : ℕ) (f : List ℕ → List ℕ) (l : List ℕ) → patched (
 unfolding patched
 block-first n f l = rw (zero-mul, zero-add)
 
-block-more : (b n : ℕ) (f : List ℕ → List ℕ) (l : List ℕ) → ((a : List ℕ) → length (f a) ≡ n) → patched (b * n) n f (eachBlock b n f l) ≡ eachBlock (suc b) n f l
+block-more : (b n : ℕ) (f : List ℕ → List ℕ) (l : List ℕ) → ((a : List ℕ) → length (f a) ≡ n)
+    → patched (b * n) n f (eachBlock b n f l) ≡ eachBlock (suc b) n f l
 unfolding eachBlock
 block-more zero n f l keeps = block-first n f l
 block-more (suc b) n f l keeps =
     ap (λ (k : ℕ). patched k n f (f (take n l) ++ eachBlock b n f (drop n l))) {x = suc b * n} {y = n + b * n} (omega arith)
-    ∙ patched-append (b * n) n n f (f (take n l)) (eachBlock b n f (drop n l)) (keeps (take n l)) ∙ ap (λ (r : List ℕ). f (take n l) ++ r) (block-more b n f (drop n l) keeps)
+    ∙ patched-append (b * n) n n f (f (take n l)) (eachBlock b n f (drop n l)) (keeps (take n l))
+    ∙ ap (λ (r : List ℕ). f (take n l) ++ r) (block-more b n f (drop n l) keeps)
 
 -- THE LOOP OVER BLOCKS: f is done to the first b
 pub record BlockLoop (half₀ : List ℕ) (blocks size : ℕ) (f : List ℕ → List ℕ) (half : List ℕ) (at b : ℕ) : Type 0 where
@@ -146,7 +150,8 @@ each-id (suc b) n f l h e =
     ap₂ _++_ (e (take n l) (length-take-le n l (omega arith))) (each-id b n f (drop n l) (rest-in b n l h) e) ∙ take-append-drop n l
 
 -- f, then g
-each-then : (b n : ℕ) (f g d : List ℕ → List ℕ) (l : List ℕ) → b * n ≤ length l → ((a : List ℕ) → length (f a) ≡ n) → ((a : List ℕ) → length a ≡ n → g (f a) ≡ d a)
+each-then : (b n : ℕ) (f g d : List ℕ → List ℕ) (l : List ℕ) → b * n ≤ length l → ((a : List ℕ) → length (f a) ≡ n)
+    → ((a : List ℕ) → length a ≡ n → g (f a) ≡ d a)
     → eachBlock b n g (eachBlock b n f l) ≡ eachBlock b n d l
 unfolding eachBlock
 each-then zero n f g d l h keeps e = refl
@@ -164,7 +169,8 @@ each-double zero n f d l h e = refl
 each-double (suc b) n f d l h e =
     let x = take n l in
     let y = take n (drop n l) in
-    let rest : eachBlock (b * 2) n f (drop (n + n) l) ≡ eachBlock b (n + n) d (drop (n + n) l) = each-double b n f d (drop (n + n) l) (rest-in b (n + n) l h) e in
+    let rest : eachBlock (b * 2) n f (drop (n + n) l) ≡ eachBlock b (n + n) d (drop (n + n) l) =
+    each-double b n f d (drop (n + n) l) (rest-in b (n + n) l h) e in
     let two : f x ++ f y ≡ d (x ++ y) = e x y (length-take-le n l (omega arith)) (length-take-le n (drop n l) (rw length-drop (omega arith))) in
     ap (λ (k : ℕ). eachBlock k n f l) {x = suc b * 2} {y = suc (suc (b * 2))} (omega arith)
     ∙ rw (drop-drop n n l, take-add n n l, ← append-assoc, two, rest)
@@ -188,7 +194,8 @@ pub rows-double : (width b m : ℕ) (t : List ℕ → List ℕ) (l : List ℕ) �
     → eachRows width (b * 2) m t l ≡ eachRows width b (m + m) (both t m) l
 rows-double width b m t l h keeps =
     let e : (m + m) * width ≡ m * width + m * width = add-mul m m width in
-    rw e (each-double b (m * width) (lifted width m m t) (lifted width (m + m) (m + m) (both t m)) l (rw e at h) (λ x y ex _. lifted-append width m m m m t t x y ex keeps))
+    rw e (each-double b (m * width) (lifted width m m t) (lifted width (m + m) (m + m) (both t m)) l (rw e at h)
+    (λ x y ex _. lifted-append width m m m m t t x y ex keeps))
 
 -- nothing done to single rows, and one block
 pub rows-id : (width b : ℕ) (l : List ℕ) → length l ≡ b * width → eachRows width b 1 (λ c. c) l ≡ l
@@ -210,10 +217,12 @@ pub record Level (width level l len b m : ℕ) : Type 0 where
   pub blocks-few : b ≤ 65536
   pub m-few : m ≤ 65536
 
-pub level-at : {width level l len b m : ℕ} → l < level → level ≤ 16 → len ≡ 2 ^ level * width → b ≡ 2 ^ (level - suc l) → m ≡ 2 ^ l → Level width level l len b m
+pub level-at : {width level l len b m : ℕ} → l < level → level ≤ 16 → len ≡ 2 ^ level * width → b ≡ 2 ^ (level - suc l) → m ≡ 2 ^ l
+    → Level width level l len b m
 level-at {width} {level} {l} {len} {b} {m} lt le e eb em =
     let mm : m + m ≡ 2 ^ suc l = omega arith in
-    let two : b * (m + m) ≡ 2 ^ level = ap₂ _*_ eb mm ∙ sym (pow-add 2 (level - suc l) (suc l)) ∙ ap (λ (i : ℕ). 2 ^ i) {x = level - suc l + suc l} {y = level} (omega arith) in
+    let two : b * (m + m) ≡ 2 ^ level =
+    ap₂ _*_ eb mm ∙ sym (pow-add 2 (level - suc l) (suc l)) ∙ ap (λ (i : ℕ). 2 ^ i) {x = level - suc l + suc l} {y = level} (omega arith) in
     let r : len ≡ b * ((m + m) * width) = e ∙ ap (λ (n : ℕ). n * width) (sym two) ∙ mul-assoc b (m + m) width in
     record {
       blocks-is = eb;

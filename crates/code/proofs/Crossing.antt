@@ -1,4 +1,5 @@
--- Laws of the crossings of specs/steps/Mixing, which mixing and unmixing share: a row, all rows, and that these are one function of each column. Assumes nothing.
+-- Laws of the crossings of specs/steps/Mixing, which mixing and unmixing share: a row, all rows, and that these are one function of each column. Assumes
+-- nothing.
 use mathlib.Core.Path.{_≡_, refl, sym, ap, ap₂, _∙_, subst}
 use mathlib.Core.Logic.{⊎-elim, _≢_}
 use mathlib.Core.List.{List}
@@ -170,7 +171,8 @@ pub record Crosses (c : Crossing) (v m : ℕ) (d : List ℕ → List ℕ) : Type
 pub mixing-crosses : (v m : ℕ) → Crosses (mixing 65537) v m (mixedHalves 65537 v m)
 mixing-crosses v m = record { low-at = low; high-at = high }
   where
-    low : (a : List ℕ) (i : ℕ) → length a ≡ m + m → i < m → getD (mixedHalves 65537 v m a) i 0 ≡ plus 65537 (getD a i 0) (times 65537 (power 65537 v i) (getD a (m + i) 0))
+    low : (a : List ℕ) (i : ℕ) → length a ≡ m + m → i < m
+        → getD (mixedHalves 65537 v m a) i 0 ≡ plus 65537 (getD a i 0) (times 65537 (power 65537 v i) (getD a (m + i) 0))
     low a i e h =
         let t : length (take m a) ≡ m = length-take-le m a (omega arith) in
         mixed-low 65537 v (take m a) (drop m a) i (omega arith) ∙ rw (getD-take m a i 0 h, getD-drop m a i 0)
@@ -194,10 +196,12 @@ module _ (c : Crossing) (v m width : ℕ) (d : List ℕ → List ℕ) (t : Cross
   whole = pairs c (factor v width) (m * width) (m * width) l
 
   pairs-at : (i j : ℕ) → i < m → j < width
-      → (getD whole (i * width + j) 0 ≡ getD (d (column width (m + m) j l)) i 0) × (getD whole ((m + i) * width + j) 0 ≡ getD (d (column width (m + m) j l)) (m + i) 0)
+      → (getD whole (i * width + j) 0 ≡ getD (d (column width (m + m) j l)) i 0) ×
+      (getD whole ((m + i) * width + j) 0 ≡ getD (d (column width (m + m) j l)) (m + i) 0)
   pairs-at i j h b =
       let a : List ℕ = column width (m + m) j l in
-      let r : Done c (factor v width) (m * width) l (m * width) (i * width + j) = pairs-done c (factor v width) (m * width) l (m * width) (i * width + j) e (omega arith) (digits-lt h b) in
+      let r : Done c (factor v width) (m * width) l (m * width) (i * width + j) =
+      pairs-done c (factor v width) (m * width) l (m * width) (i * width + j) e (omega arith) (digits-lt h b) in
       let q : m * width + (i * width + j) ≡ (m + i) * width + j = omega arith in
       let f : (i * width + j) / width ≡ i = digits-div i b in
       let x : getD a i 0 ≡ getD l (i * width + j) 0 = column-at width (m + m) j l i (omega arith) in
@@ -207,7 +211,8 @@ module _ (c : Crossing) (v m width : ℕ) (d : List ℕ → List ℕ) (t : Cross
 
   all-pairs : whole ≡ lifted width (m + m) (m + m) d l
   all-pairs =
-      is-lifted width (m + m) (m + m) d l whole (length-pairs c (factor v width) (m * width) l (m * width) ∙ e ∙ sym (add-mul m m width)) (λ i j h b. at i j h b (decLt i m))
+      is-lifted width (m + m) (m + m) d l whole (length-pairs c (factor v width) (m * width) l (m * width) ∙ e ∙ sym (add-mul m m width))
+      (λ i j h b. at i j h b (decLt i m))
     where
       at : (i j : ℕ) → i < m + m → j < width → Dec (i < m) → getD whole (i * width + j) 0 ≡ getD (d (column width (m + m) j l)) i 0
       at i j h b (yes u) = pairs-at i j u b .0
@@ -262,7 +267,8 @@ module _ {c : Crossing} {part₀ : List ℕ} {m width v : ℕ} where
       → part′ ≡ crossedRow c g width low high part → g′ ≡ times 65537 g v → RowsLoop c part₀ m width v part′ g′ (i + 1) (low + width) (high + width)
   rows-turn {part} {part′} {g} {g′} {i} {low} {high} s h lt ep eg =
       let e : (i + 1) * width ≡ i * width + width = omega arith in
-      let r : crossedRow c (power 65537 v i) width (i * width) (m * width + i * width) (pairs c (factor v width) (m * width) (i * width) part₀) ≡ pairs c (factor v width) (m * width) (i * width + width) part₀ =
+      let r : crossedRow c (power 65537 v i) width (i * width) (m * width + i * width) (pairs c (factor v width) (m * width) (i * width) part₀) ≡ pairs c
+      (factor v width) (m * width) (i * width + width) part₀ =
       row-pairs c (factor v width) (m * width) (power 65537 v i) width (i * width) part₀ (λ j b. ap (power 65537 v) (digits-div i b)) in
       record {
         turns = omega arith;

@@ -35,7 +35,8 @@ unfolding column
 column-at width zero j l i h = absurd (omega arith)
 column-at width (suc n) j l zero h = ap (λ (m : ℕ). getD l m 0) {x = j} {y = 0 * width + j} (omega (arith, zero-mul width))
 column-at width (suc n) j l (suc i) h =
-    column-at width n j (drop width l) i (omega arith) ∙ getD-drop width l (i * width + j) 0 ∙ ap (λ (m : ℕ). getD l m 0) {x = width + (i * width + j)} {y = suc i * width + j} (omega arith)
+    column-at width n j (drop width l) i (omega arith) ∙ getD-drop width l (i * width + j) 0
+    ∙ ap (λ (m : ℕ). getD l m 0) {x = width + (i * width + j)} {y = suc i * width + j} (omega arith)
 
 word-column : (p width n j : ℕ) (l : List ℕ) → ((k : ℕ) → getD l k 0 < p) → (i : ℕ) → getD (column width n j l) i 0 < p
 unfolding column
@@ -68,9 +69,11 @@ unfolding rowsFrom
 rowsFrom-at i zero cs a j h b = absurd (omega arith)
 rowsFrom-at i (suc n) cs zero j h b =
     ap (λ (m : ℕ). getD (rowOf i cs ++ rowsFrom (suc i) n cs) m 0) {x = 0 * length cs + j} {y = j} (omega (arith, zero-mul (length cs)))
-    ∙ List·getD-append (rowOf i cs) (rowsFrom (suc i) n cs) 0 j (rw length-rowOf b) ∙ rowOf-at i cs j b ∙ ap (λ (m : ℕ). getD (getD cs j []) m 0) (sym (add-zero i))
+    ∙ List·getD-append (rowOf i cs) (rowsFrom (suc i) n cs) 0 j (rw length-rowOf b) ∙ rowOf-at i cs j b
+    ∙ ap (λ (m : ℕ). getD (getD cs j []) m 0) (sym (add-zero i))
 rowsFrom-at i (suc n) cs (suc a) j h b =
-    ap (λ (m : ℕ). getD (rowOf i cs ++ rowsFrom (suc i) n cs) m 0) {x = suc a * length cs + j} {y = length (rowOf i cs) + (a * length cs + j)} (omega (arith, length-rowOf i cs))
+    ap (λ (m : ℕ). getD (rowOf i cs ++ rowsFrom (suc i) n cs) m 0) {x = suc a * length cs + j} {y = length (rowOf i cs) + (a * length cs + j)}
+    (omega (arith, length-rowOf i cs))
     ∙ getD-append-add (rowOf i cs) (rowsFrom (suc i) n cs) (a * length cs + j) 0 ∙ rowsFrom-at (suc i) n cs a j (omega arith) b
     ∙ ap (λ (m : ℕ). getD (getD cs j []) m 0) {x = suc i + a} {y = i + suc a} (omega arith)
 
@@ -83,7 +86,8 @@ columns-at : (f : List ℕ → List ℕ) (width n j c : ℕ) (l : List ℕ) (a :
 unfolding columnsFrom
 columns-at f width n j zero l a h = absurd (omega arith)
 columns-at f width n j (suc c) l zero h = ap (λ (m : ℕ). f (column width n m l)) (sym (add-zero j))
-columns-at f width n j (suc c) l (suc a) h = columns-at f width n (suc j) c l a (omega arith) ∙ ap (λ (m : ℕ). f (column width n m l)) {x = suc j + a} {y = j + suc a} (omega arith)
+columns-at f width n j (suc c) l (suc a) h =
+    columns-at f width n (suc j) c l a (omega arith) ∙ ap (λ (m : ℕ). f (column width n m l)) {x = suc j + a} {y = j + suc a} (omega arith)
 
 module _ (width n m : ℕ) (f : List ℕ → List ℕ) (l : List ℕ) where
   pub length-lifted : length (lifted width n m f l) ≡ m * width
@@ -115,7 +119,8 @@ rows-ext width m a b ea eb e = ext-getD 0 a b (ea ∙ sym eb) at
 -- rows that are f of each column, word by word
 pub is-lifted : (width n m : ℕ) (f : List ℕ → List ℕ) (l r : List ℕ) → length r ≡ m * width
     → ((i j : ℕ) → i < m → j < width → getD r (i * width + j) 0 ≡ getD (f (column width n j l)) i 0) → r ≡ lifted width n m f l
-is-lifted width n m f l r e g = rows-ext width m r (lifted width n m f l) e (length-lifted width n m f l) (λ i j h b. g i j h b ∙ sym (lifted-at width n m f l i j h b))
+is-lifted width n m f l r e g =
+    rows-ext width m r (lifted width n m f l) e (length-lifted width n m f l) (λ i j h b. g i j h b ∙ sym (lifted-at width n m f l i j h b))
 
 -- a run of m rows whose words are f's is f done to each column
 pub table-lifted : (width n m : ℕ) (f : List ℕ → List ℕ) (g : ℕ → ℕ) (l : List ℕ)
@@ -127,7 +132,8 @@ table-lifted width n m f g l e =
 pub lifted-same : (width n m : ℕ) (f g : List ℕ → List ℕ) (l : List ℕ) → ((j : ℕ) → j < width → f (column width n j l) ≡ g (column width n j l))
     → lifted width n m f l ≡ lifted width n m g l
 lifted-same width n m f g l e =
-    is-lifted width n m g l (lifted width n m f l) (length-lifted width n m f l) (λ i j h b. lifted-at width n m f l i j h b ∙ ap (λ (c : List ℕ). getD c i 0) (e j b))
+    is-lifted width n m g l (lifted width n m f l) (length-lifted width n m f l) (λ i j h b. lifted-at width n m f l i j h b
+    ∙ ap (λ (c : List ℕ). getD c i 0) (e j b))
 
 -- column j of what f gave
 pub column-lifted : (width n m : ℕ) (f : List ℕ → List ℕ) (l : List ℕ) (j : ℕ) → j < width → length (f (column width n j l)) ≡ m
@@ -141,7 +147,8 @@ pub lifted-then : (width n m o : ℕ) (f g : List ℕ → List ℕ) (l : List �
     → lifted width m o g (lifted width n m f l) ≡ lifted width n o (λ c. g (f c)) l
 lifted-then width n m o f g l e =
     is-lifted width n o (λ c. g (f c)) l (lifted width m o g (lifted width n m f l)) (length-lifted width m o g (lifted width n m f l))
-    (λ i j h b. lifted-at width m o g (lifted width n m f l) i j h b ∙ ap (λ (c : List ℕ). getD (g c) i 0) (column-lifted width n m f l j b (e (column width n j l) (length-column width n j l))))
+    (λ i j h b. lifted-at width m o g (lifted width n m f l) i j h b
+    ∙ ap (λ (c : List ℕ). getD (g c) i 0) (column-lifted width n m f l j b (e (column width n j l) (length-column width n j l))))
 
 -- nothing done
 pub lifted-id : (width n : ℕ) (l : List ℕ) → length l ≡ n * width → lifted width n n (λ c. c) l ≡ l
@@ -160,7 +167,8 @@ words-rows p width m a z ea e = record { word = λ q. at q (decLt q (m * width))
     at q (yes h) = ⊎-elim (λ z. absurd (omega (arith, ap (λ (c : ℕ). m * c) z, mul-zero m))) (place q h) (eq-zero-or-pos width)
     at q (no h) = rw (List·getD-eq-default a 0 {n = q} (omega arith)) z
 
-pub words-lifted : (p width n m : ℕ) (f : List ℕ → List ℕ) (l : List ℕ) → 0 < p → ((j : ℕ) → j < width → Words p (f (column width n j l))) → Words p (lifted width n m f l)
+pub words-lifted : (p width n m : ℕ) (f : List ℕ → List ℕ) (l : List ℕ) → 0 < p → ((j : ℕ) → j < width → Words p (f (column width n j l)))
+    → Words p (lifted width n m f l)
 words-lifted p width n m f l z u =
     words-rows p width m (lifted width n m f l) z (length-lifted width n m f l) (λ i j h b. rw (lifted-at width n m f l i j h b) (u j b .word i))
 
@@ -176,7 +184,8 @@ column-append width n m j a b h e =
     at : (i : ℕ) → i < n + m → Dec (i < n) → getD (a ++ b) (i * width + j) 0 ≡ getD (column width n j a ++ column width m j b) i 0
     at i l (yes t) =
         let t′ : i < length (column width n j a) = rw length-column t in
-        List·getD-append a b 0 (i * width + j) (rw e (digits-lt t h)) ∙ sym (column-at width n j a i t) ∙ sym (List·getD-append (column width n j a) (column width m j b) 0 i t′)
+        List·getD-append a b 0 (i * width + j) (rw e (digits-lt t h)) ∙ sym (column-at width n j a i t)
+        ∙ sym (List·getD-append (column width n j a) (column width m j b) 0 i t′)
     at i l (no t) =
         let d : ℕ = i - n in
         let s : length (column width n j a) + d ≡ i = omega (arith, length-column width n j a) in
@@ -196,10 +205,12 @@ module _ (width n m n′ m′ : ℕ) (f g : List ℕ → List ℕ) (a b : List �
   two-lifted i j h t (no d) =
       let c : ℕ = i - m in
       let y : length (f (column width n j a)) + c ≡ i = omega (arith, keeps (column width n j a) (length-column width n j a)) in
-      let x : i * width + j ≡ length (lifted width n m f a) + (c * width + j) = ap (λ (z : ℕ). z * width + j) {x = i} {y = m + c} (omega arith) ∙ omega (arith, length-lifted width n m f a) in
+      let x : i * width + j ≡ length (lifted width n m f a) + (c * width + j) =
+      ap (λ (z : ℕ). z * width + j) {x = i} {y = m + c} (omega arith) ∙ omega (arith, length-lifted width n m f a) in
       ap (λ (z : ℕ). getD (lifted width n m f a ++ lifted width n′ m′ g b) z 0) x
       ∙ getD-append-add (lifted width n m f a) (lifted width n′ m′ g b) (c * width + j) 0 ∙ lifted-at width n′ m′ g b c j (omega arith) t
-      ∙ sym (getD-append-add (f (column width n j a)) (g (column width n′ j b)) c 0) ∙ ap (λ (z : ℕ). getD (f (column width n j a) ++ g (column width n′ j b)) z 0) y
+      ∙ sym (getD-append-add (f (column width n j a)) (g (column width n′ j b)) c 0)
+      ∙ ap (λ (z : ℕ). getD (f (column width n j a) ++ g (column width n′ j b)) z 0) y
 
   length-two-lifted : length (lifted width n m f a ++ lifted width n′ m′ g b) ≡ (m + m′) * width
   length-two-lifted = simp (length-append, length-lifted) (sym (add-mul m m′ width))
@@ -208,14 +219,18 @@ module _ (width n m n′ m′ : ℕ) (f g : List ℕ → List ℕ) (a b : List �
 pub lifted-append : (width n m n′ m′ : ℕ) (f g : List ℕ → List ℕ) (a b : List ℕ) → length a ≡ n * width → ((c : List ℕ) → length c ≡ n → length (f c) ≡ m)
     → lifted width n m f a ++ lifted width n′ m′ g b ≡ lifted width (n + n′) (m + m′) (λ c. f (take n c) ++ g (drop n c)) (a ++ b)
 lifted-append width n m n′ m′ f g a b e keeps =
-    is-lifted width (n + n′) (m + m′) (λ c. f (take n c) ++ g (drop n c)) (a ++ b) (lifted width n m f a ++ lifted width n′ m′ g b) (length-two-lifted width n m n′ m′ f g a b keeps)
+    is-lifted width (n + n′) (m + m′) (λ c. f (take n c) ++ g (drop n c)) (a ++ b) (lifted width n m f a ++ lifted width n′ m′ g b)
+    (length-two-lifted width n m n′ m′ f g a b keeps)
     (λ i j h t. at i j h t ∙ ap (λ (c : List ℕ). getD (f (take n c) ++ g (drop n c)) i 0) (sym (column-append width n n′ j a b t e)))
   where
     at : (i j : ℕ) → i < m + m′ → j < width
         → getD (lifted width n m f a ++ lifted width n′ m′ g b) (i * width + j) 0
         ≡ getD (f (take n (column width n j a ++ column width n′ j b)) ++ g (drop n (column width n j a ++ column width n′ j b))) i 0
     at i j h t =
-        rw (take-at (column width n j a) (column width n′ j b) n (length-column width n j a), drop-at (column width n j a) (column width n′ j b) n (length-column width n j a))
+        rw (
+          take-at (column width n j a) (column width n′ j b) n (length-column width n j a),
+          drop-at (column width n j a) (column width n′ j b) n (length-column width n j a),
+        )
         (two-lifted width n m n′ m′ f g a b keeps i j h t (decLt i m))
 
 -- f and g done to the same rows, what f gives first

@@ -10,7 +10,8 @@ use native.Mathlib.Numerals.{add-one}
 use native.Mathlib.Decide.{decLt}
 use native.Mathlib.Omega.{arith}
 use borrow.Rule.Slice.PartMut.{putMid}
-use lib.ListN.{length, getD, set, take, drop, replicate, take-append-drop, drop-of-length-le, length-replicate, getD-replicate, length-set, length-append, List·getD-append}
+use lib.ListN.{length, getD, set, take, drop, replicate, take-append-drop, drop-of-length-le, length-replicate, getD-replicate, length-set, length-append}
+use lib.ListN.{List·getD-append}
 use lib.Seq.{sets, sets-eq, length-sets, take-all, take-at, drop-at, set-comm, drop-length, getD-set-other, getD-append-add, length-take-le, ext-getD}
 use lib.Arith.{digits-div}
 use lib.Dec.{eqb}
@@ -30,7 +31,8 @@ unfolding stored table
 stored-none a f l = refl
 
 -- one stretch after the other
-pub stored-more : (a : ℕ) (f g : ℕ → ℕ) (n m : ℕ) (l : List ℕ) → ((i : ℕ) → i < m → g i ≡ f (n + i)) → stored (a + n) g m (stored a f n l) ≡ stored a f (n + m) l
+pub stored-more : (a : ℕ) (f g : ℕ → ℕ) (n m : ℕ) (l : List ℕ) → ((i : ℕ) → i < m → g i ≡ f (n + i))
+    → stored (a + n) g m (stored a f n l) ≡ stored a f (n + m) l
 unfolding stored
 stored-more a f g n m l e =
     ap (λ (k : ℕ). sets (sets l a (table n f)) (a + k) (table m g)) (sym (length-table n f)) ∙ sym (sets-append l a (table n f) (table m g))
@@ -159,7 +161,8 @@ module _ {a : ℕ} {f : ℕ → ℕ} {m width : ℕ} {l₀ l : List ℕ} {at i :
   pub storing-rows-words : {p : ℕ} → 0 < p → Words p l₀ → ((k : ℕ) → f k < p) → Words p l
   storing-rows-words {p} z w b = rw (h .now) (words-stored p z a f (i * width) w (λ k _. b k))
 
-  pub storing-rows-turn : (g : ℕ → ℕ) {l′ : List ℕ} → i < m → l′ ≡ stored at g width l → ((j : ℕ) → j < width → g j ≡ f (i * width + j)) → StoringRows a f m width l₀ l′ (at + width) (i + 1)
+  pub storing-rows-turn : (g : ℕ → ℕ) {l′ : List ℕ} → i < m → l′ ≡ stored at g width l → ((j : ℕ) → j < width → g j ≡ f (i * width + j))
+      → StoringRows a f m width l₀ l′ (at + width) (i + 1)
   storing-rows-turn g b e s = record {
     turns = omega arith;
     at-is = omega (arith, row-next i width);
@@ -181,12 +184,14 @@ module _ (p width : ℕ) (g : ℕ → ℕ) {m : ℕ} {l₀ l : List ℕ} {at i :
   unfolding scaledRowsWord
   scaling-words z w = storing-rows-words h z w (λ k. times-lt p z _ _)
 
-  pub scaling-turn : {x : ℕ} {l′ : List ℕ} → i < m → x ≡ g i → l′ ≡ scaleRow p width at x l → StoringRows 0 (scaledRowsWord p width g l₀) m width l₀ l′ (at + width) (i + 1)
+  pub scaling-turn : {x : ℕ} {l′ : List ℕ} → i < m → x ≡ g i → l′ ≡ scaleRow p width at x l
+      → StoringRows 0 (scaledRowsWord p width g l₀) m width l₀ l′ (at + width) (i + 1)
   unfolding scaleRow scaledWord scaledRowsWord
   scaling-turn {x} b ex e =
       storing-rows-turn h (scaledWord p at x l) b e
       (λ j t. rw (digits-div i t, ex)
-      (ap (times p (g i)) (storing-rows-rest h (at + j) (omega arith) ∙ ap (λ (k : ℕ). getD l₀ k 0) {x = at + j} {y = i * width + j} (omega (arith, h .at-is)))))
+      (ap (times p (g i)) (storing-rows-rest h (at + j) (omega arith)
+      ∙ ap (λ (k : ℕ). getD l₀ k 0) {x = at + j} {y = i * width + j} (omega (arith, h .at-is)))))
 
 -- weights multiplied
 module _ (p base j : ℕ) (l : List ℕ) (i : ℕ) where
@@ -224,6 +229,7 @@ module _ {n : ℕ} {l a b : List ℕ} (h : Parts n l a b) where
 
   pub put-rest : (x : List ℕ) → Parts n (putMid n (length l - n) l x) a x
   put-rest x = record {
-    is = ap₂ (λ (y z : List ℕ). y ++ (x ++ z)) lent-front (ap (drop (length l - n)) rest-is ∙ drop-of-length-le b {i = length l - n} (omega (arith, length-parts))) ∙ ap (λ (r : List ℕ). a ++ r) (append-nil x);
+    is = ap₂ (λ (y z : List ℕ). y ++ (x ++ z)) lent-front (ap (drop (length l - n)) rest-is
+        ∙ drop-of-length-le b {i = length l - n} (omega (arith, length-parts))) ∙ ap (λ (r : List ℕ). a ++ r) (append-nil x);
     long = h .long;
   }

@@ -56,13 +56,15 @@ reversed-lt (suc k) t = go (t % 2) (mod-lt t (omega arith)) (reversed-lt k (t / 
 module _ (p : ℕ) where
   pub length-mixed : (v : ℕ) (a b : List ℕ) → length (mixed p v a b) ≡ length a + length a
   unfolding mixed
-  length-mixed v a b = length-two (table (length a) (sumAt p v a b)) (table (length a) (differenceAt p v a b)) (length-table (length a) _) (length-table (length a) _)
+  length-mixed v a b =
+      length-two (table (length a) (sumAt p v a b)) (table (length a) (differenceAt p v a b)) (length-table (length a) _) (length-table (length a) _)
 
   pub length-transform : (w k l : ℕ) (xs : List ℕ) → length xs ≡ 2 ^ l → length (transform p w k l xs) ≡ 2 ^ l
   unfolding transform
   length-transform w k zero xs e = e
   length-transform w k (suc l) xs e =
-      length-mixed (power p w (2 ^ k / 2 ^ l)) _ (transform p w k l (drop (2 ^ l) xs)) ∙ omega (arith, length-transform w k l (take (2 ^ l) xs) (take-half l xs e))
+      length-mixed (power p w (2 ^ k / 2 ^ l)) _ (transform p w k l (drop (2 ^ l) xs))
+      ∙ omega (arith, length-transform w k l (take (2 ^ l) xs) (take-half l xs e))
 
   pub length-unmixed : (v m : ℕ) (c : List ℕ) → length (unmixed p v m c) ≡ m + m
   unfolding unmixed
@@ -78,7 +80,8 @@ module _ (p : ℕ) where
       let v = power p w (2 ^ k / 2 ^ l) in
       let d = unmixed p v (2 ^ l) c in
       length-halves l (untransform p w k l (take (2 ^ l) d)) (untransform p w k l (drop (2 ^ l) d))
-      (length-untransform w k l (take (2 ^ l) d) (take-half l d (length-unmixed-level v l c))) (length-untransform w k l (drop (2 ^ l) d) (drop-half l d (length-unmixed-level v l c)))
+      (length-untransform w k l (take (2 ^ l) d) (take-half l d (length-unmixed-level v l c)))
+      (length-untransform w k l (drop (2 ^ l) d) (drop-half l d (length-unmixed-level v l c)))
 
   pub length-scaled : (g : ℕ) (xs : List ℕ) → length (scaled p g xs) ≡ length xs
   unfolding scaled
@@ -120,9 +123,11 @@ module _ (p : ℕ) where
   unfolding mixed sumAt
   mixed-low v a b i h = table-low (length a) (length a) (sumAt p v a b) (differenceAt p v a b) i h
 
-  pub mixed-high : (v m : ℕ) (a b : List ℕ) (i : ℕ) → length a ≡ m → i < m → getD (mixed p v a b) (m + i) 0 ≡ minus p (getD a i 0) (times p (power p v i) (getD b i 0))
+  pub mixed-high : (v m : ℕ) (a b : List ℕ) (i : ℕ) → length a ≡ m → i < m
+      → getD (mixed p v a b) (m + i) 0 ≡ minus p (getD a i 0) (times p (power p v i) (getD b i 0))
   unfolding mixed differenceAt
-  mixed-high v m a b i e h = ap (λ (n : ℕ). getD (mixed p v a b) (n + i) 0) (sym e) ∙ table-high (length a) (length a) (sumAt p v a b) (differenceAt p v a b) i (omega arith)
+  mixed-high v m a b i e h =
+      ap (λ (n : ℕ). getD (mixed p v a b) (n + i) 0) (sym e) ∙ table-high (length a) (length a) (sumAt p v a b) (differenceAt p v a b) i (omega arith)
 
   pub unmixed-low : (v m : ℕ) (c : List ℕ) (i : ℕ) → i < m → getD (unmixed p v m c) i 0 ≡ plus p (getD c i 0) (getD c (m + i) 0)
   unfolding unmixed evenAt
@@ -142,14 +147,16 @@ module _ (p : ℕ) where
   unfolding turned
   turned-at w k t [] i h = absurd (omega arith)
   turned-at w k t (x ∷ xs) zero h = ap (λ (n : ℕ). times p (power p w (reversed k n)) x) (sym (add-zero t))
-  turned-at w k t (x ∷ xs) (suc i) h = turned-at w k (suc t) xs i (omega arith) ∙ ap (λ (n : ℕ). times p (power p w (reversed k n)) (getD xs i 0)) {x = suc t + i} {y = t + suc i} (omega arith)
+  turned-at w k t (x ∷ xs) (suc i) h =
+      turned-at w k (suc t) xs i (omega arith) ∙ ap (λ (n : ℕ). times p (power p w (reversed k n)) (getD xs i 0)) {x = suc t + i} {y = t + suc i} (omega arith)
 
 -- words of the field
 module _ (p : ℕ) (h : 0 < p) where
   pub words-mixed : (v : ℕ) (a b : List ℕ) → Words p (mixed p v a b)
   unfolding mixed sumAt differenceAt
   words-mixed v a b =
-      words-append p h {a = table (length a) (sumAt p v a b)} (words-table p h (length a) (sumAt p v a b) (λ i _. plus-lt p h _ _)) (words-table p h (length a) (differenceAt p v a b) (λ i _. minus-lt p h _ _))
+      words-append p h {a = table (length a) (sumAt p v a b)} (words-table p h (length a) (sumAt p v a b) (λ i _. plus-lt p h _ _))
+      (words-table p h (length a) (differenceAt p v a b) (λ i _. minus-lt p h _ _))
 
   pub words-transform : (w k l : ℕ) {xs : List ℕ} → Words p xs → Words p (transform p w k l xs)
   unfolding transform
@@ -159,7 +166,8 @@ module _ (p : ℕ) (h : 0 < p) where
   pub words-unmixed : (v m : ℕ) (c : List ℕ) → Words p (unmixed p v m c)
   unfolding unmixed evenAt oddAt
   words-unmixed v m c =
-      words-append p h {a = table m (evenAt p m c)} (words-table p h m (evenAt p m c) (λ i _. plus-lt p h _ _)) (words-table p h m (oddAt p v m c) (λ i _. times-lt p h _ _))
+      words-append p h {a = table m (evenAt p m c)} (words-table p h m (evenAt p m c) (λ i _. plus-lt p h _ _))
+      (words-table p h m (oddAt p v m c) (λ i _. times-lt p h _ _))
 
   pub words-untransform : (w k l : ℕ) {c : List ℕ} → Words p c → Words p (untransform p w k l c)
   unfolding untransform
@@ -167,7 +175,8 @@ module _ (p : ℕ) (h : 0 < p) where
   words-untransform w k (suc l) {c} u =
       let d = unmixed p (power p w (2 ^ k / 2 ^ l)) (2 ^ l) c in
       let t : Words p d = words-unmixed _ _ _ in
-      words-append p h {a = untransform p w k l (take (2 ^ l) d)} (words-untransform w k l (words-take p h (2 ^ l) t)) (words-untransform w k l (words-drop p h (2 ^ l) t))
+      words-append p h {a = untransform p w k l (take (2 ^ l) d)} (words-untransform w k l (words-take p h (2 ^ l) t))
+      (words-untransform w k l (words-drop p h (2 ^ l) t))
 
   pub words-scaled : (g : ℕ) (xs : List ℕ) → Words p (scaled p g xs)
   unfolding scaled

@@ -18,7 +18,8 @@ module _ (to width from stride count : ℕ) (l : List ℕ) where
   pub length-copied : (n : ℕ) (o : List ℕ) → length (copiedRows to width from stride count l n o) ≡ length o
   unfolding copiedRows
   length-copied zero o = refl
-  length-copied (suc n) o = length-stored (to + n * width) (wordFrom l (from + n * stride)) count (copiedRows to width from stride count l n o) ∙ length-copied n o
+  length-copied (suc n) o =
+      length-stored (to + n * width) (wordFrom l (from + n * stride)) count (copiedRows to width from stride count l n o) ∙ length-copied n o
 
   -- THE LOOP after i of its rows
   pub record Copying (rows : ℕ) (out₀ out : List ℕ) (x y i : ℕ) : Type 0 where
@@ -30,10 +31,12 @@ module _ (to width from stride count : ℕ) (l : List ℕ) where
 
   pub copying-start : (rows : ℕ) (o : List ℕ) → Copying rows o o from to 0
   unfolding copiedRows
-  copying-start rows o = record { turns = omega arith; same = refl; source = omega (arith, zero-mul stride); target = omega (arith, zero-mul width); now = refl }
+  copying-start rows o =
+      record { turns = omega arith; same = refl; source = omega (arith, zero-mul stride); target = omega (arith, zero-mul width); now = refl }
 
 module _ {to width from stride count : ℕ} {l : List ℕ} {rows : ℕ} {o₀ o : List ℕ} {x y i : ℕ} (h : Copying to width from stride count l rows o₀ o x y i) where
-  pub copying-turn : {o′ : List ℕ} → i < rows → o′ ≡ stored y (wordFrom l x) count o → Copying to width from stride count l rows o₀ o′ (x + stride) (y + width) (i + 1)
+  pub copying-turn : {o′ : List ℕ} → i < rows → o′ ≡ stored y (wordFrom l x) count o
+      → Copying to width from stride count l rows o₀ o′ (x + stride) (y + width) (i + 1)
   unfolding copiedRows
   copying-turn {o′} b e = record {
     turns = omega arith;
@@ -70,8 +73,10 @@ pub copied-same : (to width from stride from′ stride′ count : ℕ) (l l′ :
 unfolding copiedRows wordFrom
 copied-same to width from stride from′ stride′ count l l′ zero o e = refl
 copied-same to width from stride from′ stride′ count l l′ (suc n) o e =
-    stored-same (to + n * width) (wordFrom l (from + n * stride)) (wordFrom l′ (from′ + n * stride′)) count (copiedRows to width from stride count l n o) (λ j b. e n j (omega arith) b)
-    ∙ ap (stored (to + n * width) (wordFrom l′ (from′ + n * stride′)) count) (copied-same to width from stride from′ stride′ count l l′ n o (λ i j b. e i j (omega arith)))
+    stored-same (to + n * width) (wordFrom l (from + n * stride)) (wordFrom l′ (from′ + n * stride′)) count (copiedRows to width from stride count l n o)
+    (λ j b. e n j (omega arith) b)
+    ∙ ap (stored (to + n * width) (wordFrom l′ (from′ + n * stride′)) count)
+    (copied-same to width from stride from′ stride′ count l l′ n o (λ i j b. e i j (omega arith)))
 
 -- WHERE EACH WORD STANDS afterwards
 module _ (to width from stride count : ℕ) (l : List ℕ) (fits : to + count ≤ width) where
@@ -82,20 +87,26 @@ module _ (to width from stride count : ℕ) (l : List ℕ) (fits : to + count �
   copied-at (suc n) o h i j a b = at (decLt i n) (copied-at n o (omega arith) i j)
     where
       at : Dec (i < n) → (i < n → j < count → getD (copiedRows to width from stride count l n o) (i * width + (to + j)) 0 ≡ getD l (from + i * stride + j) 0)
-          → getD (stored (to + n * width) (wordFrom l (from + n * stride)) count (copiedRows to width from stride count l n o)) (i * width + (to + j)) 0 ≡ getD l (from + i * stride + j) 0
+          → getD (stored (to + n * width) (wordFrom l (from + n * stride)) count (copiedRows to width from stride count l n o))
+          (i * width + (to + j)) 0 ≡ getD l (from + i * stride + j) 0
       at (yes y) rest =
-          stored-before (to + n * width) (wordFrom l (from + n * stride)) count (copiedRows to width from stride count l n o) (i * width + (to + j)) (omega (arith, mul-le-mul-right width y))
+          stored-before (to + n * width) (wordFrom l (from + n * stride)) count (copiedRows to width from stride count l n o) (i * width + (to + j))
+          (omega (arith, mul-le-mul-right width y))
           ∙ rest y b
       at (no y) rest =
           let e : i ≡ n = omega arith in
           rw e
-          (ap (λ (x : ℕ). getD (stored (to + n * width) (wordFrom l (from + n * stride)) count (copiedRows to width from stride count l n o)) x 0) {x = n * width + (to + j)} {y = to + n * width + j} (omega arith)
-          ∙ stored-at (to + n * width) (wordFrom l (from + n * stride)) count (copiedRows to width from stride count l n o) j (omega (arith, length-copied to width from stride count l n o)) b)
+          (ap (λ (x : ℕ). getD (stored (to + n * width) (wordFrom l (from + n * stride)) count (copiedRows to width from stride count l n o)) x 0) {x =
+          n * width + (to + j)} {y = to + n * width + j} (omega arith)
+          ∙ stored-at (to + n * width) (wordFrom l (from + n * stride)) count (copiedRows to width from stride count l n o) j
+          (omega (arith, length-copied to width from stride count l n o)) b)
 
   -- the other columns, and the words behind the rows, are as they were
-  pub copied-off : (n : ℕ) (o : List ℕ) (k : ℕ) → ((i j : ℕ) → i < n → j < count → k ≢ i * width + (to + j)) → getD (copiedRows to width from stride count l n o) k 0 ≡ getD o k 0
+  pub copied-off : (n : ℕ) (o : List ℕ) (k : ℕ) → ((i j : ℕ) → i < n → j < count → k ≢ i * width + (to + j))
+      → getD (copiedRows to width from stride count l n o) k 0 ≡ getD o k 0
   unfolding copiedRows
   copied-off zero o k d = refl
   copied-off (suc n) o k d =
-      stored-off (to + n * width) (wordFrom l (from + n * stride)) count (copiedRows to width from stride count l n o) k (λ j b e. d n j (omega arith) b (omega arith))
+      stored-off (to + n * width) (wordFrom l (from + n * stride)) count (copiedRows to width from stride count l n o) k
+      (λ j b e. d n j (omega arith) b (omega arith))
       ∙ copied-off n o k (λ i j a. d i j (omega arith))

@@ -59,8 +59,11 @@ module _ (st : Stripe) (ms : List Bool) (r : List ℕ) where
     pub full-nine : (n ≡ 0 → ⊥) → (n ≡ decodedNumber (solved st ms r)) × (o ≡ decodedWords (solved st ms r) (blockWords st))
     full-nine d =
         let c : isConsistent st ms r ≡ false = none-differs (isConsistent st ms r) (arePlaces st ms r) (λ z. d (e ∙ z)) in
-        let s = solved-nine st ms r c in
-        (e ∙ columns-fail 0 (arePlaces st ms r) c ∙ sym (ap decodedNumber s), q ∙ if-refused _ _ (λ z. d (e ∙ z)) ∙ ap (λ (m : ℕ). replicate m 0) whole-words ∙ sym (ap (λ (x : Decoded). decodedWords x (blockWords st)) s))
+        let s = solved-nine st ms r c in (
+          e ∙ columns-fail 0 (arePlaces st ms r) c ∙ sym (ap decodedNumber s),
+          q ∙ if-refused _ _ (λ z. d (e ∙ z)) ∙ ap (λ (m : ℕ). replicate m 0) whole-words
+              ∙ sym (ap (λ (x : Decoded). decodedWords x (blockWords st)) s),
+        )
 
     pub full-agrees : n ≡ 0 → isConsistent st ms r ≡ true
     full-agrees z = zero-agrees 0 (isConsistent st ms r) (arePlaces st ms r) (sym e ∙ z)
@@ -72,14 +75,21 @@ module _ (st : Stripe) (ms : List Bool) (r : List ℕ) where
       → (0 ≡ decodedNumber (solved st ms r)) × (o ≡ decodedWords (solved st ms r) (blockWords st))
   blocks-given c q a =
       let s = solved-blocks st ms r c (ap (λ (x : List ℕ). areRecords st x (blockCount st)) (sym q) ∙ a) in
-      let n : blockWords st - length (blocksIn st ms r) ≡ 0 = omega (arith, length-blocks st ms r) in
-      (sym (ap decodedNumber s), q ∙ sym (append-nil (blocksIn st ms r)) ∙ ap (λ (m : ℕ). blocksIn st ms r ++ replicate m 0) (sym n) ∙ sym (ap (λ (x : Decoded). decodedWords x (blockWords st)) s))
+      let n : blockWords st - length (blocksIn st ms r) ≡ 0 = omega (arith, length-blocks st ms r) in (
+        sym (ap decodedNumber s),
+        q ∙ sym (append-nil (blocksIn st ms r)) ∙ ap (λ (m : ℕ). blocksIn st ms r ++ replicate m 0) (sym n)
+            ∙ sym (ap (λ (x : Decoded). decodedWords x (blockWords st)) s),
+      )
 
-  pub blocks-refused : isConsistent st ms r ≡ true → {o z : List ℕ} → o ≡ blocksIn st ms r → areRecords st o (blockCount st) ≡ false → z ≡ replicate (length o) 0
+  pub blocks-refused : isConsistent st ms r ≡ true → {o z : List ℕ} → o ≡ blocksIn st ms r → areRecords st o (blockCount st) ≡ false
+      → z ≡ replicate (length o) 0
       → (10 ≡ decodedNumber (solved st ms r)) × (z ≡ decodedWords (solved st ms r) (blockWords st))
   blocks-refused c q a e =
-      let s = solved-ten st ms r c (ap (λ (x : List ℕ). areRecords st x (blockCount st)) (sym q) ∙ a) in
-      (sym (ap decodedNumber s), e ∙ ap (λ (m : ℕ). replicate m 0) (ap length q ∙ length-blocks st ms r) ∙ sym (ap (λ (x : Decoded). decodedWords x (blockWords st)) s))
+      let s = solved-ten st ms r c (ap (λ (x : List ℕ). areRecords st x (blockCount st)) (sym q) ∙ a) in (
+        sym (ap decodedNumber s),
+        e ∙ ap (λ (m : ℕ). replicate m 0) (ap length q ∙ length-blocks st ms r)
+            ∙ sym (ap (λ (x : Decoded). decodedWords x (blockWords st)) s),
+      )
 
 -- ON THE FULL STRIPE numbers are places, so that the records are what is left to test
 shuffle : (a b c d : Bool) → ((a && b) && (c && d)) ≡ ((a && c) && (d && b))
@@ -88,7 +98,8 @@ shuffle true false c d = rw (and-false d, and-false c)
 shuffle false b c d = refl
 
 module _ (st : Stripe) (full : st .level ≡ st .k) (thick : 0 < st .width) (bs : List ℕ) where
-  pub data-row : (n : ℕ) → suc n * st .width ≤ length bs → columnsOf (st .width) 1 (pred (st .width)) (suc n) bs ≡ columnsOf (st .width) 1 (pred (st .width)) n bs ++ blockData (st .width) bs n
+  pub data-row : (n : ℕ) → suc n * st .width ≤ length bs
+      → columnsOf (st .width) 1 (pred (st .width)) (suc n) bs ≡ columnsOf (st .width) 1 (pred (st .width)) n bs ++ blockData (st .width) bs n
   data-row n b = rw (← add-one (n * st .width)) (columns-row (st .width) 1 (pred (st .width)) n bs (omega arith))
 
   module _ (n : ℕ) (b : n * st .width ≤ length bs) where
@@ -114,7 +125,8 @@ module _ (st : Stripe) (full : st .level ≡ st .k) (thick : 0 < st .width) (bs 
     records-full zero h = refl
     records-full (suc m) h =
         rw (number-full st m (blockNumber (st .width) bs m) full, records-full m (omega arith), record-is m (omega arith))
-        (shuffle (eqb (blockNumber (st .width) bs m) m) (areData (blockData (st .width) bs m)) (placesTo (st .width) bs m) (recordsFit (pred (st .width)) records m))
+        (shuffle (eqb (blockNumber (st .width) bs m) m) (areData (blockData (st .width) bs m)) (placesTo (st .width) bs m)
+        (recordsFit (pred (st .width)) records m))
 
 -- THE RECORDS: the first column skipped
 module _ (st : Stripe) (ms : List Bool) (r : List ℕ) (full : st .level ≡ st .k) (thick : 0 < st .width) where
@@ -143,12 +155,18 @@ module _ (st : Stripe) (ms : List Bool) (r : List ℕ) (full : st .level ≡ st 
         zeros : o ≡ replicate (blockCount st * pred (st .width)) 0
         zeros = q ∙ if-refused _ _ (λ z. d (e ∙ z)) ∙ ap (λ (w : ℕ). replicate (blockCount st * w) 0) less
 
-        by : (c : Bool) → isConsistent st ms r ≡ c → (b : Bool) → arePlaces st ms r ≡ b → (n ≡ decodedNumber (solved st ms r)) × (o ≡ decodedData st (solved st ms r))
-        by false c b p = let s = solved-nine st ms r c in (e ∙ columns-fail 1 (arePlaces st ms r) c ∙ sym (ap decodedNumber s), zeros ∙ sym (ap (decodedData st) s))
-        by true c true p = absurd (d (e ∙ columns-agree 1 (arePlaces st ms r) c ∙ places-skipped 1 (arePlaces st ms r) (λ z. omega arith) ∙ ap (λ (x : Bool). elim x [ true ↦ 0 | false ↦ 10 ]) p))
+        by : (c : Bool) → isConsistent st ms r ≡ c → (b : Bool) → arePlaces st ms r ≡ b
+            → (n ≡ decodedNumber (solved st ms r)) × (o ≡ decodedData st (solved st ms r))
+        by false c b p =
+            let s = solved-nine st ms r c in (e ∙ columns-fail 1 (arePlaces st ms r) c ∙ sym (ap decodedNumber s), zeros ∙ sym (ap (decodedData st) s))
+        by true c true p = absurd (d (e ∙ columns-agree 1 (arePlaces st ms r) c ∙ places-skipped 1 (arePlaces st ms r) (λ z. omega arith)
+            ∙ ap (λ (x : Bool). elim x [ true ↦ 0 | false ↦ 10 ]) p))
         by true c false p =
-            let s = solved-ten st ms r c (tests ∙ first-false (fitting (dataOf st bs)) p) in
-            (e ∙ columns-agree 1 (arePlaces st ms r) c ∙ places-skipped 1 (arePlaces st ms r) (λ z. omega arith) ∙ ap (λ (x : Bool). elim x [ true ↦ 0 | false ↦ 10 ]) p ∙ sym (ap decodedNumber s), zeros ∙ sym (ap (decodedData st) s))
+            let s = solved-ten st ms r c (tests ∙ first-false (fitting (dataOf st bs)) p) in (
+              e ∙ columns-agree 1 (arePlaces st ms r) c ∙ places-skipped 1 (arePlaces st ms r) (λ z. omega arith)
+                  ∙ ap (λ (x : Bool). elim x [ true ↦ 0 | false ↦ 10 ]) p ∙ sym (ap decodedNumber s),
+              zeros ∙ sym (ap (decodedData st) s),
+            )
 
     module _ (z : n ≡ 0) where
       agrees : isConsistent st ms r ≡ true
@@ -159,7 +177,11 @@ module _ (st : Stripe) (ms : List Bool) (r : List ℕ) (full : st .level ≡ st 
         where
           by : (b : Bool) → arePlaces st ms r ≡ b → b ≡ true
           by true p = refl
-          by false p = absurd (omega (arith, sym z ∙ e ∙ columns-agree 1 (arePlaces st ms r) agrees ∙ places-skipped 1 (arePlaces st ms r) (λ y. omega arith) ∙ ap (λ (x : Bool). elim x [ true ↦ 0 | false ↦ 10 ]) p))
+          by false p = absurd (omega (
+            arith,
+            sym z ∙ e ∙ columns-agree 1 (arePlaces st ms r) agrees ∙ places-skipped 1 (arePlaces st ms r) (λ y. omega arith)
+                ∙ ap (λ (x : Bool). elim x [ true ↦ 0 | false ↦ 10 ]) p,
+          ))
 
       data-are : o ≡ dataOf st bs
       data-are = q ∙ if-taken _ _ (sym e ∙ z) ∙ ap (λ (w : ℕ). columnsOf (st .width) 1 w (blockCount st) bs) less
@@ -169,7 +191,8 @@ module _ (st : Stripe) (ms : List Bool) (r : List ℕ) (full : st .level ≡ st 
           let s = solved-blocks st ms r agrees (tests ∙ both-true places (ap fitting (sym data-are) ∙ a)) in
           (sym (ap decodedNumber s), data-are ∙ sym (ap (decodedData st) s))
 
-      pub data-wrong : fitting o ≡ false → {y : List ℕ} → y ≡ replicate (length o) 0 → length o ≡ blockCount st * pred (st .width) → (10 ≡ decodedNumber (solved st ms r)) × (y ≡ decodedData st (solved st ms r))
+      pub data-wrong : fitting o ≡ false → {y : List ℕ} → y ≡ replicate (length o) 0 → length o ≡ blockCount st * pred (st .width)
+          → (10 ≡ decodedNumber (solved st ms r)) × (y ≡ decodedData st (solved st ms r))
       data-wrong a t l =
           let s = solved-ten st ms r agrees (tests ∙ second-false (arePlaces st ms r) (ap fitting (sym data-are) ∙ a)) in
           (sym (ap decodedNumber s), t ∙ ap (λ (m : ℕ). replicate m 0) l ∙ sym (ap (decodedData st) s))

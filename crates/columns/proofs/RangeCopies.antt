@@ -64,13 +64,15 @@ module _ (from skip cols w : ℕ) (l : List ℕ) (n : ℕ) (o : List ℕ) where
 -- A RANGE OF THE BLOCKS at the start of x: its words are the blocks', and so are its numbers if it is the first
 module _ (w from cols n : ℕ) (x bs : List ℕ) (e : take (n * cols) x ≡ columnsOf w from cols n bs) where
   range-word : (i j : ℕ) → i < n → j < cols → getD x (i * cols + j) 0 ≡ getD bs (i * w + (from + j)) 0
-  range-word i j a b = sym (getD-take (n * cols) x (i * cols + j) 0 (digits-lt a b)) ∙ ap (λ (l : List ℕ). getD l (i * cols + j) 0) e ∙ columns-at w from cols n bs i j a b
+  range-word i j a b =
+      sym (getD-take (n * cols) x (i * cols + j) 0 (digits-lt a b)) ∙ ap (λ (l : List ℕ). getD l (i * cols + j) 0) e ∙ columns-at w from cols n bs i j a b
 
   copied-range : (to cw g count : ℕ) (o : List ℕ) → from ≤ g → g + count ≤ from + cols
       → copiedRows to cw (g - from) cols count x n o ≡ copiedRows to cw g w count bs n o
   copied-range to cw g count o b t =
       copied-same to cw (g - from) cols g w count x bs n o
-      (λ i j a c. ap (λ (q : ℕ). getD x q 0) {x = g - from + i * cols + j} {y = i * cols + (g - from + j)} (omega arith) ∙ range-word i (g - from + j) a (omega arith)
+      (λ i j a c. ap (λ (q : ℕ). getD x q 0) {x = g - from + i * cols + j} {y = i * cols + (g - from + j)} (omega arith)
+      ∙ range-word i (g - from + j) a (omega arith)
       ∙ ap (λ (q : ℕ). getD bs q 0) {x = i * w + (from + (g - from + j))} {y = g + i * w + j} (omega arith))
 
   range-places : (skip : ℕ) → 0 < cols → rangeNumber from skip true (placesTo cols x n) ≡ rangeNumber from skip true (placesTo w bs n)
@@ -97,5 +99,6 @@ module _ (st : Stripe) (ms : List Bool) (r : List ℕ) (from cols skip : ℕ) (o
       × (o′ ≡ copiedRows (max from skip - skip) (st .width - skip) (max from skip) (st .width) (from + cols - max from skip) bs (blockCount st) o)
   range-taken {x} er ew ex f s c t q p = (
     q ∙ rw (ex, er, c) (range-places (st .width) from cols (blockCount st) x bs t skip (f .some)),
-    p ∙ rw (ex, er, ew) (copied-range (st .width) from cols (blockCount st) x bs t (max from skip - skip) (st .width - skip) (max from skip) (from + cols - max from skip) o (omega arith) (omega (arith, f .some))),
+    p ∙ rw (ex, er, ew) (copied-range (st .width) from cols (blockCount st) x bs t (max from skip - skip) (st .width - skip) (max from skip)
+        (from + cols - max from skip) o (omega arith) (omega (arith, f .some))),
   )

@@ -23,13 +23,16 @@ module _ (st : Stripe) (ms : List Bool) (r : List ℕ) (from cols : ℕ) where
 
   module _ {part : List ℕ} (q : part ≡ leftOf (narrow st cols) ms words ++ weightsIn st ms) where
     pub range-weights : drop (positionCount st * cols) part ≡ weightsIn st ms
-    range-weights = ap (drop (positionCount st * cols)) q ∙ drop-at (leftOf (narrow st cols) ms words) (weightsIn st ms) (positionCount st * cols) (length-left (narrow st cols) ms words)
+    range-weights = ap (drop (positionCount st * cols)) q
+        ∙ drop-at (leftOf (narrow st cols) ms words) (weightsIn st ms) (positionCount st * cols) (length-left (narrow st cols) ms words)
 
-    pub range-blocks : from + cols ≤ st .width → isConsistentRange st ms r from cols ≡ true → take (blockCount st * cols) part ≡ columnsOf (st .width) from cols (blockCount st) (blocksIn st ms r)
+    pub range-blocks : from + cols ≤ st .width → isConsistentRange st ms r from cols ≡ true
+        → take (blockCount st * cols) part ≡ columnsOf (st .width) from cols (blockCount st) (blocksIn st ms r)
     range-blocks fit c =
         let bs = blocksIn (narrow st cols) ms words in
         let zs : List ℕ = replicate (blockCount st * cols) 0 in
         let a : part ≡ bs ++ (zs ++ weightsIn st ms) =
-        q ∙ ap (λ (x : List ℕ). x ++ weightsIn st ms) (leaves-blocks (modulusOf st) (st .root) (st .k) (st .level) (st .first) cols ms words c) ∙ append-assoc bs zs (weightsIn st ms) in
+        q ∙ ap (λ (x : List ℕ). x ++ weightsIn st ms) (leaves-blocks (modulusOf st) (st .root) (st .k) (st .level) (st .first) cols ms words c)
+        ∙ append-assoc bs zs (weightsIn st ms) in
         ap (take (blockCount st * cols)) a ∙ take-at bs (zs ++ weightsIn st ms) (blockCount st * cols) (length-blocks (narrow st cols) ms words)
         ∙ decoded-range (modulusOf st) (st .root) (st .k) (st .level) (st .first) ms (st .width) r from cols fit

@@ -34,7 +34,8 @@ apart : (c i i′ j x : ℕ) → j < c → x < c → i * c + j ≡ i′ * c + x 
 apart c i i′ j x a b e = sym (digits-mod i a) ∙ ap (λ (q : ℕ). q % c) e ∙ digits-mod i′ b
 
 -- one range more
-module _ {w skip from n : ℕ} {bs o₀ o : List ℕ} (F : Filled w skip from n bs o₀ o) (cols : ℕ) (fits : from + cols ≤ w) (some : 0 < cols) (s : skip ≤ 1) (z : skip < w) (room : n * (w - skip) ≤ length o₀) where
+module _ {w skip from n : ℕ} {bs o₀ o : List ℕ} (F : Filled w skip from n bs o₀ o) (cols : ℕ) (fits : from + cols ≤ w) (some : 0 < cols) (s : skip ≤ 1)
+    (z : skip < w) (room : n * (w - skip) ≤ length o₀) where
   abbrev g : ℕ
   g = max from skip
 
@@ -58,10 +59,12 @@ module _ {w skip from n : ℕ} {bs o₀ o : List ℕ} (F : Filled w skip from n 
   filled-more {o′} e = rw e (record {
     same = length-copied (g - skip) (w - skip) g w (from + cols - g) bs n o ∙ F .same;
     filled = λ i j a b c. at i j a b c (decLt (skip + j) from);
-    rest = λ q b. copied-off (g - skip) (w - skip) g w (from + cols - g) bs inside n o q (λ i j a c t. let u : i * (w - skip) + (g - skip + j) < n * (w - skip) = digits-lt a (omega (arith, inside)) in omega arith) ∙ F .rest q b;
+    rest = λ q b. copied-off (g - skip) (w - skip) g w (from + cols - g) bs inside n o q
+        (λ i j a c t. let u : i * (w - skip) + (g - skip + j) < n * (w - skip) = digits-lt a (omega (arith, inside)) in omega arith) ∙ F .rest q b;
   })
 
-filled-all : {w skip n : ℕ} {bs o₀ o : List ℕ} → Filled w skip w n bs o₀ o → skip < w → n * (w - skip) ≤ length o₀ → o ≡ columnsOf w skip (w - skip) n bs ++ drop (n * (w - skip)) o₀
+filled-all : {w skip n : ℕ} {bs o₀ o : List ℕ} → Filled w skip w n bs o₀ o → skip < w → n * (w - skip) ≤ length o₀
+    → o ≡ columnsOf w skip (w - skip) n bs ++ drop (n * (w - skip)) o₀
 filled-all {w} {skip} {n} {bs} {o₀} {o} F z room =
     let m = n * (w - skip) in
     sym (take-append-drop m o)
@@ -72,12 +75,14 @@ filled-all {w} {skip} {n} {bs} {o₀} {o} F z room =
     (λ q b. getD-drop m o q 0 ∙ F .rest (m + q) (omega arith) ∙ sym (getD-drop m o₀ q 0)))
 
 -- a column that is not consistent makes all of them so
-less-consistent : (p w k l t width : ℕ) (ms : List Bool) (r : List ℕ) (i n : ℕ) → i ≤ n → consistentTo p w k l t width ms r i ≡ false → consistentTo p w k l t width ms r n ≡ false
+less-consistent : (p w k l t width : ℕ) (ms : List Bool) (r : List ℕ) (i n : ℕ) → i ≤ n → consistentTo p w k l t width ms r i ≡ false
+    → consistentTo p w k l t width ms r n ≡ false
 unfolding consistentTo
 less-consistent p w k l t width ms r i zero b e = let z : i ≡ 0 = omega arith in rw z at e
 less-consistent p w k l t width ms r i (suc n) b e = by (decLt n i) (less-consistent p w k l t width ms r i n)
   where
-    by : Dec (n < i) → (i ≤ n → consistentTo p w k l t width ms r i ≡ false → consistentTo p w k l t width ms r n ≡ false) → consistentTo p w k l t width ms r (suc n) ≡ false
+    by : Dec (n < i) → (i ≤ n → consistentTo p w k l t width ms r i ≡ false → consistentTo p w k l t width ms r n ≡ false)
+        → consistentTo p w k l t width ms r (suc n) ≡ false
     by (yes y) rest = let z : i ≡ suc n = omega arith in rw z at e
     by (no y) rest = second-false (consistentColumn p w k l t ms (column width (2 ^ suc l) n r)) (rest (omega arith) e)
 
@@ -130,9 +135,12 @@ module _ (st : Stripe) (ms : List Bool) (r : List ℕ) (skip : ℕ) (o₀ : List
 
   module _ {o s : List ℕ} {number from : ℕ} (R : Ranging o s number from) where
     -- a range that is taken
-    module _ {cols found : ℕ} {o′ : List ℕ} (s′ : List ℕ) (f : RangeFits st from cols) (skips : skip ≤ 1) (thin : skip < st .width) (room : blockCount st * (st .width - skip) ≤ length o₀)
+    module _ {cols found : ℕ} {o′ : List ℕ} (s′ : List ℕ) (f : RangeFits st from cols) (skips : skip ≤ 1) (thin : skip < st .width)
+        (room : blockCount st * (st .width - skip) ≤ length o₀)
         (e : found ≡ rangeNumber from skip (isConsistentRange st ms r from cols) arePlaces) (d : found ≡ 9 → ⊥)
-        (q : isConsistentRange st ms r from cols ≡ true → o′ ≡ copiedRows (max from skip - skip) (st .width - skip) (max from skip) (st .width) (from + cols - max from skip) (blocksIn st ms r) (blockCount st) o)
+        (q : isConsistentRange st ms r from cols ≡ true
+        → o′ ≡ copiedRows (max from skip - skip) (st .width - skip) (max from skip) (st .width) (from + cols - max from skip) (blocksIn st ms r)
+        (blockCount st) o)
         (same : length s′ ≡ length s) (w : drop (scratchWords st - positionCount st) s′ ≡ drop (scratchWords st - positionCount st) s) where
       fine : isConsistentRange st ms r from cols ≡ true
       fine = range-some from skip (isConsistentRange st ms r from cols) arePlaces (λ n. d (e ∙ n))
@@ -154,10 +162,12 @@ module _ (st : Stripe) (ms : List Bool) (r : List ℕ) (skip : ℕ) (o₀ : List
       ranging-later z n = keeps (λ _. n ∙ R .numbered (omega arith))
 
     -- a range that is not consistent
-    pub ranging-fails : {cols found : ℕ} → RangeFits st from cols → found ≡ rangeNumber from skip (isConsistentRange st ms r from cols) arePlaces → found ≡ 9 → isConsistent st ms r ≡ false
+    pub ranging-fails : {cols found : ℕ} → RangeFits st from cols → found ≡ rangeNumber from skip (isConsistentRange st ms r from cols) arePlaces → found ≡ 9
+        → isConsistent st ms r ≡ false
     ranging-fails {cols} f e n =
         less-consistent (modulusOf st) (st .root) (st .k) (st .level) (st .first) (st .width) ms (r) (from + cols) (st .width) (f .within)
-        (consistent-range (modulusOf st) (st .root) (st .k) (st .level) (st .first) ms (st .width) (r) from cols ∙ first-false (areConsistent from) (range-nine from skip (isConsistentRange st ms r from cols) arePlaces (sym e ∙ n)))
+        (consistent-range (modulusOf st) (st .root) (st .k) (st .level) (st .first) ms (st .width) (r) from cols
+        ∙ first-false (areConsistent from) (range-nine from skip (isConsistentRange st ms r from cols) arePlaces (sym e ∙ n)))
 
     -- all ranges
     module _ (last : st .width ≤ from) where
@@ -170,7 +180,8 @@ module _ (st : Stripe) (ms : List Bool) (r : List ℕ) (skip : ℕ) (o₀ : List
       pub ranging-number : 0 < st .width → number ≡ placesNumber skip arePlaces
       ranging-number z = R .numbered (omega arith)
 
-      pub ranging-rows : skip < st .width → blockCount st * (st .width - skip) ≤ length o₀ → o ≡ columnsOf (st .width) skip (st .width - skip) (blockCount st) (blocksIn st ms r) ++ drop (blockCount st * (st .width - skip)) o₀
+      pub ranging-rows : skip < st .width → blockCount st * (st .width - skip) ≤ length o₀
+          → o ≡ columnsOf (st .width) skip (st .width - skip) (blockCount st) (blocksIn st ms r) ++ drop (blockCount st * (st .width - skip)) o₀
       ranging-rows thin room = filled-all (rw all-from at (R .copied)) (omega arith) room
 
 -- the number of all columns

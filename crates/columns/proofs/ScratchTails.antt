@@ -51,12 +51,14 @@ module _ {l : List ℕ} {size start cols rows : ℕ} (T : Tail l size start cols
   tail-long = ap length tail-is ∙ length-drop start l ∙ omega (arith, T .long, T .begins)
 
   pub tail-weights : drop (rows * cols) (take (length l - start) (drop start l)) ≡ drop (size - rows) l
-  tail-weights = ap (drop (rows * cols)) tail-is ∙ drop-drop (rows * cols) start l ∙ ap (λ (n : ℕ). drop n l) {x = start + rows * cols} {y = size - rows} (omega (arith, T .begins))
+  tail-weights = ap (drop (rows * cols)) tail-is ∙ drop-drop (rows * cols) start l
+      ∙ ap (λ (n : ℕ). drop n l) {x = start + rows * cols} {y = size - rows} (omega (arith, T .begins))
 
   module _ (x : List ℕ) where
     -- the list once the words come back as x
     put-is : putMid start (length l - start) l x ≡ take start l ++ x
-    put-is = ap (λ (r : List ℕ). take start l ++ (x ++ r)) (drop-of-length-le (drop start l) {i = length l - start} (omega (arith, length-drop start l))) ∙ ap (λ (r : List ℕ). take start l ++ r) (append-nil x)
+    put-is = ap (λ (r : List ℕ). take start l ++ (x ++ r)) (drop-of-length-le (drop start l) {i = length l - start} (omega (arith, length-drop start l)))
+        ∙ ap (λ (r : List ℕ). take start l ++ r) (append-nil x)
 
     front-long : length (take start l) ≡ start
     front-long = length-take-le start l (omega (arith, T .long, T .begins))
@@ -64,13 +66,15 @@ module _ {l : List ℕ} {size start cols rows : ℕ} (T : Tail l size start cols
     put-tail : drop start (putMid start (length l - start) l x) ≡ x
     put-tail = ap (drop start) put-is ∙ drop-at (take start l) x start front-long
 
-    pub put-weights : drop (rows * cols) x ≡ drop (rows * cols) (take (length l - start) (drop start l)) → drop (size - rows) (putMid start (length l - start) l x) ≡ drop (size - rows) l
+    pub put-weights : drop (rows * cols) x ≡ drop (rows * cols) (take (length l - start) (drop start l))
+        → drop (size - rows) (putMid start (length l - start) l x) ≡ drop (size - rows) l
     put-weights e =
         ap (λ (n : ℕ). drop n (putMid start (length l - start) l x)) {x = size - rows} {y = start + rows * cols} (omega (arith, T .begins))
         ∙ sym (drop-drop (rows * cols) start (putMid start (length l - start) l x)) ∙ ap (drop (rows * cols)) put-tail ∙ e ∙ tail-weights
 
     -- the same words lent again
-    pub lent-again : length x ≡ length (take (length l - start) (drop start l)) → let l′ = putMid start (length l - start) l x in take (length l′ - start) (drop start l′) ≡ x
+    pub lent-again : length x ≡ length (take (length l - start) (drop start l)) → let l′ = putMid start (length l - start) l x in
+        take (length l′ - start) (drop start l′) ≡ x
     lent-again e =
         let l′ = putMid start (length l - start) l x in
         let n : length l′ ≡ start + length x = ap length put-is ∙ length-append (take start l) x ∙ ap (λ (m : ℕ). m + length x) front-long in

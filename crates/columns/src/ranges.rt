@@ -126,7 +126,8 @@ fn decode_range(
         (arePlaces st (now (marks .entry)) (rowsIn st (now (marks .entry)) (now (bytes .entry)))) ⌝ }
     ensures { λ _. ⌜ (isConsistentRange st (now (marks .entry)) (rowsIn st (now (marks .entry)) (now (bytes .entry))) (range .from) (range .cols) ≡ true →
         now (out .exit) ≡
-        rangeTaken st (now (marks .entry)) (rowsIn st (now (marks .entry)) (now (bytes .entry))) (range .from) (range .cols) (range .skip) (now (out .entry))) ⌝ }
+        rangeTaken st (now (marks .entry)) (rowsIn st (now (marks .entry)) (now (bytes .entry))) (range .from) (range .cols) (range .skip)
+        (now (out .entry))) ⌝ }
     ensures { λ _. ⌜ drop (scratchWords st - positionCount st) (now (scratch .exit)) ≡ drop (scratchWords st - positionCount st) (now (scratch .entry)) ⌝ }
 {
     let rows = code::number::two_to(st.level);

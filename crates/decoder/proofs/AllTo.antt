@@ -29,7 +29,8 @@ pub allTo-each : (n : ℕ) (f : ℕ → Bool) → allTo n f ≡ true → (i : �
 unfolding allTo
 allTo-each zero f e i h = absurd (omega arith)
 allTo-each (suc n) f e i h =
-    ⊎-elim (λ q. rw q (first-true (f n) (allTo n f) e)) (λ q. allTo-each n f (second-true (f n) (allTo n f) e) i q) (eq-or-lt-of-le {n = i} {m = n} (omega arith))
+    ⊎-elim (λ q. rw q (first-true (f n) (allTo n f) e)) (λ q. allTo-each n f (second-true (f n) (allTo n f) e) i q)
+    (eq-or-lt-of-le {n = i} {m = n} (omega arith))
 
 pub allTo-false : (n i : ℕ) (f : ℕ → Bool) → i < n → f i ≡ false → allTo n f ≡ false
 allTo-false n i f h e = ⊎-elim (λ t. t ∙ sym (allTo-each n f t i h) ∙ e) (λ q. q) (either (allTo n f))
@@ -44,7 +45,8 @@ pub allTo-swap : (n m : ℕ) (f : ℕ → ℕ → Bool) → allTo n (λ i. allTo
 allTo-swap n m f = same-truth (allTo n (λ i. allTo m (f i))) (allTo m (λ j. allTo n (λ i. f i j))) (swapped n m f) (swapped m n (λ j i. f i j))
   where
     swapped : (n m : ℕ) (f : ℕ → ℕ → Bool) → allTo n (λ i. allTo m (f i)) ≡ true → allTo m (λ j. allTo n (λ i. f i j)) ≡ true
-    swapped n m f e = allTo-all m (λ j. allTo n (λ i. f i j)) (λ j b. allTo-all n (λ i. f i j) (λ i a. allTo-each m (f i) (allTo-each n (λ i. allTo m (f i)) e i a) j b))
+    swapped n m f e =
+        allTo-all m (λ j. allTo n (λ i. f i j)) (λ j b. allTo-all n (λ i. f i j) (λ i a. allTo-each m (f i) (allTo-each n (λ i. allTo m (f i)) e i a) j b))
 
 pub or-allTo : (b : Bool) (n : ℕ) (f : ℕ → Bool) → b || allTo n f ≡ allTo n (λ j. b || f j)
 or-allTo true n f = sym (allTo-all n (λ j. true) (λ j h. refl))

@@ -32,7 +32,8 @@ reversed-parts (suc l) (suc n) k s j e b =
     let d : 2 ^ suc l * s ≡ 2 * (2 ^ l * s) = ap (λ (t : ℕ). t * s) (pow-succ' 2 l) ∙ mul-assoc 2 (2 ^ l) s in
     let f : n ≡ k + l = omega arith in
     reversed-suc n (2 ^ suc l * s + j)
-    ∙ ap₂ (λ (x y : ℕ). 2 ^ n * x + reversed n y) {x = (2 ^ suc l * s + j) % 2} {y = j % 2} {u = (2 ^ suc l * s + j) / 2} {v = 2 ^ l * s + j / 2} (omega arith) (omega arith)
+    ∙ ap₂ (λ (x y : ℕ). 2 ^ n * x + reversed n y) {x = (2 ^ suc l * s + j) % 2} {y = j % 2} {u = (2 ^ suc l * s + j) / 2} {v = 2 ^ l * s + j / 2} (omega arith)
+    (omega arith)
     ∙ ap (λ (x : ℕ). 2 ^ n * (j % 2) + x) (reversed-parts l n k s (j / 2) f (omega arith))
     ∙ omega (arith, ap (λ (x : ℕ). 2 ^ k * x) (reversed-suc l j), ap (λ (x : ℕ). x * (j % 2)) (ap (λ (x : ℕ). 2 ^ x) f ∙ pow-add 2 k l))
 
@@ -41,10 +42,12 @@ unfolding reversed
 reversed-one b = omega arith
 
 reversed-even : (l j : ℕ) → reversed (suc l) (2 * j) ≡ reversed l j
-reversed-even l j = reversed-suc l (2 * j) ∙ ap₂ (λ (x y : ℕ). 2 ^ l * x + reversed l y) {x = 2 * j % 2} {y = 0} {u = 2 * j / 2} {v = j} (omega arith) (omega arith) ∙ omega arith
+reversed-even l j = reversed-suc l (2 * j) ∙ ap₂ (λ (x y : ℕ). 2 ^ l * x + reversed l y) {x = 2 * j % 2} {y = 0} {u = 2 * j / 2} {v = j} (omega arith)
+    (omega arith) ∙ omega arith
 
 reversed-odd : (l j : ℕ) → reversed (suc l) (suc (2 * j)) ≡ 2 ^ l + reversed l j
-reversed-odd l j = reversed-suc l (suc (2 * j)) ∙ ap₂ (λ (x y : ℕ). 2 ^ l * x + reversed l y) {x = suc (2 * j) % 2} {y = 1} {u = suc (2 * j) / 2} {v = j} (omega arith) (omega arith) ∙ omega arith
+reversed-odd l j = reversed-suc l (suc (2 * j))
+    ∙ ap₂ (λ (x y : ℕ). 2 ^ l * x + reversed l y) {x = suc (2 * j) % 2} {y = 1} {u = suc (2 * j) / 2} {v = j} (omega arith) (omega arith) ∙ omega arith
 
 -- a bit above l others comes lowest
 reversed-top : (l b j : ℕ) → b < 2 → j < 2 ^ l → reversed (suc l) (2 ^ l * b + j) ≡ b + 2 * reversed l j
@@ -67,13 +70,19 @@ reversed-from k l t j b a h =
     let e : k ≡ k - l + l = omega arith in
     let f : t ≡ 2 ^ l * s = omega (arith, mod-add-div t (2 ^ l)) in
     ap (reversed k) {x = t + j} {y = 2 ^ l * s + j} (omega arith) ∙ reversed-parts l k (k - l) s j e h
-    ∙ omega (arith, ap (reversed k) {x = t} {y = 2 ^ l * s + 0} (omega arith), reversed-parts l k (k - l) s 0 e (pow-pos l), ap (λ (x : ℕ). 2 ^ (k - l) * x) (reversed-of-zero l))
+    ∙ omega (
+      arith,
+      ap (reversed k) {x = t} {y = 2 ^ l * s + 0} (omega arith),
+      reversed-parts l k (k - l) s 0 e (pow-pos l),
+      ap (λ (x : ℕ). 2 ^ (k - l) * x) (reversed-of-zero l),
+    )
 
 -- reversing twice
 pub reversed-twice : (l j : ℕ) → j < 2 ^ l → reversed l (reversed l j) ≡ j
 reversed-twice zero j h = reversed-zero (reversed zero j) ∙ omega arith
 reversed-twice (suc l) j h =
-    let e : reversed (suc l) (2 ^ l * (j % 2) + reversed l (j / 2)) ≡ j % 2 + 2 * reversed l (reversed l (j / 2)) = reversed-top l (j % 2) (reversed l (j / 2)) (mod-lt j (omega arith)) (reversed-lt l (j / 2)) in
+    let e : reversed (suc l) (2 ^ l * (j % 2) + reversed l (j / 2)) ≡ j % 2 + 2 * reversed l (reversed l (j / 2)) =
+    reversed-top l (j % 2) (reversed l (j / 2)) (mod-lt j (omega arith)) (reversed-lt l (j / 2)) in
     ap (reversed (suc l)) (reversed-suc l j) ∙ e ∙ omega (arith, reversed-twice l (j / 2) (omega arith))
 
 pub bitReversed-twice : (l : ℕ) (xs : List ℕ) → length xs ≡ 2 ^ l → bitReversed l (bitReversed l xs) ≡ xs
@@ -91,7 +100,8 @@ module _ (p : ℕ) (h : 0 < p) where
   horner-table zero f g g′ x e o = ring p h (v 0) (v 0 ⊕ v x ⊗ v 0) h h (omega arith)
   horner-table (suc n) f g g′ x e o =
       ap (λ (m : ℕ). horner p (table m f) x) {x = 2 * suc n} {y = suc (suc (2 * n))} (omega arith)
-      ∙ ap₂ (λ (a b : ℕ). plus p a (times p x (plus p b (times p x (horner p (table (2 * n) (λ k. f (suc (suc k)))) x))))) (e 0 (omega arith)) (o 0 (omega arith))
+      ∙ ap₂ (λ (a b : ℕ). plus p a (times p x (plus p b (times p x (horner p (table (2 * n) (λ k. f (suc (suc k)))) x))))) (e 0 (omega arith))
+      (o 0 (omega arith))
       ∙ ap (λ (t : ℕ). plus p (g 0) (times p x (plus p (g′ 0) (times p x t))))
       (horner-table n (λ k. f (suc (suc k))) (λ k. g (suc k)) (λ k. g′ (suc k)) x
       (λ j b. ap f {x = suc (suc (2 * j))} {y = 2 * suc j} (omega arith) ∙ e (suc j) (omega arith))
@@ -107,7 +117,8 @@ module _ (p : ℕ) (h : 0 < p) where
   unfolding bitReversed
   value-suc l xs x =
       ap (λ (m : ℕ). horner p (table m (λ j. getD xs (reversed (suc l) j) 0)) x) (pow-succ' 2 l)
-      ∙ horner-table (2 ^ l) (λ j. getD xs (reversed (suc l) j) 0) (λ j. getD (take (2 ^ l) xs) (reversed l j) 0) (λ j. getD (drop (2 ^ l) xs) (reversed l j) 0) x
+      ∙ horner-table (2 ^ l) (λ j. getD xs (reversed (suc l) j) 0) (λ j. getD (take (2 ^ l) xs) (reversed l j) 0)
+      (λ j. getD (drop (2 ^ l) xs) (reversed l j) 0) x
       (λ j b. ap (λ (i : ℕ). getD xs i 0) (reversed-even l j) ∙ sym (getD-take (2 ^ l) xs (reversed l j) 0 (reversed-lt l j)))
       (λ j b. ap (λ (i : ℕ). getD xs i 0) (reversed-odd l j) ∙ sym (getD-drop (2 ^ l) xs (reversed l j) 0))
 

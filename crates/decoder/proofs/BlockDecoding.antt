@@ -40,7 +40,8 @@ module _ (p w k l t width : ℕ) (ms : List Bool) (rows bs : List ℕ) (S : Para
   }
 
   each-found : Column p (2 ^ l * width) bs → AgreesRows ms (2 ^ suc l) width (codedRows p w k l t width bs) rows → (j : ℕ) → j < width
-      → (consistentColumn p w k l t ms (column width (2 ^ suc l) j rows) ≡ true) × (decodedColumn p w k l t ms (column width (2 ^ suc l) j rows) ≡ column width (2 ^ l) j bs)
+      → (consistentColumn p w k l t ms (column width (2 ^ suc l) j rows) ≡ true) ×
+      (decodedColumn p w k l t ms (column width (2 ^ suc l) j rows) ≡ column width (2 ^ l) j bs)
   each-found C A j b = findsColumn p w k l t ms (column width (2 ^ suc l) j rows) (column width (2 ^ l) j bs) S enough (column-of C j) (column-agrees A j b)
 
 each-codes : (p w k l t width : ℕ) (ms : List Bool) (rows : List ℕ) → Parameters p w k l t → Enough l ms → Column p (2 ^ suc l * width) rows
@@ -49,12 +50,14 @@ each-codes : (p w k l t width : ℕ) (ms : List Bool) (rows : List ℕ) → Para
     × Agrees ms (2 ^ suc l) (coded p w k l t (decodedColumn p w k l t ms (column width (2 ^ suc l) j rows))) (column width (2 ^ suc l) j rows)
 each-codes p w k l t width ms rows S enough C e j b =
     foundColumn p w k l t ms (column width (2 ^ suc l) j rows) S enough
-    (record { long = length-column width (2 ^ suc l) j rows; words = words-column p width (2 ^ suc l) j (C .words) }) (each-consistent p w k l t width ms rows e j b)
+    (record { long = length-column width (2 ^ suc l) j rows; words = words-column p width (2 ^ suc l) j (C .words) })
+    (each-consistent p w k l t width ms rows e j b)
 
 pub findsBlocks : FindsBlocks
 unfolding decodedRows
 findsBlocks p w k l t width ms rows bs S enough C long A = (
-  consistent-all p w k l t width ms rows width ∙ allTo-all width (test p w k l t width ms rows) (λ j b. each-found p w k l t width ms rows bs S enough C A j b .0),
+  consistent-all p w k l t width ms rows width
+      ∙ allTo-all width (test p w k l t width ms rows) (λ j b. each-found p w k l t width ms rows bs S enough C A j b .0),
   sym (is-lifted width (2 ^ suc l) (2 ^ l) (decodedColumn p w k l t ms) rows bs (C .long)
       (λ i j h b. sym (column-at width (2 ^ l) j bs i h) ∙ ap (λ (c : List ℕ). getD c i 0) (sym (each-found p w k l t width ms rows bs S enough C A j b .1)))),
 )
@@ -65,12 +68,14 @@ foundBlocks p w k l t width ms rows S enough C e =
     let f = decodedColumn p w k l t ms in (
       record {
         long = length-lifted width (2 ^ suc l) (2 ^ l) f rows;
-        words = words-lifted p width (2 ^ suc l) (2 ^ l) f rows (omega (arith, S .prime .big)) (λ j b. each-codes p w k l t width ms rows S enough C e j b .0 .words);
+        words = words-lifted p width (2 ^ suc l) (2 ^ l) f rows (omega (arith, S .prime .big))
+            (λ j b. each-codes p w k l t width ms rows S enough C e j b .0 .words);
       },
       record {
         same = λ i j h b m.
             lifted-at width (2 ^ l) (2 ^ suc l) (coded p w k l t) (lifted width (2 ^ suc l) (2 ^ l) f rows) i j h b
-            ∙ ap (λ (c : List ℕ). getD (coded p w k l t c) i 0) (column-lifted width (2 ^ suc l) (2 ^ l) f rows j b (each-codes p w k l t width ms rows S enough C e j b .0 .long))
+            ∙ ap (λ (c : List ℕ). getD (coded p w k l t c) i 0)
+            (column-lifted width (2 ^ suc l) (2 ^ l) f rows j b (each-codes p w k l t width ms rows S enough C e j b .0 .long))
             ∙ each-codes p w k l t width ms rows S enough C e j b .1 .same i h m ∙ column-at width (2 ^ suc l) j rows i h;
       },
     )

@@ -44,17 +44,21 @@ module _ (p : ℕ) (h : 0 < p) where
   unfolding euler horner table
   euler-table zero [] x l = refl
   euler-table (suc n) [] x l =
-      ap₂ (λ s t. times p x (plus p s t)) (horner-table n [] x (omega arith)) (euler-table n [] x (omega arith)) ∙ ring p h (v x ⊗ (v 0 ⊕ v 0)) (v 0) h h (omega arith)
+      ap₂ (λ s t. times p x (plus p s t)) (horner-table n [] x (omega arith)) (euler-table n [] x (omega arith))
+      ∙ ring p h (v x ⊗ (v 0 ⊕ v 0)) (v 0) h h (omega arith)
   euler-table zero (c ∷ cs) x l = absurd (omega arith)
   euler-table (suc n) (c ∷ cs) x l = ap₂ (λ s t. times p x (plus p s t)) (horner-table n cs x (omega arith)) (euler-table n cs x (omega arith))
 
   -- each coefficient times its place, counted from s
-  euler-from : (n s : ℕ) (f : ℕ → ℕ) (x : ℕ) → horner p (table n (λ j. times p (s + j) (f j))) x ≡ plus p (times p s (horner p (table n f) x)) (euler p (table n f) x)
+  euler-from : (n s : ℕ) (f : ℕ → ℕ) (x : ℕ)
+      → horner p (table n (λ j. times p (s + j) (f j))) x ≡ plus p (times p s (horner p (table n f) x)) (euler p (table n f) x)
   unfolding euler horner table
   euler-from zero s f x = ring p h (v 0) (v s ⊗ v 0 ⊕ v 0) h h (omega arith)
   euler-from (suc n) s f x =
       let f′ : ℕ → ℕ = λ j. f (suc j) in
-      ap₂ (λ a t. plus p (times p a (f 0)) (times p x (horner p t x))) (add-zero s) (same-table n (λ j. times p (s + suc j) (f′ j)) (λ j. times p (suc s + j) (f′ j)) (λ j _. ap (λ (i : ℕ). times p i (f′ j)) {x = s + suc j} {y = suc s + j} (omega arith)))
+      ap₂ (λ a t. plus p (times p a (f 0)) (times p x (horner p t x))) (add-zero s)
+      (same-table n (λ j. times p (s + suc j) (f′ j)) (λ j. times p (suc s + j) (f′ j))
+      (λ j _. ap (λ (i : ℕ). times p i (f′ j)) {x = s + suc j} {y = suc s + j} (omega arith)))
       ∙ ap (λ t. plus p (times p s (f 0)) (times p x t)) (euler-from n (suc s) f′ x)
       ∙ (let u = v (horner p (table n f′) x) in
       let e = v (euler p (table n f′) x) in
@@ -102,7 +106,8 @@ module _ (p : ℕ) (h : 0 < p) where
 
 -- a polynomial of n + m coefficients, cut at n
 module _ (p : ℕ) (h : 1 < p) where
-  horner-parts : (n m : ℕ) (f : ℕ → ℕ) (x : ℕ) → horner p (table (n + m) f) x ≡ plus p (horner p (table n f) x) (times p (power p x n) (horner p (table m (λ j. f (n + j))) x))
+  horner-parts : (n m : ℕ) (f : ℕ → ℕ) (x : ℕ)
+      → horner p (table (n + m) f) x ≡ plus p (horner p (table n f) x) (times p (power p x n) (horner p (table m (λ j. f (n + j))) x))
   unfolding horner table
   horner-parts zero m f x =
       let t = horner p (table m (λ j. f (0 + j))) x in
@@ -129,7 +134,8 @@ module _ (p : ℕ) (h : 1 < p) where
       horner-parts n n f x ∙ lin p o (s ⊕ v (power p x n) ⊗ t) (s ⊕ t) t (v (power p x n)) (v 1) (of-eq p e) o o (omega arith)
       ∙ sym (horner-plus p o n f (λ j. f (n + j)) x)
 
-  pub fold-minus : (n : ℕ) (f : ℕ → ℕ) (x : ℕ) → power p x n ≡ minus p 0 1 → horner p (table (n + n) f) x ≡ horner p (table n (λ j. minus p (f j) (f (n + j)))) x
+  pub fold-minus : (n : ℕ) (f : ℕ → ℕ) (x : ℕ) → power p x n ≡ minus p 0 1
+      → horner p (table (n + n) f) x ≡ horner p (table n (λ j. minus p (f j) (f (n + j)))) x
   fold-minus n f x e =
       let s = v (horner p (table n f) x) in
       let t = v (horner p (table n (λ j. f (n + j))) x) in

@@ -91,11 +91,13 @@ module _ (p w k l t : ℕ) (ms : List Bool) (c : List ℕ) (S : Parameters p w k
   found-value j m =
       ap (horner p (found p w k l t ms c)) (sym (point-is j m))
       ∙ interpolate-is p (S .prime) (map (pointAt p w k l) (firsts l ms)) (map (valueAt p w k l t c) (firsts l ms)) (long-points ∙ sym long-values)
-      (words-map p h (pointAt p w k l) (firsts l ms) (λ i n. point-lt p w k l (S .prime .big) (getD (firsts l ms) i 0))) words-values points-apart j (omega (arith, long-points))
+      (words-map p h (pointAt p w k l) (firsts l ms) (λ i n. point-lt p w k l (S .prime .big) (getD (firsts l ms) i 0))) words-values points-apart j
+      (omega (arith, long-points))
       ∙ getD-map (valueAt p w k l t c) (firsts l ms) j (omega (arith, long-firsts)) ∙ ap (valueAt p w k l t c) (first-is j m)
 
 -- a column that codes to the words at those positions is the one found
-decoded-same : (p w k l t : ℕ) (ms : List Bool) (c xs : List ℕ) → Parameters p w k l t → Enough l ms → Column p (2 ^ l) xs → Agrees ms (2 ^ suc l) (coded p w k l t xs) c
+decoded-same : (p w k l t : ℕ) (ms : List Bool) (c xs : List ℕ) → Parameters p w k l t → Enough l ms → Column p (2 ^ l) xs
+    → Agrees ms (2 ^ suc l) (coded p w k l t xs) c
     → decodedColumn p w k l t ms c ≡ xs
 decoded-same p w k l t ms c xs S E C A =
     decoded-is p w k l t ms c
@@ -131,5 +133,7 @@ findsColumn p w k l t ms c xs S E C A =
 pub foundColumn : FoundColumn
 unfolding consistentColumn
 foundColumn p w k l t ms c S E C e =
-    let h′ : 0 < p = omega (arith, S .root .odd) in
-    (rw decoded-is (column-reversed p h′ l (found p w k l t ms c) (found-column p w k l t ms c S E (λ j m. C .words .word _))), agrees-same ms (2 ^ suc l) _ c e)
+    let h′ : 0 < p = omega (arith, S .root .odd) in (
+      rw decoded-is (column-reversed p h′ l (found p w k l t ms c) (found-column p w k l t ms c S E (λ j m. C .words .word _))),
+      agrees-same ms (2 ^ suc l) _ c e,
+    )

@@ -25,7 +25,8 @@ use Rattle.decoder.proofs.Columns.{findsColumn, foundColumn}
 use Rattle.decoder.proofs.BlockDecoding.{consistent-all, each-consistent}
 use Rattle.decoder.proofs.Folding.{low-all}
 use Rattle.decoder.proofs.Decoder.{solves, low}
-use Rattle.decoder.proofs.DecoderShapes.{length-weighed, length-split, length-derived, length-evaluated, length-chosen, words-weighed, words-split, words-derived, words-evaluated, words-chosen}
+use Rattle.decoder.proofs.DecoderShapes.{length-weighed, length-split, length-derived, length-evaluated, length-chosen, words-weighed, words-split}
+use Rattle.decoder.proofs.DecoderShapes.{words-derived, words-evaluated, words-chosen}
 use Rattle.field.proofs.Booleans.{same-truth}
 use Rattle.decoder.proofs.AllTo.{allTo-same, allTo-swap, or-allTo}
 
@@ -48,10 +49,12 @@ module _ (p w k l t : ℕ) (ms : List Bool) (stripe : Parameters p w k l t) (eno
 low-columns : (l e width : ℕ) (r : List ℕ) → lowRows l e width r ≡ allTo width (λ j. isLow l e (column width (2 ^ suc l) j r))
 unfolding lowRowAt sameAt
 low-columns l e width r =
-    allTo-same (2 ^ l) (lowRowAt l e width r) (λ i. allTo width (test i)) (λ i h. or-allTo (ltb (reversed l i) e) width (sameAt (i * width) (2 ^ l * width + i * width) r))
+    allTo-same (2 ^ l) (lowRowAt l e width r) (λ i. allTo width (test i))
+    (λ i h. or-allTo (ltb (reversed l i) e) width (sameAt (i * width) (2 ^ l * width + i * width) r))
     ∙ allTo-swap (2 ^ l) width test
     ∙ allTo-same width (λ j. allTo (2 ^ l) (λ i. test i j)) (λ j. isLow l e (column width (2 ^ suc l) j r))
-    (λ j b. allTo-same (2 ^ l) (λ i. test i j) (of-column (column width (2 ^ suc l) j r)) (λ i h. same i j h) ∙ sym (low-all l e (2 ^ l) (column width (2 ^ suc l) j r)))
+    (λ j b. allTo-same (2 ^ l) (λ i. test i j) (of-column (column width (2 ^ suc l) j r)) (λ i h. same i j h)
+    ∙ sym (low-all l e (2 ^ l) (column width (2 ^ suc l) j r)))
   where
     test : ℕ → ℕ → Bool
     test i j = ltb (reversed l i) e || sameAt (i * width) (2 ^ l * width + i * width) r j
@@ -62,7 +65,8 @@ low-columns l e width r =
     same : (i j : ℕ) → i < 2 ^ l → test i j ≡ of-column (column width (2 ^ suc l) j r) i
     same i j h =
         ap₂ (λ (x y : ℕ). ltb (reversed l i) e || eqb x y) (sym (column-at width (2 ^ suc l) j r i (omega arith)))
-        (ap (λ (q : ℕ). getD r q 0) {x = 2 ^ l * width + i * width + j} {y = (2 ^ l + i) * width + j} (omega arith) ∙ sym (column-at width (2 ^ suc l) j r (2 ^ l + i) (omega arith)))
+        (ap (λ (q : ℕ). getD r q 0) {x = 2 ^ l * width + i * width + j} {y = (2 ^ l + i) * width + j} (omega arith)
+        ∙ sym (column-at width (2 ^ suc l) j r (2 ^ l + i) (omega arith)))
 
 -- WHAT DECODING LEAVES, by the check
 module _ (p w k l t width : ℕ) (ms : List Bool) (r : List ℕ) where
@@ -179,12 +183,14 @@ module _ {d : Decoding} {m n : ℕ} {rest : List ℕ} {f : List ℕ → List ℕ
     words-part u = rw (h .is) (words-append (d .p) (positive s) words-now u)
 
   -- a step more
-  next : {g : List ℕ → List ℕ} {x : List ℕ} → OnColumn (d .p) m g → x ≡ lifted (d .width) m m g (take n part) → Holds d m n rest (λ c. g (f c)) (x ++ drop n part)
+  next : {g : List ℕ → List ℕ} {x : List ℕ} → OnColumn (d .p) m g → x ≡ lifted (d .width) m m g (take n part)
+      → Holds d m n rest (λ c. g (f c)) (x ++ drop n part)
   next {g} o e = record {
     size = h .size;
     long = λ c. o .long (f c) (h .long c);
     words = λ c. o .words (h .words c);
-    is = ap₂ _++_ (e ∙ ap (lifted (d .width) m m g) (lent-front parts) ∙ lifted-then (d .width) (positionsOf d) m m f g (d .rows) (λ c _. h .long c)) (rest-is parts);
+    is = ap₂ _++_ (e ∙ ap (lifted (d .width) m m g) (lent-front parts) ∙ lifted-then (d .width) (positionsOf d) m m f g (d .rows) (λ c _. h .long c))
+        (rest-is parts);
   }
 
 module _ {d : Decoding} (s : Sound d) where
@@ -192,9 +198,11 @@ module _ {d : Decoding} (s : Sound d) where
   column-of j = record { long = length-column (d .width) (positionsOf d) j (d .rows); words = words-column (d .p) (d .width) (positionsOf d) j (s .words) }
 
   -- THE STEPS on all rows
-  pub after-weigh : (part : List ℕ) {n : ℕ} {x : List ℕ} → d .rows ≡ take (positionsOf d * d .width) part → drop (positionsOf d * d .width) part ≡ weightsOf d → n ≡ positionsOf d * d .width
+  pub after-weigh : (part : List ℕ) {n : ℕ} {x : List ℕ} → d .rows ≡ take (positionsOf d * d .width) part → drop (positionsOf d * d .width) part ≡ weightsOf d
+      → n ≡ positionsOf d * d .width
       → x
-      ≡ lifted (d .width) (positionsOf d) (positionsOf d) (weighed (d .p) (d .l) (d .marks) (drop (positionsOf d * d .width) part)) (take (positionsOf d * d .width) part)
+      ≡ lifted (d .width) (positionsOf d) (positionsOf d) (weighed (d .p) (d .l) (d .marks) (drop (positionsOf d * d .width) part))
+      (take (positionsOf d * d .width) part)
       ++ drop (positionsOf d * d .width) part → AllRows d n (weighedOf d) x
   after-weigh part er ew en e = record {
     size = en;
@@ -205,32 +213,38 @@ module _ {d : Decoding} (s : Sound d) where
 
   module _ {n : ℕ} {part x : List ℕ} where
     pub after-split : {back : ℕ} → AllRows d n (weighedOf d) part → back ≡ inverse (d .p) (d .w)
-        → x ≡ lifted (d .width) (positionsOf d) (positionsOf d) (Decoder.split (d .p) back (d .k) (d .l) (d .t)) (take n part) → AllRows d n (splitOf d) (x ++ drop n part)
+        → x ≡ lifted (d .width) (positionsOf d) (positionsOf d) (Decoder.split (d .p) back (d .k) (d .l) (d .t)) (take n part)
+        → AllRows d n (splitOf d) (x ++ drop n part)
     after-split h eb e =
         let w = inverse (d .p) (d .w) in
         next h (record { long = length-split (d .p) (d .l) w (d .k) (d .t); words = words-split (d .p) (positive s) (d .l) w (d .k) (d .t) })
         (e ∙ ap (λ (b : ℕ). lifted (d .width) (positionsOf d) (positionsOf d) (Decoder.split (d .p) b (d .k) (d .l) (d .t)) (take n part)) eb)
 
-    pub after-derive : AllRows d n (splitOf d) part → x ≡ lifted (d .width) (positionsOf d) (positionsOf d) (derived (d .p) (d .l)) (take n part) → AllRows d n (derivedOf d) (x ++ drop n part)
+    pub after-derive : AllRows d n (splitOf d) part → x ≡ lifted (d .width) (positionsOf d) (positionsOf d) (derived (d .p) (d .l)) (take n part)
+        → AllRows d n (derivedOf d) (x ++ drop n part)
     after-derive h = next h (record { long = length-derived (d .p) (d .l); words = words-derived (d .p) (positive s) (d .l) })
 
-    pub after-evaluate : AllRows d n (derivedOf d) part → x ≡ lifted (d .width) (positionsOf d) (positionsOf d) (evaluated (d .p) (d .w) (d .k) (d .l)) (take n part)
+    pub after-evaluate : AllRows d n (derivedOf d) part
+        → x ≡ lifted (d .width) (positionsOf d) (positionsOf d) (evaluated (d .p) (d .w) (d .k) (d .l)) (take n part)
         → AllRows d n (evaluatedOf d) (x ++ drop n part)
     after-evaluate h = next h (record { long = length-evaluated (d .p) (d .l) (d .w) (d .k); words = words-evaluated (d .p) (positive s) (d .l) (d .w) (d .k) })
 
     -- rows that do not pass the check are cleared
-    pub after-refusal : AllRows d n (splitOf d) part → isConsistent d ≡ false → x ≡ take 0 part ++ replicate (n - 0) 0 ++ drop n part → x ≡ leavesOf d ++ weightsOf d
+    pub after-refusal : AllRows d n (splitOf d) part → isConsistent d ≡ false → x ≡ take 0 part ++ replicate (n - 0) 0 ++ drop n part
+        → x ≡ leavesOf d ++ weightsOf d
     after-refusal h c e =
         e ∙ ap₂ (λ (i : ℕ) (y : List ℕ). replicate i 0 ++ y) {x = n - 0} {y = positionsOf d * d .width} (omega (arith, h .size)) (rest-is (parts h))
         ∙ ap (λ (y : List ℕ). y ++ weightsOf d) (sym (leaves-zeros (d .p) (d .w) (d .k) (d .l) (d .t) (d .width) (d .marks) (d .rows) c))
 
-  pub check-is : {n e : ℕ} {part : List ℕ} → AllRows d n (splitOf d) part → e ≡ erasedCount (d .l) (d .marks) → lowRows (d .l) e (d .width) (take n part) ≡ isConsistent d
+  pub check-is : {n e : ℕ} {part : List ℕ} → AllRows d n (splitOf d) part → e ≡ erasedCount (d .l) (d .marks)
+      → lowRows (d .l) e (d .width) (take n part) ≡ isConsistent d
   check-is h q =
       let e = erasedCount (d .l) (d .marks) in
       let y = lifted (d .width) (positionsOf d) (positionsOf d) (splitOf d) (d .rows) in
       let at : ℕ → List ℕ = λ j. column (d .width) (positionsOf d) j (d .rows) in
       ap₂ (λ (i : ℕ) (z : List ℕ). lowRows (d .l) i (d .width) z) q (lent-front (parts h)) ∙ low-columns (d .l) e (d .width) y
-      ∙ allTo-same (d .width) (λ j. isLow (d .l) e (column (d .width) (positionsOf d) j y)) (λ j. consistentColumn (d .p) (d .w) (d .k) (d .l) (d .t) (d .marks) (at j))
+      ∙ allTo-same (d .width) (λ j. isLow (d .l) e (column (d .width) (positionsOf d) j y))
+      (λ j. consistentColumn (d .p) (d .w) (d .k) (d .l) (d .t) (d .marks) (at j))
       (λ j b. ap (isLow (d .l) e) (column-lifted (d .width) (positionsOf d) (positionsOf d) (splitOf d) (d .rows) j b (h .long (at j)))
       ∙ low-consistent (d .p) (d .w) (d .k) (d .l) (d .t) (d .marks) (s .stripe) (s .enough) (at j) (column-of j))
       ∙ sym (consistent-all (d .p) (d .w) (d .k) (d .l) (d .t) (d .width) (d .marks) (d .rows) (d .width))
@@ -238,13 +252,16 @@ module _ {d : Decoding} (s : Sound d) where
   -- and on the first half
   pub after-choose : (i : ℕ) {n : ℕ} {part x : List ℕ} → AllRows d n (evaluatedOf d) part → i ≡ blocksOf d * d .width
       → x
-      ≡ lifted (d .width) (positionsOf d) (blocksOf d) (chosen (d .p) (d .w) (d .k) (d .l) (d .marks) (drop (positionsOf d * d .width) part)) (take (positionsOf d * d .width) part)
+      ≡ lifted (d .width) (positionsOf d) (blocksOf d) (chosen (d .p) (d .w) (d .k) (d .l) (d .marks) (drop (positionsOf d * d .width) part))
+      (take (positionsOf d * d .width) part)
       ++ drop (blocksOf d * d .width) part → HalfRows d i part (chosenOf d) x
   after-choose i {part = part} g ei e =
-      let q : lifted (d .width) (positionsOf d) (blocksOf d) (chosen (d .p) (d .w) (d .k) (d .l) (d .marks) (drop (positionsOf d * d .width) part)) (take (positionsOf d * d .width) part)
+      let q : lifted (d .width) (positionsOf d) (blocksOf d) (chosen (d .p) (d .w) (d .k) (d .l) (d .marks) (drop (positionsOf d * d .width) part))
+      (take (positionsOf d * d .width) part)
       ≡ lifted (d .width) (positionsOf d) (blocksOf d) (chosenOf d) (d .rows) =
       rw (← g .size, rest-is (parts g), lent-front (parts g))
-      (lifted-then (d .width) (positionsOf d) (positionsOf d) (blocksOf d) (evaluatedOf d) (chosen (d .p) (d .w) (d .k) (d .l) (d .marks) (weightsOf d)) (d .rows) (λ c _. g .long c)) in
+      (lifted-then (d .width) (positionsOf d) (positionsOf d) (blocksOf d) (evaluatedOf d) (chosen (d .p) (d .w) (d .k) (d .l) (d .marks) (weightsOf d))
+      (d .rows) (λ c _. g .long c)) in
       record {
         size = ei;
         long = λ c. length-chosen (d .p) (d .l) (d .w) (d .k) (d .marks) (weightsOf d) (evaluatedOf d c);
@@ -253,7 +270,8 @@ module _ {d : Decoding} (s : Sound d) where
       }
 
   pub after-solve : {i back : ℕ} {rest part x : List ℕ} → Holds d (blocksOf d) i rest (chosenOf d) part → back ≡ inverse (d .p) (d .w)
-      → x ≡ lifted (d .width) (blocksOf d) (blocksOf d) (untransform (d .p) back (d .k) (d .l)) (take i part) → Holds d (blocksOf d) i rest (solvedOf d) (x ++ drop i part)
+      → x ≡ lifted (d .width) (blocksOf d) (blocksOf d) (untransform (d .p) back (d .k) (d .l)) (take i part)
+      → Holds d (blocksOf d) i rest (solvedOf d) (x ++ drop i part)
   after-solve {i} {part = part} h eb e =
       let w = inverse (d .p) (d .w) in
       next h (record { long = length-untransform (d .p) w (d .k) (d .l); words = words-untransform (d .p) (positive s) w (d .k) (d .l) })
@@ -271,7 +289,13 @@ module _ {d : Decoding} (s : Sound d) where
       lifted-same (d .width) (positionsOf d) (blocksOf d) (solvedOf d) f (d .rows)
       (λ a b. found-solves (d .p) (d .w) (d .k) (d .l) (d .t) (d .marks) (s .stripe) (s .enough) (column (d .width) (positionsOf d) a (d .rows)) (column-of a)
       (each-consistent (d .p) (d .w) (d .k) (d .l) (d .t) (d .width) (d .marks) (d .rows) c a b) .1) in
-      e ∙ rw (lent-front (parts h), j, z, y) (ap (λ (q : List ℕ). q ++ weightsOf d) (sym (leaves-blocks (d .p) (d .w) (d .k) (d .l) (d .t) (d .width) (d .marks) (d .rows) c)))
+      e ∙ rw (
+        lent-front (parts h),
+        j,
+        z,
+        y,
+      ) (ap (λ (q : List ℕ). q ++ weightsOf d) (sym (leaves-blocks (d .p) (d .w) (d .k) (d .l) (d .t) (d .width) (d .marks) (d .rows) c)))
 
-pub length-half : {d : Decoding} {i : ℕ} {before part : List ℕ} {f g : List ℕ → List ℕ} → AllRows d (i + i) f before → HalfRows d i before g part → length part ≡ length before
+pub length-half : {d : Decoding} {i : ℕ} {before part : List ℕ} {f g : List ℕ → List ℕ} → AllRows d (i + i) f before → HalfRows d i before g part
+    → length part ≡ length before
 length-half {i = i} {before = before} h g = length-holds g ∙ ap (λ (j : ℕ). i + j) (length-drop i before) ∙ omega (arith, fits h)

@@ -41,13 +41,15 @@ module _ (p l width : ℕ) (r : List ℕ) (long : length r ≡ 2 ^ suc l * width
   unfolding deriveWord derivedAt
   derive-word a j h b =
       let x : getD (column width (2 ^ suc l) j r) a 0 ≡ getD r (a * width + j) 0 = column-at width (2 ^ suc l) j r a (omega arith) in
-      let y : getD (column width (2 ^ suc l) j r) (2 ^ l + a) 0 ≡ getD r ((2 ^ l + a) * width + j) 0 = column-at width (2 ^ suc l) j r (2 ^ l + a) (omega arith) in
+      let y : getD (column width (2 ^ suc l) j r) (2 ^ l + a) 0 ≡ getD r ((2 ^ l + a) * width + j) 0 =
+      column-at width (2 ^ suc l) j r (2 ^ l + a) (omega arith) in
       rw (digits-div a b, x, y, high-row)
 
   pub derive-rows : stored (2 ^ l * width) (deriveWord p l width r) (2 ^ l * width) r ≡ lifted width (2 ^ suc l) (2 ^ suc l) (derived p l) r
   derive-rows =
       let f = deriveWord p l width r in
-      is-lifted width (2 ^ suc l) (2 ^ suc l) (derived p l) r (stored (2 ^ l * width) f (2 ^ l * width) r) (length-stored (2 ^ l * width) f (2 ^ l * width) r ∙ long)
+      is-lifted width (2 ^ suc l) (2 ^ suc l) (derived p l) r (stored (2 ^ l * width) f (2 ^ l * width) r) (length-stored (2 ^ l * width) f (2 ^ l * width) r
+      ∙ long)
       (λ i j h b. word i j h b (decLt i (2 ^ l)))
     where
       word : (i j : ℕ) → i < 2 ^ suc l → j < width → Dec (i < 2 ^ l)
@@ -59,7 +61,8 @@ module _ (p l width : ℕ) (r : List ℕ) (long : length r ≡ 2 ^ suc l * width
           let a : ℕ = i - 2 ^ l in
           let e : 2 ^ l + a ≡ i = omega arith in
           rw (← e, high-row)
-          (stored-at (2 ^ l * width) (deriveWord p l width r) (2 ^ l * width) r (a * width + j) (omega (arith, long, two-halves l width)) (digits-lt (omega arith) b)
+          (stored-at (2 ^ l * width) (deriveWord p l width r) (2 ^ l * width) r (a * width + j) (omega (arith, long, two-halves l width))
+          (digits-lt (omega arith) b)
           ∙ derive-word a j (omega arith) b ∙ sym (derived-high p l (column width (2 ^ suc l) j r) a (length-column width (2 ^ suc l) j r) (omega arith)))
 
 -- STEP 5, word q of the first half; the weights stand behind the rows
@@ -83,7 +86,8 @@ module _ (p w k l width : ℕ) (ms : List Bool) (part : List ℕ) (long : 2 ^ su
       let y : getD c (2 ^ l + i) 0 ≡ getD part (2 ^ l * width + (i * width + j)) 0 =
       column-take width (2 ^ suc l) (2 ^ l + i) j part (omega arith) b ∙ ap (λ (q : ℕ). getD part q 0) (high-row l i width j) in
       rw (digits-div i b)
-      (ap₂ (λ (a e : ℕ). times p (inverse p (divisorAt p w k l ms (drop (2 ^ suc l * width) part) i)) (elim (getD ms i false) [ true ↦ e | false ↦ a ])) (sym x) (sym y)
+      (ap₂ (λ (a e : ℕ). times p (inverse p (divisorAt p w k l ms (drop (2 ^ suc l * width) part) i)) (elim (getD ms i false) [ true ↦ e | false ↦ a ])) (sym x)
+      (sym y)
       ∙ sym (chosen-at p l w k ms (drop (2 ^ suc l * width) part) c i h))
 
   pub choose-rows : stored 0 (chooseWord p w k l width ms part) (2 ^ l * width) part

@@ -23,22 +23,26 @@ use Rattle.field.proofs.WordLists.{getD-table, same-table, words-take, words-dr
 use Rattle.code.specs.Transform.{untransform, turned, scaled, reversed, bitReversed}
 use Rattle.code.specs.Stripe.{coded}
 use Rattle.decoder.specs.Decoding.{pointAt}
-use Rattle.decoder.specs.steps.Decoder.{erasedCount, weightTo, weightAt, weights, weighedAt, weighed, split, lowTo, derived, evaluated, divisorAt, chosenAt, chosen, splitColumn, solvedColumn, isLowColumn}
+use Rattle.decoder.specs.steps.Decoder.{erasedCount, weightTo, weightAt, weights, weighedAt, weighed, split, lowTo, derived, evaluated, divisorAt}
+use Rattle.decoder.specs.steps.Decoder.{chosenAt, chosen, splitColumn, solvedColumn, isLowColumn}
 use Rattle.decoder.specs.Promises.{Parameters, Enough, Agrees}
 use Rattle.code.specs.Rows.{Column}
 use Rattle.field.proofs.Booleans.{either}
-use Rattle.code.proofs.Shapes.{append-low, append-high, take-half, drop-half, length-untransform, length-bitReversed, length-scaled, column-reversed, column-scaled}
+use Rattle.code.proofs.Shapes.{append-low, append-high, take-half, drop-half, length-untransform, length-bitReversed, length-scaled, column-reversed}
+use Rattle.code.proofs.Shapes.{column-scaled}
 use Rattle.decoder.proofs.DecoderShapes.{length-weighed, words-weighed, weighed-at}
 use Rattle.decoder.proofs.BitReversal.{bitReversed-twice}
 use Rattle.decoder.proofs.Coefficients.{horner-table, euler-table, horner-scaled}
 use Rattle.decoder.proofs.Survivors.{count}
 use Rattle.decoder.proofs.Points.{by-halves, point-lt, point-positive, points-distinct}
 use Rattle.decoder.proofs.WeightLaws.{weight-lt, weight-nonzero}
-use Rattle.decoder.proofs.Products.{multiplied, spared-survivor, length-multiplied, multiplied-value, multiplied-root, multiplied-euler, Divided, divided}
+use Rattle.decoder.proofs.Products.{multiplied, spared-survivor, length-multiplied, multiplied-value, multiplied-root, multiplied-euler, Divided}
+use Rattle.decoder.proofs.Products.{divided}
 use Rattle.decoder.proofs.Values.{valuesX, valuesY}
 use Rattle.decoder.proofs.Inverse.{unscaled}
 use Rattle.decoder.proofs.Evaluation.{bitReversed-scaled, untransform-values, untransformed-value, untransformed-turned-value}
-use Rattle.decoder.proofs.Folding.{low-same, folded, split-is, low-is, evaluated-low, evaluated-high, unfolded, length-unfolded, unfolded-low, unfolded-high}
+use Rattle.decoder.proofs.Folding.{low-same, folded, split-is, low-is, evaluated-low, evaluated-high, unfolded, length-unfolded, unfolded-low}
+use Rattle.decoder.proofs.Folding.{unfolded-high}
 
 once : (p : ℕ) → 0 < p → (cs : List ℕ) (x : ℕ) → times p 1 (horner p cs x) ≡ horner p cs x
 once p h cs x = ring p h (v 1 ⊗ v (horner p cs x)) (v (horner p cs x)) h (horner-lt p h cs x) (omega arith)
@@ -73,7 +77,8 @@ module _ (p w k l : ℕ) (ms : List Bool) (c : List ℕ) where
       (either (getD ms i false))
 
 module _ (p w k l : ℕ) (ms : List Bool) (ws c : List ℕ) (i : ℕ) where
-  chosen-erased : getD ms i false ≡ true → chosenAt p w k l ms ws c i ≡ times p (inverse p (times p (times p (2 ^ l) (2 ^ l)) (times p (pointAt p w k l i) (getD ws i 0)))) (getD c (2 ^ l + i) 0)
+  chosen-erased : getD ms i false ≡ true
+      → chosenAt p w k l ms ws c i ≡ times p (inverse p (times p (times p (2 ^ l) (2 ^ l)) (times p (pointAt p w k l i) (getD ws i 0)))) (getD c (2 ^ l + i) 0)
   unfolding chosenAt divisorAt
   chosen-erased e = rw (e, chosenAt, divisorAt)
 
@@ -85,11 +90,13 @@ module _ (p w k l : ℕ) (ms : List Bool) (ws c : List ℕ) (i : ℕ) where
 zero-of : (p : ℕ) → 0 < p → (g g′ y m u : ℕ) → times p g g′ ≡ 1 → times p g y ≡ times p 2 (times p m u) → u ≡ 0 → y < p → y ≡ 0
 zero-of p h g g′ y m u e q z b =
     from p h
-    (fact (v 0 ⊖ v y) (v g ⊗ v g′) (v 1) (of-eq p e) (fact (v g′) (v g ⊗ v y) (v 2 ⊗ (v m ⊗ v u)) (of-eq p q) (fact (v 2 ⊗ v m ⊗ v g′) (v u) (v 0) (of-eq p z) none)))
+    (fact (v 0 ⊖ v y) (v g ⊗ v g′) (v 1) (of-eq p e)
+    (fact (v g′) (v g ⊗ v y) (v 2 ⊗ (v m ⊗ v u)) (of-eq p q) (fact (v 2 ⊗ v m ⊗ v g′) (v u) (v 0) (of-eq p z) none)))
     (v y) (v 0) b h (omega arith)
 
 -- and where it is the weight a (not 0) times y, and u is the word c times a, then y over 2M is the word
-word-of : (p : ℕ) → 0 < p → (g s y m a a′ c : ℕ) → times p g (times p a y) ≡ times p 2 (times p m (times p a c)) → times p a a′ ≡ 1 → times p s (times p 2 m) ≡ 1 → c < p
+word-of : (p : ℕ) → 0 < p → (g s y m a a′ c : ℕ) → times p g (times p a y) ≡ times p 2 (times p m (times p a c)) → times p a a′ ≡ 1
+    → times p s (times p 2 m) ≡ 1 → c < p
     → times p g (times p s y) ≡ c
 word-of p h g s y m a a′ c q e f b =
     from p h
@@ -98,15 +105,18 @@ word-of p h g s y m a a′ c q e f b =
     (v g ⊗ (v s ⊗ v y)) (v c) h b (omega arith)
 
 -- 5. over the divisor M * M * g, for M with the inverse i and g that is not 0
-divided-out : (p : ℕ) → Prime p → (m i g y : ℕ) → times p i m ≡ 1 → g < p → g ≢ 0 → times p (inverse p (times p (times p m m) g)) (times p m (times p g y)) ≡ times p i y
+divided-out : (p : ℕ) → Prime p → (m i g y : ℕ) → times p i m ≡ 1 → g < p → g ≢ 0
+    → times p (inverse p (times p (times p m m) g)) (times p m (times p g y)) ≡ times p i y
 divided-out p P m i g y e b z =
     let h : 0 < p = omega (arith, P .big) in
     let d = times p (times p m m) g in
     let d≢0 : d ≢ 0 = λ q.
-    z (from p h (fact (v 0 ⊖ (v i ⊗ v m ⊕ v 1) ⊗ v g) (v i ⊗ v m) (v 1) (of-eq p e) (fact (v i ⊗ v i) (v m ⊗ v m ⊗ v g) (v 0) (of-eq p q) none)) (v g) (v 0) b h (omega arith)) in
+    z (from p h (fact (v 0 ⊖ (v i ⊗ v m ⊕ v 1) ⊗ v g) (v i ⊗ v m) (v 1) (of-eq p e) (fact (v i ⊗ v i) (v m ⊗ v m ⊗ v g) (v 0) (of-eq p q) none)) (v g) (v 0) b h
+    (omega arith)) in
     let s = v (inverse p d) in
     from p h
-    (fact (v i ⊗ v y) (v m ⊗ v m ⊗ v g ⊗ s) (v 1) (of-eq p (inverse-is p P d (times-lt p h (times p m m) g) d≢0)) (fact (v 0 ⊖ s ⊗ (v m ⊗ (v g ⊗ v y))) (v i ⊗ v m) (v 1) (of-eq p e) none))
+    (fact (v i ⊗ v y) (v m ⊗ v m ⊗ v g ⊗ s) (v 1) (of-eq p (inverse-is p P d (times-lt p h (times p m m) g) d≢0))
+    (fact (v 0 ⊖ s ⊗ (v m ⊗ (v g ⊗ v y))) (v i ⊗ v m) (v 1) (of-eq p e) none))
     (s ⊗ (v m ⊗ (v g ⊗ v y))) (v i ⊗ v y) h h (omega arith)
 
 -- a column that codes to the surviving words
@@ -139,18 +149,22 @@ module _ (p w k l t : ℕ) (ms : List Bool) (c xs : List ℕ) (stripe : Paramete
       split-is p w k l t stripe f (weighed p l ms (weights p w k l ms) c) (length-weighed p l ms (weights p w k l ms) c)
       (λ i b.
       let x = pointAt p w k l i in
-      weighed-is p w k l ms c h P 1 i (omega arith) (λ e. sym (agrees .same i (omega arith) e) ∙ valuesX p w k l t xs i stripe column b ∙ sym (once p h P x)) ∙ once p h R x ∙ sym (value x))
+      weighed-is p w k l ms c h P 1 i (omega arith) (λ e. sym (agrees .same i (omega arith) e) ∙ valuesX p w k l t xs i stripe column b ∙ sym (once p h P x))
+      ∙ once p h R x ∙ sym (value x))
       (λ i b.
       let x = pointAt p w k l (2 ^ l + i) in
-      weighed-is p w k l ms c h P (power p w (reversed k t)) (2 ^ l + i) (omega arith) (λ e. sym (agrees .same (2 ^ l + i) (omega arith) e) ∙ valuesY p w k l t xs i stripe column b)
+      weighed-is p w k l ms c h P (power p w (reversed k t)) (2 ^ l + i) (omega arith) (λ e. sym (agrees .same (2 ^ l + i) (omega arith) e)
+      ∙ valuesY p w k l t xs i stripe column b)
       ∙ ap (times p (power p w (reversed k t))) (sym (value x)))
 
   is-low : isLowColumn p w k l t ms c ≡ true
-  is-low = ap (λ (d : List ℕ). lowTo l (erasedCount l ms) d (2 ^ l)) splits ∙ low-is p w k l t stripe f (erasedCount l ms) (λ j b. List·getD-eq-default R 0 (omega (arith, long)))
+  is-low = ap (λ (d : List ℕ). lowTo l (erasedCount l ms) d (2 ^ l)) splits
+      ∙ low-is p w k l t stripe f (erasedCount l ms) (λ j b. List·getD-eq-default R 0 (omega (arith, long)))
 
   -- M times R, or M times z R'(z), over the divisor
   chosen-at : (j : ℕ) → j < 2 ^ l
-      → chosenAt p w k l ms (weights p w k l ms) (evaluated p w k l (derived p l (folded p l f))) j ≡ times p (inverse p (2 ^ l % p)) (horner p P (pointAt p w k l j))
+      → chosenAt p w k l ms (weights p w k l ms) (evaluated p w k l (derived p l (folded p l f))) j ≡ times p (inverse p (2 ^ l % p))
+      (horner p P (pointAt p w k l j))
   chosen-at j b =
       let m = 2 ^ l in
       let i = inverse p (2 ^ l % p) in
@@ -165,11 +179,13 @@ module _ (p w k l t : ℕ) (ms : List Bool) (c xs : List ℕ) (stripe : Paramete
       (evaluated-high p w k l t stripe f j b ∙ ap (times p m) (euler-table p h (m + m) R x short ∙ multiplied-euler p w k l ms h P j (2 ^ suc l) b′ q))
       ∙ divided-out p (stripe .prime) m i (times p x u) y (two-power-inverse p (stripe .prime) (stripe .root .odd) l) (times-lt p h x u)
       (λ z. weight-nonzero p w k l t ms stripe j b′
-      (no-divisors p (stripe .prime) x u (weight-lt p (stripe .prime .big) w k l ms j (2 ^ suc l)) (point-lt p w k l (stripe .prime .big) j) (λ o. omega (arith, point-positive p w k l (stripe .root) (stripe .within) j b′)) z)))
+      (no-divisors p (stripe .prime) x u (weight-lt p (stripe .prime .big) w k l ms j (2 ^ suc l)) (point-lt p w k l (stripe .prime .big) j)
+      (λ o. omega (arith, point-positive p w k l (stripe .root) (stripe .within) j b′)) z)))
       (λ q. chosen-survivor p w k l ms (weights p w k l ms) e j q
       ∙ ap₂ (λ (g z : ℕ). times p (inverse p (times p (times p m m) g)) z) (weights-at p w k l ms c j b′)
       (evaluated-low p w k l t stripe f j b ∙ ap (times p m) (value x ∙ multiplied-value p w k l ms h P j (2 ^ suc l) (spared-survivor ms (2 ^ suc l) j q)))
-      ∙ divided-out p (stripe .prime) m i u y (two-power-inverse p (stripe .prime) (stripe .root .odd) l) (weight-lt p (stripe .prime .big) w k l ms j (2 ^ suc l)) (weight-nonzero p w k l t ms stripe j b′))
+      ∙ divided-out p (stripe .prime) m i u y (two-power-inverse p (stripe .prime) (stripe .root .odd) l)
+      (weight-lt p (stripe .prime .big) w k l ms j (2 ^ suc l)) (weight-nonzero p w k l t ms stripe j b′))
       (either (getD ms j false))
 
   solved : solvedColumn p w k l t ms c ≡ xs
@@ -179,7 +195,8 @@ module _ (p w k l t : ℕ) (ms : List Bool) (c xs : List ℕ) (stripe : Paramete
       let i = inverse p (2 ^ l % p) in
       ap (λ (d : List ℕ). untransform p (inverse p w) k l (chosen p w k l ms (weights p w k l ms) (evaluated p w k l (derived p l d)))) splits
       ∙ ap (untransform p (inverse p w) k l)
-      (same-table m (chosenAt p w k l ms (weights p w k l ms) (evaluated p w k l (derived p l (folded p l f)))) (λ j. horner p (scaled p i P) (pointAt p w k l j))
+      (same-table m (chosenAt p w k l ms (weights p w k l ms) (evaluated p w k l (derived p l (folded p l f))))
+      (λ j. horner p (scaled p i P) (pointAt p w k l j))
       (λ j b. chosen-at j b ∙ sym (horner-scaled p h i P (pointAt p w k l j))))
       ∙ untransform-values p w k l t stripe (scaled p i P) (column-scaled p h i P (length-bitReversed l xs))
       ∙ ap (scaled p m) (bitReversed-scaled p i l P (length-bitReversed l xs) ∙ ap (scaled p i) (bitReversed-twice l xs (column .long)))
@@ -192,7 +209,8 @@ Solves =
     (isLowColumn p w k l t ms c ≡ true) × (solvedColumn p w k l t ms c ≡ xs)
 
 pub solves : Solves
-solves p w k l t ms c xs stripe enough column agrees = (is-low p w k l t ms c xs stripe enough column agrees, solved p w k l t ms c xs stripe enough column agrees)
+solves p w k l t ms c xs stripe enough column agrees =
+    (is-low p w k l t ms c xs stripe enough column agrees, solved p w k l t ms c xs stripe enough column agrees)
 
 -- a column that passes the check
 module _ (p w k l t : ℕ) (ms : List Bool) (c : List ℕ) (stripe : Parameters p w k l t) (enough : Enough l ms) (column : Column p (2 ^ suc l) c)
@@ -217,10 +235,16 @@ module _ (p w k l t : ℕ) (ms : List Bool) (c : List ℕ) (stripe : Parameters 
   B = turned p (inverse p w) k t (untransform p (inverse p w) k l (drop (2 ^ l) vs))
 
   low-column : Column p (2 ^ l) (take (2 ^ l) vs)
-  low-column = record { long = take-half l vs (length-weighed p l ms (weights p w k l ms) c); words = words-take p positive (2 ^ l) (words-weighed p positive l ms (weights p w k l ms) c) }
+  low-column = record {
+    long = take-half l vs (length-weighed p l ms (weights p w k l ms) c);
+    words = words-take p positive (2 ^ l) (words-weighed p positive l ms (weights p w k l ms) c);
+  }
 
   high-column : Column p (2 ^ l) (drop (2 ^ l) vs)
-  high-column = record { long = drop-half l vs (length-weighed p l ms (weights p w k l ms) c); words = words-drop p positive (2 ^ l) (words-weighed p positive l ms (weights p w k l ms) c) }
+  high-column = record {
+    long = drop-half l vs (length-weighed p l ms (weights p w k l ms) c);
+    words = words-drop p positive (2 ^ l) (words-weighed p positive l ms (weights p w k l ms) c);
+  }
 
   checked : lowTo l e (A ++ B) (2 ^ l) ≡ true
   unfolding split
@@ -243,19 +267,24 @@ module _ (p w k l t : ℕ) (ms : List Bool) (c : List ℕ) (stripe : Parameters 
   value-high : (i : ℕ) → i < 2 ^ l → times p ω (horner p C (pointAt p w k l (2 ^ l + i))) ≡ times p 2 (times p (2 ^ l) (getD vs (2 ^ l + i) 0))
   value-high i b =
       let y = horner p (bitReversed l B) (pointAt p w k l (2 ^ l + i)) in
-      ap (times p ω) (unfolded-high p w k l t stripe e (omega (arith, enough)) A B same i) ∙ ring p positive (v ω ⊗ (v 2 ⊗ v y)) (v 2 ⊗ (v ω ⊗ v y)) positive positive (omega arith)
+      ap (times p ω) (unfolded-high p w k l t stripe e (omega (arith, enough)) A B same i)
+      ∙ ring p positive (v ω ⊗ (v 2 ⊗ v y)) (v 2 ⊗ (v ω ⊗ v y)) positive positive (omega arith)
       ∙ ap (times p 2) (untransformed-turned-value p w k l t stripe (drop (2 ^ l) vs) high-column i b ∙ ap (times p (2 ^ l)) (getD-drop (2 ^ l) vs i 0))
 
   -- it is 0 at the erased points
-  root-at : (g g′ i : ℕ) → times p g g′ ≡ 1 → i < 2 ^ suc l → times p g (horner p C (pointAt p w k l i)) ≡ times p 2 (times p (2 ^ l) (getD vs i 0)) → getD ms i false ≡ true
+  root-at : (g g′ i : ℕ) → times p g g′ ≡ 1 → i < 2 ^ suc l → times p g (horner p C (pointAt p w k l i)) ≡ times p 2 (times p (2 ^ l) (getD vs i 0))
+      → getD ms i false ≡ true
       → horner p C (pointAt p w k l i) ≡ 0
   root-at g g′ i u b q z =
-      zero-of p positive g g′ (horner p C (pointAt p w k l i)) (2 ^ l) (getD vs i 0) u q (weighed-erased p w k l ms c i b z) (horner-lt p positive C (pointAt p w k l i))
+      zero-of p positive g g′ (horner p C (pointAt p w k l i)) (2 ^ l) (getD vs i 0) u q (weighed-erased p w k l ms c i b z)
+      (horner-lt p positive C (pointAt p w k l i))
 
   roots : (i : ℕ) → i < 2 ^ suc l → getD ms i false ≡ true → horner p C (pointAt p w k l i) ≡ 0
   roots =
-      by-halves l (λ i. getD ms i false ≡ true → horner p C (pointAt p w k l i) ≡ 0) (λ i b. root-at 1 1 i (ring p positive (v 1 ⊗ v 1) (v 1) positive (stripe .prime .big) (omega arith)) (omega arith) (value-low i b))
-      (λ i b. root-at ω (power p (inverse p w) (reversed k t)) (2 ^ l + i) (power-inverse p k w (stripe .prime) (stripe .root) (reversed k t)) (omega arith) (value-high i b))
+      by-halves l (λ i. getD ms i false ≡ true → horner p C (pointAt p w k l i) ≡ 0)
+      (λ i b. root-at 1 1 i (ring p positive (v 1 ⊗ v 1) (v 1) positive (stripe .prime .big) (omega arith)) (omega arith) (value-low i b))
+      (λ i b. root-at ω (power p (inverse p w) (reversed k t)) (2 ^ l + i) (power-inverse p k w (stripe .prime) (stripe .root) (reversed k t)) (omega arith)
+      (value-high i b))
 
   quotients : Divided p w k l ms (2 ^ l) (2 ^ suc l) C
   quotients =
@@ -272,7 +301,8 @@ module _ (p w k l t : ℕ) (ms : List Bool) (c : List ℕ) (stripe : Parameters 
       let i = v (inverse p (2 ^ l % p)) in
       let m = v (2 ^ l) in
       from p positive
-      (fact (i ⊗ m) (v 2 ⊗ g) (v 1) (two-inverse p (stripe .prime) (stripe .root .odd)) (fact (v 1) (i ⊗ m) (v 1) (of-eq p (two-power-inverse p (stripe .prime) (stripe .root .odd) l)) none))
+      (fact (i ⊗ m) (v 2 ⊗ g) (v 1) (two-inverse p (stripe .prime) (stripe .root .odd))
+      (fact (v 1) (i ⊗ m) (v 1) (of-eq p (two-power-inverse p (stripe .prime) (stripe .root .odd) l)) none))
       (g ⊗ i ⊗ (v 2 ⊗ m)) (v 1) positive (stripe .prime .big) (omega arith)
 
   abbrev Q : List ℕ
@@ -285,8 +315,10 @@ module _ (p w k l t : ℕ) (ms : List Bool) (c : List ℕ) (stripe : Parameters 
       let a = weightTo p w k l ms i (2 ^ suc l) in
       ap (times p g) (horner-scaled p positive s (quotients .rest) x)
       ∙ word-of p positive g s (horner p (quotients .rest) x) (2 ^ l) a (inverse p a) (getD c i 0)
-      (ap (times p g) (sym (quotients .value i (spared-survivor ms (2 ^ suc l) i z))) ∙ q ∙ ap (λ (u : ℕ). times p 2 (times p (2 ^ l) u)) (weighed-survivor p w k l ms c i b z))
-      (inverse-is p (stripe .prime) a (weight-lt p (stripe .prime .big) w k l ms i (2 ^ suc l)) (weight-nonzero p w k l t ms stripe i b)) unit (column .words .word i)
+      (ap (times p g) (sym (quotients .value i (spared-survivor ms (2 ^ suc l) i z))) ∙ q
+      ∙ ap (λ (u : ℕ). times p 2 (times p (2 ^ l) u)) (weighed-survivor p w k l ms c i b z))
+      (inverse-is p (stripe .prime) a (weight-lt p (stripe .prime .big) w k l ms i (2 ^ suc l)) (weight-nonzero p w k l t ms stripe i b)) unit
+      (column .words .word i)
 
   found : Column p (2 ^ l) (bitReversed l Q)
   found = column-reversed p positive l Q (column-scaled p positive s (quotients .rest) (quotients .long))
@@ -297,7 +329,8 @@ module _ (p w k l t : ℕ) (ms : List Bool) (c : List ℕ) (stripe : Parameters 
   codes : (i : ℕ) → i < 2 ^ suc l → getD ms i false ≡ false → getD (coded p w k l t (bitReversed l Q)) i 0 ≡ getD c i 0
   codes =
       by-halves l (λ i. getD ms i false ≡ false → getD (coded p w k l t (bitReversed l Q)) i 0 ≡ getD c i 0)
-      (λ i b z. valuesX p w k l t (bitReversed l Q) i stripe found b ∙ ap (λ (cs : List ℕ). horner p cs (pointAt p w k l i)) again ∙ sym (once p positive Q (pointAt p w k l i))
+      (λ i b z. valuesX p w k l t (bitReversed l Q) i stripe found b ∙ ap (λ (cs : List ℕ). horner p cs (pointAt p w k l i)) again
+      ∙ sym (once p positive Q (pointAt p w k l i))
       ∙ word-at 1 i (omega arith) (value-low i b) z)
       (λ i b z. valuesY p w k l t (bitReversed l Q) i stripe found b ∙ ap (λ (cs : List ℕ). times p ω (horner p cs (pointAt p w k l (2 ^ l + i)))) again
       ∙ word-at ω (2 ^ l + i) (omega arith) (value-high i b) z)
@@ -309,5 +342,8 @@ Low =
     (xs : List ℕ) × Column p (2 ^ l) xs × Agrees ms (2 ^ suc l) (coded p w k l t xs) c
 
 pub low : Low
-low p w k l t ms c stripe enough column check =
-    (bitReversed l (Q p w k l t ms c stripe enough column check), found p w k l t ms c stripe enough column check, record { same = codes p w k l t ms c stripe enough column check })
+low p w k l t ms c stripe enough column check = (
+  bitReversed l (Q p w k l t ms c stripe enough column check),
+  found p w k l t ms c stripe enough column check,
+  record { same = codes p w k l t ms c stripe enough column check },
+)

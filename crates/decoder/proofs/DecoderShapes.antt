@@ -11,7 +11,8 @@ use Rattle.field.proofs.WordLists.{words-take, words-drop, words-append, words-
 use Rattle.code.specs.Transform.{transform, untransform, turned}
 use Rattle.decoder.specs.steps.Decoder.{weighedAt, weighed, split, derivedAt, derived, evaluated, chosenAt, chosen}
 use Rattle.field.proofs.Booleans.{choice-lt}
-use Rattle.code.proofs.Shapes.{take-half, drop-half, length-halves, length-transform, length-untransform, length-turned, append-low, append-high, words-transform, words-untransform, words-turned}
+use Rattle.code.proofs.Shapes.{take-half, drop-half, length-halves, length-transform, length-untransform, length-turned, append-low, append-high}
+use Rattle.code.proofs.Shapes.{words-transform, words-untransform, words-turned}
 
 -- lengths
 module _ (p l : ℕ) where
@@ -66,7 +67,8 @@ module _ (p : ℕ) (h : 0 < p) (l : ℕ) where
   pub words-split : (w k t : ℕ) {c : List ℕ} → Words p c → Words p (split p w k l t c)
   unfolding split
   words-split w k t {c} u =
-      words-append p h {a = untransform p w k l (take (2 ^ l) c)} (words-untransform p h w k l (words-take p h (2 ^ l) u)) (words-turned p h w k t (untransform p w k l (drop (2 ^ l) c)))
+      words-append p h {a = untransform p w k l (take (2 ^ l) c)} (words-untransform p h w k l (words-take p h (2 ^ l) u))
+      (words-turned p h w k t (untransform p w k l (drop (2 ^ l) c)))
 
   pub words-derived : {c : List ℕ} → Words p c → Words p (derived p l c)
   unfolding derived derivedAt
@@ -75,7 +77,8 @@ module _ (p : ℕ) (h : 0 < p) (l : ℕ) where
   pub words-evaluated : (w k : ℕ) {c : List ℕ} → Words p c → Words p (evaluated p w k l c)
   unfolding evaluated
   words-evaluated w k {c} u =
-      words-append p h {a = transform p w k l (take (2 ^ l) c)} (words-transform p h w k l (words-take p h (2 ^ l) u)) (words-transform p h w k l (words-drop p h (2 ^ l) u))
+      words-append p h {a = transform p w k l (take (2 ^ l) c)} (words-transform p h w k l (words-take p h (2 ^ l) u))
+      (words-transform p h w k l (words-drop p h (2 ^ l) u))
 
   pub words-chosen : (w k : ℕ) (ms : List Bool) (ws c : List ℕ) → Words p (chosen p w k l ms ws c)
   unfolding chosen chosenAt

@@ -21,7 +21,8 @@ use Rattle.decoder.specs.Decoding.{pointAt}
 use Rattle.decoder.specs.steps.Decoder.{halfOf}
 use Rattle.decoder.specs.Promises.{Parameters}
 use Rattle.code.specs.Rows.{Column}
-use Rattle.code.proofs.Shapes.{length-transform, length-untransform, length-scaled, length-turned, length-bitReversed, bitReversed-at, coded-low, coded-high, scaled-at, reversed-lt, words-untransform, column-reversed, column-turned}
+use Rattle.code.proofs.Shapes.{length-transform, length-untransform, length-scaled, length-turned, length-bitReversed, bitReversed-at, coded-low, coded-high}
+use Rattle.code.proofs.Shapes.{scaled-at, reversed-lt, words-untransform, column-reversed, column-turned}
 use Rattle.decoder.proofs.BitReversal.{bitReversed-twice}
 use Rattle.decoder.proofs.Values.{valuesX, valuesY}
 use Rattle.decoder.proofs.Inverse.{untransforms, transforms}
@@ -33,7 +34,8 @@ half-is p P b l = let g = v ((p + 1) / 2) in let m = v (2 ^ l) in lin~ p (omega 
 
 pub bitReversed-scaled : (p g l : ℕ) (cs : List ℕ) → length cs ≡ 2 ^ l → bitReversed l (scaled p g cs) ≡ scaled p g (bitReversed l cs)
 bitReversed-scaled p g l cs e =
-    ext-getD 0 (bitReversed l (scaled p g cs)) (scaled p g (bitReversed l cs)) (length-bitReversed l (scaled p g cs) ∙ sym (length-scaled p g (bitReversed l cs) ∙ length-bitReversed l cs))
+    ext-getD 0 (bitReversed l (scaled p g cs)) (scaled p g (bitReversed l cs)) (length-bitReversed l (scaled p g cs)
+    ∙ sym (length-scaled p g (bitReversed l cs) ∙ length-bitReversed l cs))
     (λ i b.
     let b′ : i < 2 ^ l = omega (arith, length-bitReversed l (scaled p g cs)) in
     bitReversed-at l (scaled p g cs) i b′ ∙ scaled-at p g cs (reversed l i) (omega (arith, reversed-lt l i)) ∙ ap (times p g) (sym (bitReversed-at l cs i b′))
@@ -50,7 +52,8 @@ module _ (p w k : ℕ) (P : Prime p) (R : Root p k w) where
   unturned g t (x ∷ xs) =
       let a = v (power p w (reversed k t)) in
       let b = v (power p (inverse p w) (reversed k t)) in
-      ap₂ _∷_ (lin p h (b ⊗ (v g ⊗ (a ⊗ v x))) (v g ⊗ v x) (v g ⊗ v x) (a ⊗ b) (v 1) (of-eq p (power-inverse p k w P R (reversed k t))) h h (omega arith)) (unturned g (suc t) xs)
+      ap₂ _∷_ (lin p h (b ⊗ (v g ⊗ (a ⊗ v x))) (v g ⊗ v x) (v g ⊗ v x) (a ⊗ b) (v 1) (of-eq p (power-inverse p k w P R (reversed k t))) h h (omega arith))
+      (unturned g (suc t) xs)
 
   returned : (t : ℕ) (xs : List ℕ) → Words p xs → turned p w k t (turned p (inverse p w) k t xs) ≡ xs
   unfolding turned
@@ -58,7 +61,8 @@ module _ (p w k : ℕ) (P : Prime p) (R : Root p k w) where
   returned t (x ∷ xs) u =
       let a = v (power p w (reversed k t)) in
       let b = v (power p (inverse p w) (reversed k t)) in
-      ap₂ _∷_ (lin p h (a ⊗ (b ⊗ v x)) (v x) (v x) (a ⊗ b) (v 1) (of-eq p (power-inverse p k w P R (reversed k t))) h (u .word 0) (omega arith)) (returned (suc t) xs (words-tail u))
+      ap₂ _∷_ (lin p h (a ⊗ (b ⊗ v x)) (v x) (v x) (a ⊗ b) (v 1) (of-eq p (power-inverse p k w P R (reversed k t))) h (u .word 0) (omega arith))
+      (returned (suc t) xs (words-tail u))
 
 module _ (p w k l t : ℕ) (stripe : Parameters p w k l t) where
   positive : 0 < p
@@ -70,13 +74,16 @@ module _ (p w k l t : ℕ) (stripe : Parameters p w k l t) where
 
     pub transform-values : transform p w k l (bitReversed l cs) ≡ table (2 ^ l) (λ i. horner p cs (pointAt p w k l i))
     transform-values =
-        is-table (transform p w k l (bitReversed l cs)) (2 ^ l) (λ i. horner p cs (pointAt p w k l i)) (length-transform p w k l (bitReversed l cs) (length-bitReversed l cs))
+        is-table (transform p w k l (bitReversed l cs)) (2 ^ l) (λ i. horner p cs (pointAt p w k l i))
+        (length-transform p w k l (bitReversed l cs) (length-bitReversed l cs))
         (λ i b. sym (coded-low p w k l t (bitReversed l cs) (length-bitReversed l cs) i b) ∙ valuesX p w k l t (bitReversed l cs) i stripe reversed-column b
         ∙ ap (λ ds. horner p ds (pointAt p w k l i)) (bitReversed-twice l cs (column .long)))
 
-    transform-turned-values : transform p w k l (turned p w k t (bitReversed l cs)) ≡ table (2 ^ l) (λ i. times p (power p w (reversed k t)) (horner p cs (pointAt p w k l (2 ^ l + i))))
+    transform-turned-values : transform p w k l (turned p w k t (bitReversed l cs)) ≡ table (2 ^ l)
+        (λ i. times p (power p w (reversed k t)) (horner p cs (pointAt p w k l (2 ^ l + i))))
     transform-turned-values =
-        is-table (transform p w k l (turned p w k t (bitReversed l cs))) (2 ^ l) (λ i. times p (power p w (reversed k t)) (horner p cs (pointAt p w k l (2 ^ l + i))))
+        is-table (transform p w k l (turned p w k t (bitReversed l cs))) (2 ^ l)
+        (λ i. times p (power p w (reversed k t)) (horner p cs (pointAt p w k l (2 ^ l + i))))
         (length-transform p w k l (turned p w k t (bitReversed l cs)) (length-turned p w k t (bitReversed l cs) ∙ length-bitReversed l cs))
         (λ i b. sym (coded-high p w k l t (bitReversed l cs) (length-bitReversed l cs) i) ∙ valuesY p w k l t (bitReversed l cs) i stripe reversed-column b
         ∙ ap (λ ds. times p (power p w (reversed k t)) (horner p ds (pointAt p w k l (2 ^ l + i)))) (bitReversed-twice l cs (column .long)))
@@ -84,11 +91,13 @@ module _ (p w k l t : ℕ) (stripe : Parameters p w k l t) where
     pub untransform-values : untransform p (inverse p w) k l (table (2 ^ l) (λ i. horner p cs (pointAt p w k l i))) ≡ scaled p (2 ^ l) (bitReversed l cs)
     untransform-values = ap (untransform p (inverse p w) k l) (sym transform-values) ∙ untransforms p w k l t (bitReversed l cs) stripe reversed-column
 
-    pub untransform-turned-values : turned p (inverse p w) k t (untransform p (inverse p w) k l (table (2 ^ l) (λ i. times p (power p w (reversed k t)) (horner p cs (pointAt p w k l (2 ^ l + i))))))
+    pub untransform-turned-values : turned p (inverse p w) k t
+        (untransform p (inverse p w) k l (table (2 ^ l) (λ i. times p (power p w (reversed k t)) (horner p cs (pointAt p w k l (2 ^ l + i))))))
         ≡ scaled p (2 ^ l) (bitReversed l cs)
     untransform-turned-values =
         ap (λ c. turned p (inverse p w) k t (untransform p (inverse p w) k l c)) (sym transform-turned-values)
-        ∙ ap (turned p (inverse p w) k t) (untransforms p w k l t (turned p w k t (bitReversed l cs)) stripe (column-turned p positive w k t (bitReversed l cs) (length-bitReversed l cs)))
+        ∙ ap (turned p (inverse p w) k t)
+        (untransforms p w k l t (turned p w k t (bitReversed l cs)) stripe (column-turned p positive w k t (bitReversed l cs) (length-bitReversed l cs)))
         ∙ unturned p w k (stripe .prime) (stripe .root) (2 ^ l) t (bitReversed l cs)
 
   -- values that are untransformed are 2 ^ level times the coefficients' values
@@ -106,12 +115,15 @@ module _ (p w k l t : ℕ) (stripe : Parameters p w k l t) where
         ∙ coded-low p w k l t a e i b ∙ transformed-at i b
 
     pub untransformed-turned-value : (i : ℕ) → i < 2 ^ l
-        → times p (power p w (reversed k t)) (horner p (bitReversed l (turned p (inverse p w) k t (untransform p (inverse p w) k l vs))) (pointAt p w k l (2 ^ l + i)))
+        → times p (power p w (reversed k t))
+        (horner p (bitReversed l (turned p (inverse p w) k t (untransform p (inverse p w) k l vs))) (pointAt p w k l (2 ^ l + i)))
         ≡ times p (2 ^ l) (getD vs i 0)
     untransformed-turned-value i b =
         let a = untransform p (inverse p w) k l vs in
         let d = turned p (inverse p w) k t a in
         let e : length d ≡ 2 ^ l = length-turned p (inverse p w) k t a ∙ length-untransform p (inverse p w) k l vs (column .long) in
-        sym (valuesY p w k l t d i stripe (column-turned p positive (inverse p w) k t a (length-untransform p (inverse p w) k l vs (column .long))) b) ∙ coded-high p w k l t d e i
-        ∙ ap (λ (c : List ℕ). getD (transform p w k l c) i 0) (returned p w k (stripe .prime) (stripe .root) t a (words-untransform p positive (inverse p w) k l (column .words)))
+        sym (valuesY p w k l t d i stripe (column-turned p positive (inverse p w) k t a (length-untransform p (inverse p w) k l vs (column .long))) b)
+        ∙ coded-high p w k l t d e i
+        ∙ ap (λ (c : List ℕ). getD (transform p w k l c) i 0)
+        (returned p w k (stripe .prime) (stripe .root) t a (words-untransform p positive (inverse p w) k l (column .words)))
         ∙ transformed-at i b

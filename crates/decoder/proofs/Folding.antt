@@ -23,7 +23,8 @@ use Rattle.decoder.specs.steps.Decoder.{split, lowTo, halfOf, derivedAt,
 use Rattle.decoder.specs.steps.RowTests.{allTo}
 use Rattle.decoder.specs.Promises.{Parameters}
 use Rattle.decoder.proofs.AllTo.{unless-same, same-unless, allTo-all, allTo-each}
-use Rattle.code.proofs.Shapes.{append-low, append-high, take-half, drop-half, length-scaled, length-bitReversed, bitReversed-at, scaled-at, reversed-lt, column-scaled, column-table}
+use Rattle.code.proofs.Shapes.{append-low, append-high, take-half, drop-half, length-scaled, length-bitReversed, bitReversed-at, scaled-at, reversed-lt}
+use Rattle.code.proofs.Shapes.{column-scaled, column-table}
 use Rattle.decoder.proofs.BitReversal.{reversed-twice}
 use Rattle.decoder.proofs.Coefficients.{euler, euler-is, horner-table, horner-scaled, fold-plus, fold-minus}
 use Rattle.decoder.proofs.Points.{point-power-low, point-power-high}
@@ -96,12 +97,15 @@ module _ (p w k l t : ℕ) (stripe : Parameters p w k l t) (f : ℕ → ℕ) whe
       ap₂ _++_
       (ap (untransform p (inverse p w) k l)
       (is-table (take (2 ^ l) c) (2 ^ l) (λ i. horner p (sums p (2 ^ l) f) (pointAt p w k l i)) (take-half l c long)
-      (λ i b. getD-take (2 ^ l) c i 0 b ∙ x i b ∙ fold-plus p (stripe .prime .big) (2 ^ l) f (pointAt p w k l i) (point-power-low p w k l (stripe .root) (stripe .within) i b)))
+      (λ i b. getD-take (2 ^ l) c i 0 b ∙ x i b
+      ∙ fold-plus p (stripe .prime .big) (2 ^ l) f (pointAt p w k l i) (point-power-low p w k l (stripe .root) (stripe .within) i b)))
       ∙ untransform-values p w k l t stripe (sums p (2 ^ l) f) (column-table p h (2 ^ l) _ (λ j. plus-lt p h _ _)))
       (ap (λ d. turned p (inverse p w) k t (untransform p (inverse p w) k l d))
-      (is-table (drop (2 ^ l) c) (2 ^ l) (λ i. times p (power p w (reversed k t)) (horner p (differences p (2 ^ l) f) (pointAt p w k l (2 ^ l + i)))) (drop-half l c long)
+      (is-table (drop (2 ^ l) c) (2 ^ l) (λ i. times p (power p w (reversed k t)) (horner p (differences p (2 ^ l) f) (pointAt p w k l (2 ^ l + i))))
+      (drop-half l c long)
       (λ i b. getD-drop (2 ^ l) c i 0 ∙ y i b
-      ∙ ap (times p (power p w (reversed k t))) (fold-minus p (stripe .prime .big) (2 ^ l) f (pointAt p w k l (2 ^ l + i)) (point-power-high p w k l (stripe .root) (stripe .within) i))))
+      ∙ ap (times p (power p w (reversed k t)))
+      (fold-minus p (stripe .prime .big) (2 ^ l) f (pointAt p w k l (2 ^ l + i)) (point-power-high p w k l (stripe .root) (stripe .within) i))))
       ∙ untransform-turned-values p w k l t stripe (differences p (2 ^ l) f) (column-table p h (2 ^ l) _ (λ j. minus-lt p h _ _)))
 
   -- the check: no coefficient from M + e on
@@ -115,7 +119,9 @@ module _ (p w k l t : ℕ) (stripe : Parameters p w k l t) (f : ℕ → ℕ) whe
       ∙ ap (λ (u : ℕ). times p (2 ^ l) (minus p a u)) (sym q) ∙ sym (D-at j b))
 
   -- 3. (r + M/2) S - (M/2) D
-  derivedAt-is : (j : ℕ) → j < 2 ^ l → derivedAt p l (folded p l f) j ≡ times p (2 ^ l) (plus p (times p (reversed l j) (f (reversed l j))) (times p (2 ^ l + reversed l j) (f (2 ^ l + reversed l j))))
+  derivedAt-is : (j : ℕ) → j < 2 ^ l
+      → derivedAt p l (folded p l f) j ≡ times p (2 ^ l)
+      (plus p (times p (reversed l j) (f (reversed l j))) (times p (2 ^ l + reversed l j) (f (2 ^ l + reversed l j))))
   unfolding derivedAt
   derivedAt-is j b =
       let m = v (2 ^ l) in
@@ -124,39 +130,50 @@ module _ (p w k l t : ℕ) (stripe : Parameters p w k l t) (f : ℕ → ℕ) whe
       let x = v (f (reversed l j)) in
       let y = v (f (2 ^ l + reversed l j)) in
       ap₂ (λ (s d : ℕ). minus p (times p (plus p (reversed l j) (halfOf p l)) s) (times p (halfOf p l) d)) (S-at j b) (D-at j b)
-      ∙ lin p h ((r ⊕ g) ⊗ (m ⊗ (x ⊕ y)) ⊖ g ⊗ (m ⊗ (x ⊖ y))) (m ⊗ (r ⊗ x ⊕ (m ⊞ r) ⊗ y)) (m ⊗ y) (v 2 ⊗ g) m (half-is p (stripe .prime) (stripe .root .odd) l) h h (omega arith)
+      ∙ lin p h ((r ⊕ g) ⊗ (m ⊗ (x ⊕ y)) ⊖ g ⊗ (m ⊗ (x ⊖ y))) (m ⊗ (r ⊗ x ⊕ (m ⊞ r) ⊗ y)) (m ⊗ y) (v 2 ⊗ g) m
+      (half-is p (stripe .prime) (stripe .root .odd) l) h h (omega arith)
 
   derived-is : derived p l (folded p l f) ≡ S ++ G
   unfolding derived
   derived-is =
       ap₂ _++_ (take-at S D (2 ^ l) (length-scaled-reversed p (2 ^ l) l (sums p (2 ^ l) f)))
-      (sym (is-table G (2 ^ l) (derivedAt p l (folded p l f)) (length-scaled-reversed p (2 ^ l) l (slopes p (2 ^ l) f)) (λ j b. scaled-reversed p (2 ^ l) l _ j b ∙ sym (derivedAt-is j b))))
+      (sym (is-table G (2 ^ l) (derivedAt p l (folded p l f)) (length-scaled-reversed p (2 ^ l) l (slopes p (2 ^ l) f))
+      (λ j b. scaled-reversed p (2 ^ l) l _ j b ∙ sym (derivedAt-is j b))))
 
   -- 4. M times R, and M times z R'(z), at the points of X
-  transform-scaled : (cs : List ℕ) → length cs ≡ 2 ^ l → transform p w k l (scaled p (2 ^ l) (bitReversed l cs)) ≡ table (2 ^ l) (λ i. times p (2 ^ l) (horner p cs (pointAt p w k l i)))
+  transform-scaled : (cs : List ℕ) → length cs ≡ 2 ^ l
+      → transform p w k l (scaled p (2 ^ l) (bitReversed l cs)) ≡ table (2 ^ l) (λ i. times p (2 ^ l) (horner p cs (pointAt p w k l i)))
   transform-scaled cs e =
       ap (transform p w k l) (sym (bitReversed-scaled p (2 ^ l) l cs e))
       ∙ transform-values p w k l t stripe (scaled p (2 ^ l) cs) (column-scaled p h (2 ^ l) cs e)
       ∙ same-table (2 ^ l) _ _ (λ i _. horner-scaled p h (2 ^ l) cs (pointAt p w k l i))
 
   evaluated-is : evaluated p w k l (derived p l (folded p l f))
-      ≡ table (2 ^ l) (λ i. times p (2 ^ l) (horner p (sums p (2 ^ l) f) (pointAt p w k l i))) ++ table (2 ^ l) (λ i. times p (2 ^ l) (horner p (slopes p (2 ^ l) f) (pointAt p w k l i)))
+      ≡ table (2 ^ l) (λ i. times p (2 ^ l) (horner p (sums p (2 ^ l) f) (pointAt p w k l i))) ++ table (2 ^ l)
+      (λ i. times p (2 ^ l) (horner p (slopes p (2 ^ l) f) (pointAt p w k l i)))
   unfolding evaluated
   evaluated-is =
       ap (evaluated p w k l) derived-is
       ∙ ap₂ _++_
-      (ap (transform p w k l) (take-at S G (2 ^ l) (length-scaled-reversed p (2 ^ l) l (sums p (2 ^ l) f))) ∙ transform-scaled (sums p (2 ^ l) f) (length-table (2 ^ l) _))
-      (ap (transform p w k l) (drop-at S G (2 ^ l) (length-scaled-reversed p (2 ^ l) l (sums p (2 ^ l) f))) ∙ transform-scaled (slopes p (2 ^ l) f) (length-table (2 ^ l) _))
+      (ap (transform p w k l) (take-at S G (2 ^ l) (length-scaled-reversed p (2 ^ l) l (sums p (2 ^ l) f)))
+      ∙ transform-scaled (sums p (2 ^ l) f) (length-table (2 ^ l) _))
+      (ap (transform p w k l) (drop-at S G (2 ^ l) (length-scaled-reversed p (2 ^ l) l (sums p (2 ^ l) f)))
+      ∙ transform-scaled (slopes p (2 ^ l) f) (length-table (2 ^ l) _))
 
-  pub evaluated-low : (i : ℕ) → i < 2 ^ l → getD (evaluated p w k l (derived p l (folded p l f))) i 0 ≡ times p (2 ^ l) (horner p (table (2 ^ l + 2 ^ l) f) (pointAt p w k l i))
+  pub evaluated-low : (i : ℕ) → i < 2 ^ l
+      → getD (evaluated p w k l (derived p l (folded p l f))) i 0 ≡ times p (2 ^ l) (horner p (table (2 ^ l + 2 ^ l) f) (pointAt p w k l i))
   evaluated-low i b =
       ap (λ (c : List ℕ). getD c i 0) evaluated-is ∙ table-low (2 ^ l) (2 ^ l) _ _ i b
-      ∙ ap (times p (2 ^ l)) (sym (fold-plus p (stripe .prime .big) (2 ^ l) f (pointAt p w k l i) (point-power-low p w k l (stripe .root) (stripe .within) i b)))
+      ∙ ap (times p (2 ^ l))
+      (sym (fold-plus p (stripe .prime .big) (2 ^ l) f (pointAt p w k l i) (point-power-low p w k l (stripe .root) (stripe .within) i b)))
 
-  pub evaluated-high : (i : ℕ) → i < 2 ^ l → getD (evaluated p w k l (derived p l (folded p l f))) (2 ^ l + i) 0 ≡ times p (2 ^ l) (euler p (table (2 ^ l + 2 ^ l) f) (pointAt p w k l i))
+  pub evaluated-high : (i : ℕ) → i < 2 ^ l
+      → getD (evaluated p w k l (derived p l (folded p l f))) (2 ^ l + i) 0 ≡ times p (2 ^ l) (euler p (table (2 ^ l + 2 ^ l) f) (pointAt p w k l i))
   evaluated-high i b =
       ap (λ (c : List ℕ). getD c (2 ^ l + i) 0) evaluated-is ∙ table-high (2 ^ l) (2 ^ l) _ _ i b
-      ∙ ap (times p (2 ^ l)) (sym (fold-plus p (stripe .prime .big) (2 ^ l) (λ j. times p j (f j)) (pointAt p w k l i) (point-power-low p w k l (stripe .root) (stripe .within) i b)) ∙ euler-is p h (2 ^ l + 2 ^ l) f (pointAt p w k l i))
+      ∙ ap (times p (2 ^ l))
+      (sym (fold-plus p (stripe .prime .big) (2 ^ l) (λ j. times p j (f j)) (pointAt p w k l i)
+      (point-power-low p w k l (stripe .root) (stripe .within) i b)) ∙ euler-is p h (2 ^ l + 2 ^ l) f (pointAt p w k l i))
 
 -- THE OTHER WAY ROUND: 2R's coefficients from S and D (not times M), a and d, which are equal at the places of R's coefficients from M + e on
 abbrev sumOf : (p l : ℕ) → (a d : List ℕ) → ℕ → ℕ
@@ -213,7 +230,8 @@ module _ (p w k l t : ℕ) (stripe : Parameters p w k l t) (e : ℕ) (few : e �
       ring p positive (y ⊕ z ⊕ (y ⊖ z)) (v 2 ⊗ y) positive positive (omega arith))))
       ∙ horner-scaled p positive 2 (bitReversed l a) x
 
-  pub unfolded-high : (i : ℕ) → horner p (unfolded p l e a d) (pointAt p w k l (2 ^ l + i)) ≡ times p 2 (horner p (bitReversed l d) (pointAt p w k l (2 ^ l + i)))
+  pub unfolded-high : (i : ℕ)
+      → horner p (unfolded p l e a d) (pointAt p w k l (2 ^ l + i)) ≡ times p 2 (horner p (bitReversed l d) (pointAt p w k l (2 ^ l + i)))
   unfolded-high i =
       let cs = unfolded p l e a d in
       let f : ℕ → ℕ = λ j. getD cs j 0 in

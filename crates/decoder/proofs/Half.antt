@@ -58,9 +58,11 @@ module _ (p w k l t : ℕ) (xs : List ℕ) (S : Parameters p w k l t) (C : Colum
       let f = power p w (reversed k t) in
       let y = horner p (bitReversed l xs) (pointAt p w k l (2 ^ l + i)) in
       let u : times p f (inverse p f) ≡ 1 =
-      inverse-is p (S .prime) f (power-lt p (S .prime .big) w (reversed k t)) (omega (arith, root-positive p k w (S .root) (reversed k t) (omega (arith, reversed-lt k t)))) in
+      inverse-is p (S .prime) f (power-lt p (S .prime .big) w (reversed k t))
+      (omega (arith, root-positive p k w (S .root) (reversed k t) (omega (arith, reversed-lt k t)))) in
       sym (value-high p w k l t (coded p w k l t xs) i ∙ ap (times p (inverse p f)) (valuesY p w k l t xs i S C b)
-      ∙ lin p h (v (inverse p f) ⊗ (v f ⊗ v y)) (v y) (v y) (v f ⊗ v (inverse p f)) (v 1) (of-eq p u) h (horner-lt p h (bitReversed l xs) (pointAt p w k l (2 ^ l + i))) (omega arith)))
+      ∙ lin p h (v (inverse p f) ⊗ (v f ⊗ v y)) (v y) (v y) (v f ⊗ v (inverse p f)) (v 1) (of-eq p u) h
+      (horner-lt p h (bitReversed l xs) (pointAt p w k l (2 ^ l + i))) (omega arith)))
 
 -- two polynomials of 2 ^ l coefficients with the same values at the first 2 ^ l surviving positions
 pub same-polynomial : (p w k l t : ℕ) (ms : List Bool) (cs ds : List ℕ) → Parameters p w k l t → Enough l ms → Column p (2 ^ l) cs → Column p (2 ^ l) ds
@@ -68,8 +70,10 @@ pub same-polynomial : (p w k l t : ℕ) (ms : List Bool) (cs ds : List ℕ) → 
 same-polynomial p w k l t ms cs ds S E C D q =
     let s = survivors l ms in
     let R : Survivors ms 0 (2 ^ suc l) s = survivors-are ms 0 (2 ^ suc l) in
-    determined p (S .prime) cs ds (C .long ∙ sym (D .long)) (C .words) (D .words) (λ j. pointAt p w k l (getD s j 0)) (λ j b. point-lt p w k l (S .prime .big) (getD s j 0))
-    (λ i j a b. points-distinct p w k l t (getD s i 0) (getD s j 0) S (R .rising i j a (omega (arith, C .long))) (omega (arith, R .high j (omega (arith, C .long)))))
+    determined p (S .prime) cs ds (C .long ∙ sym (D .long)) (C .words) (D .words) (λ j. pointAt p w k l (getD s j 0))
+    (λ j b. point-lt p w k l (S .prime .big) (getD s j 0))
+    (λ i j a b. points-distinct p w k l t (getD s i 0) (getD s j 0) S (R .rising i j a (omega (arith, C .long)))
+    (omega (arith, R .high j (omega (arith, C .long)))))
     (λ j b. q j (omega (arith, C .long)))
 
 pub halfFixes : HalfFixes

@@ -17,7 +17,8 @@ use Rattle.field.proofs.Unity.{power-inverse}
 use Rattle.field.proofs.WordLists.{words-take, words-drop, words-tail}
 use Rattle.code.specs.Transform.{mixed, transform, unmixed, untransform, scaled}
 use Rattle.decoder.specs.Promises.{Untransforms, Transforms, Unscales}
-use Rattle.code.proofs.Shapes.{take-half, drop-half, length-halves, length-mixed, length-transform, length-unmixed, length-untransform, length-scaled, mixed-low, mixed-high, unmixed-low, unmixed-high, scaled-at, words-unmixed}
+use Rattle.code.proofs.Shapes.{take-half, drop-half, length-halves, length-mixed, length-transform, length-unmixed, length-untransform, length-scaled}
+use Rattle.code.proofs.Shapes.{mixed-low, mixed-high, unmixed-low, unmixed-high, scaled-at, words-unmixed}
 use Rattle.decoder.proofs.Points.{by-halves}
 
 -- laws of `scaled`
@@ -64,7 +65,8 @@ module _ (p : ℕ) (h : 0 < p) where
 
     unmixed-scaled : (u : ℕ) (c : List ℕ) → length c ≡ 2 ^ suc l → unmixed p u (2 ^ l) (scaled p g c) ≡ scaled p g (unmixed p u (2 ^ l) c)
     unmixed-scaled u c e =
-        is-scaled (unmixed p u (2 ^ l) (scaled p g c)) (unmixed p u (2 ^ l) c) (length-unmixed p u (2 ^ l) (scaled p g c) ∙ omega arith) (length-unmixed p u (2 ^ l) c ∙ omega arith)
+        is-scaled (unmixed p u (2 ^ l) (scaled p g c)) (unmixed p u (2 ^ l) c) (length-unmixed p u (2 ^ l) (scaled p g c) ∙ omega arith)
+        (length-unmixed p u (2 ^ l) c ∙ omega arith)
         (λ i m.
         let x = getD c i 0 in
         let y = getD c (2 ^ l + i) 0 in
@@ -74,24 +76,28 @@ module _ (p : ℕ) (h : 0 < p) where
         let x = getD c i 0 in
         let y = getD c (2 ^ l + i) 0 in
         let z = power p u i in
-        unmixed-high p u (2 ^ l) (scaled p g c) i m ∙ ap₂ (λ (s t : ℕ). times p z (minus p s t)) (scaled-at p g c i (omega arith)) (scaled-at p g c (2 ^ l + i) (omega arith))
+        unmixed-high p u (2 ^ l) (scaled p g c) i m
+        ∙ ap₂ (λ (s t : ℕ). times p z (minus p s t)) (scaled-at p g c i (omega arith)) (scaled-at p g c (2 ^ l + i) (omega arith))
         ∙ ring p h (v z ⊗ (v g ⊗ v x ⊖ v g ⊗ v y)) (v g ⊗ (v z ⊗ (v x ⊖ v y))) h h (omega arith) ∙ ap (times p g) (sym (unmixed-high p u (2 ^ l) c i m)))
 
     mixed-scaled : (u : ℕ) (a b : List ℕ) → length a ≡ 2 ^ l → length b ≡ 2 ^ l → mixed p u (scaled p g a) (scaled p g b) ≡ scaled p g (mixed p u a b)
     mixed-scaled u a b e f =
         let n : length (scaled p g a) ≡ 2 ^ l = length-scaled p g a ∙ e in
-        is-scaled (mixed p u (scaled p g a) (scaled p g b)) (mixed p u a b) (length-mixed p u (scaled p g a) (scaled p g b) ∙ omega arith) (length-mixed p u a b ∙ omega arith)
+        is-scaled (mixed p u (scaled p g a) (scaled p g b)) (mixed p u a b) (length-mixed p u (scaled p g a) (scaled p g b) ∙ omega arith) (length-mixed p u a b
+        ∙ omega arith)
         (λ i m.
         let x = getD a i 0 in
         let y = getD b i 0 in
         let z = power p u i in
-        mixed-low p u (scaled p g a) (scaled p g b) i (omega arith) ∙ ap₂ (λ (s t : ℕ). plus p s (times p z t)) (scaled-at p g a i (omega arith)) (scaled-at p g b i (omega arith))
+        mixed-low p u (scaled p g a) (scaled p g b) i (omega arith)
+        ∙ ap₂ (λ (s t : ℕ). plus p s (times p z t)) (scaled-at p g a i (omega arith)) (scaled-at p g b i (omega arith))
         ∙ ring p h (v g ⊗ v x ⊕ v z ⊗ (v g ⊗ v y)) (v g ⊗ (v x ⊕ v z ⊗ v y)) h h (omega arith) ∙ ap (times p g) (sym (mixed-low p u a b i (omega arith))))
         (λ i m.
         let x = getD a i 0 in
         let y = getD b i 0 in
         let z = power p u i in
-        mixed-high p u (2 ^ l) (scaled p g a) (scaled p g b) i n m ∙ ap₂ (λ (s t : ℕ). minus p s (times p z t)) (scaled-at p g a i (omega arith)) (scaled-at p g b i (omega arith))
+        mixed-high p u (2 ^ l) (scaled p g a) (scaled p g b) i n m
+        ∙ ap₂ (λ (s t : ℕ). minus p s (times p z t)) (scaled-at p g a i (omega arith)) (scaled-at p g b i (omega arith))
         ∙ ring p h (v g ⊗ v x ⊖ v z ⊗ (v g ⊗ v y)) (v g ⊗ (v x ⊖ v z ⊗ v y)) h h (omega arith) ∙ ap (times p g) (sym (mixed-high p u (2 ^ l) a b i e m)))
 
   -- one level, where u′ is the inverse of u
@@ -115,7 +121,8 @@ module _ (p : ℕ) (h : 0 < p) where
         ∙ lin p h (v z′ ⊗ ((v x ⊕ v z ⊗ v y) ⊖ (v x ⊖ v z ⊗ v y))) (v 2 ⊗ v y) (v 2 ⊗ v y) (v z ⊗ v z′) (v 1) (of-eq p (inv i)) h h (omega arith)
         ∙ ap (times p 2) (sym (ap (λ (n : ℕ). getD (a ++ b) (n + i) 0) (sym e) ∙ getD-append-add a b i 0)))
 
-    mixed-unmixed : (c : List ℕ) → length c ≡ 2 ^ suc l → mixed p u (take (2 ^ l) (unmixed p u′ (2 ^ l) c)) (drop (2 ^ l) (unmixed p u′ (2 ^ l) c)) ≡ scaled p 2 c
+    mixed-unmixed : (c : List ℕ) → length c ≡ 2 ^ suc l
+        → mixed p u (take (2 ^ l) (unmixed p u′ (2 ^ l) c)) (drop (2 ^ l) (unmixed p u′ (2 ^ l) c)) ≡ scaled p 2 c
     mixed-unmixed c e =
         let d = unmixed p u′ (2 ^ l) c in
         let a = take (2 ^ l) d in
@@ -128,7 +135,8 @@ module _ (p : ℕ) (h : 0 < p) where
         let z = power p u i in
         let z′ = power p u′ i in
         mixed-low p u a b i (omega arith)
-        ∙ ap₂ (λ (s t : ℕ). plus p s (times p z t)) (getD-take (2 ^ l) d i 0 m ∙ unmixed-low p u′ (2 ^ l) c i m) (getD-drop (2 ^ l) d i 0 ∙ unmixed-high p u′ (2 ^ l) c i m)
+        ∙ ap₂ (λ (s t : ℕ). plus p s (times p z t)) (getD-take (2 ^ l) d i 0 m ∙ unmixed-low p u′ (2 ^ l) c i m) (getD-drop (2 ^ l) d i 0
+        ∙ unmixed-high p u′ (2 ^ l) c i m)
         ∙ lin p h (v x ⊕ v y ⊕ v z ⊗ (v z′ ⊗ (v x ⊖ v y))) (v 2 ⊗ v x) (v x ⊖ v y) (v z ⊗ v z′) (v 1) (of-eq p (inv i)) h h (omega arith))
         (λ i m.
         let x = getD c i 0 in
@@ -136,7 +144,8 @@ module _ (p : ℕ) (h : 0 < p) where
         let z = power p u i in
         let z′ = power p u′ i in
         mixed-high p u (2 ^ l) a b i n m
-        ∙ ap₂ (λ (s t : ℕ). minus p s (times p z t)) (getD-take (2 ^ l) d i 0 m ∙ unmixed-low p u′ (2 ^ l) c i m) (getD-drop (2 ^ l) d i 0 ∙ unmixed-high p u′ (2 ^ l) c i m)
+        ∙ ap₂ (λ (s t : ℕ). minus p s (times p z t)) (getD-take (2 ^ l) d i 0 m ∙ unmixed-low p u′ (2 ^ l) c i m) (getD-drop (2 ^ l) d i 0
+        ∙ unmixed-high p u′ (2 ^ l) c i m)
         ∙ lin p h (v x ⊕ v y ⊖ v z ⊗ (v z′ ⊗ (v x ⊖ v y))) (v 2 ⊗ v y) (v y ⊖ v x) (v z ⊗ v z′) (v 1) (of-eq p (inv i)) h h (omega arith))
 
   -- a common factor passes through
@@ -167,11 +176,14 @@ module _ (p : ℕ) (h : 0 < p) where
         let b = transform p w k l y in
         let m : length a ≡ 2 ^ l = length-transform p w k l x (take-half l xs e) in
         let n : length b ≡ 2 ^ l = length-transform p w k l y (drop-half l xs e) in
-        ap (λ (d : List ℕ). untransform p w′ k l (take (2 ^ l) d) ++ untransform p w′ k l (drop (2 ^ l) d)) (unmixed-mixed l (power p w (2 ^ k / 2 ^ l)) (power p w′ (2 ^ k / 2 ^ l)) (inv-level (2 ^ k / 2 ^ l)) a b m n)
-        ∙ ap₂ (λ (c d : List ℕ). untransform p w′ k l c ++ untransform p w′ k l d) (take-scaled p (2 ^ l) 2 (a ++ b) ∙ ap (scaled p 2) (take-at a b (2 ^ l) m)) (drop-scaled p (2 ^ l) 2 (a ++ b) ∙ ap (scaled p 2) (drop-at a b (2 ^ l) m))
+        ap (λ (d : List ℕ). untransform p w′ k l (take (2 ^ l) d) ++ untransform p w′ k l (drop (2 ^ l) d))
+        (unmixed-mixed l (power p w (2 ^ k / 2 ^ l)) (power p w′ (2 ^ k / 2 ^ l)) (inv-level (2 ^ k / 2 ^ l)) a b m n)
+        ∙ ap₂ (λ (c d : List ℕ). untransform p w′ k l c ++ untransform p w′ k l d) (take-scaled p (2 ^ l) 2 (a ++ b) ∙ ap (scaled p 2) (take-at a b (2 ^ l) m))
+        (drop-scaled p (2 ^ l) 2 (a ++ b) ∙ ap (scaled p 2) (drop-at a b (2 ^ l) m))
         ∙ ap₂ _++_ (untransform-scaled w′ k l 2 a m ∙ ap (scaled p 2) (untransform-transform l x (take-half l xs e) (words-take p h (2 ^ l) ws)))
         (untransform-scaled w′ k l 2 b n ∙ ap (scaled p 2) (untransform-transform l y (drop-half l xs e) (words-drop p h (2 ^ l) ws)))
-        ∙ sym (scaled-append p 2 (scaled p (2 ^ l) x) (scaled p (2 ^ l) y)) ∙ ap (scaled p 2) (sym (scaled-append p (2 ^ l) x y) ∙ ap (scaled p (2 ^ l)) (take-append-drop (2 ^ l) xs))
+        ∙ sym (scaled-append p 2 (scaled p (2 ^ l) x) (scaled p (2 ^ l) y))
+        ∙ ap (scaled p 2) (sym (scaled-append p (2 ^ l) x y) ∙ ap (scaled p (2 ^ l)) (take-append-drop (2 ^ l) xs))
         ∙ scaled-times 2 (2 ^ l) xs ∙ ap (λ (g : ℕ). scaled p g xs) (sym (pow-succ' 2 l))
 
     transform-untransform : (l : ℕ) (c : List ℕ) → length c ≡ 2 ^ l → Words p c → transform p w k l (untransform p w′ k l c) ≡ scaled p (2 ^ l) c
@@ -189,7 +201,8 @@ module _ (p : ℕ) (h : 0 < p) where
         let b = untransform p w′ k l y in
         let m : length a ≡ 2 ^ l = length-untransform p w′ k l x (take-half l d n) in
         ap₂ (λ (s t : List ℕ). mixed p u (transform p w k l s) (transform p w k l t)) (take-at a b (2 ^ l) m) (drop-at a b (2 ^ l) m)
-        ∙ ap₂ (mixed p u) (transform-untransform l x (take-half l d n) (words-take p h (2 ^ l) ds)) (transform-untransform l y (drop-half l d n) (words-drop p h (2 ^ l) ds))
+        ∙ ap₂ (mixed p u) (transform-untransform l x (take-half l d n) (words-take p h (2 ^ l) ds))
+        (transform-untransform l y (drop-half l d n) (words-drop p h (2 ^ l) ds))
         ∙ mixed-scaled l (2 ^ l) u x y (take-half l d n) (drop-half l d n) ∙ ap (scaled p (2 ^ l)) (mixed-unmixed l u u′ (inv-level (2 ^ k / 2 ^ l)) c e)
         ∙ scaled-times (2 ^ l) 2 c ∙ ap (λ (g : ℕ). scaled p g c) (sym (pow-suc 2 l))
 
@@ -202,4 +215,5 @@ transforms p w k l t xs S C =
     transform-untransform p (omega (arith, S .root .odd)) w (inverse p w) k (S .prime .big) (power-inverse p k w (S .prime) (S .root)) l xs (C .long) (C .words)
 
 pub unscales : Unscales
-unscales p w k l t xs S C = unscaled p (omega (arith, S .root .odd)) (inverse p (2 ^ l % p)) (2 ^ l) xs (two-power-inverse p (S .prime) (S .root .odd) l) (C .words)
+unscales p w k l t xs S C =
+    unscaled p (omega (arith, S .root .odd)) (inverse p (2 ^ l % p)) (2 ^ l) xs (two-power-inverse p (S .prime) (S .root .odd) l) (C .words)

@@ -37,7 +37,8 @@ module _ (p w k : ℕ) (R : Root p k w) where
       let h : 1 < p = omega (arith, R .odd) in
       let e : l ≤ k = omega arith in
       rw (two-div k (suc l), two-div k l)
-      (sym (power-mul p h w (2 ^ (k - suc l)) 2) ∙ ap (power p w) (sym (pow-suc 2 (k - suc l)) ∙ ap (λ (t : ℕ). 2 ^ t) {x = suc (k - suc l)} {y = k - l} (omega arith)))
+      (sym (power-mul p h w (2 ^ (k - suc l)) 2)
+      ∙ ap (power p w) (sym (pow-suc 2 (k - suc l)) ∙ ap (λ (t : ℕ). 2 ^ t) {x = suc (k - suc l)} {y = k - l} (omega arith)))
 
 -- the points as powers of u
 module _ (p w k l : ℕ) where
@@ -85,14 +86,16 @@ module _ (p w k l : ℕ) (R : Root p k w) (within : l ≤ k) where
   -- u^(2i) to the power M
   even-power : (i : ℕ) → power p r (2 * i * 2 ^ l) ≡ 1
   even-power i =
-      ap (power p r) {x = 2 * i * 2 ^ l} {y = 2 ^ suc l * i} (omega (arith, ap (λ (n : ℕ). n * i) (pow-succ' 2 l))) ∙ power-mul p h r (2 ^ suc l) i ∙ ap (λ (b : ℕ). power p b i) (root-full p l r root) ∙ power-of-one p h i
+      ap (power p r) {x = 2 * i * 2 ^ l} {y = 2 ^ suc l * i} (omega (arith, ap (λ (n : ℕ). n * i) (pow-succ' 2 l))) ∙ power-mul p h r (2 ^ suc l) i
+      ∙ ap (λ (b : ℕ). power p b i) (root-full p l r root) ∙ power-of-one p h i
 
   pub point-power-low : (i : ℕ) → i < 2 ^ l → power p (pointAt p w k l i) (2 ^ l) ≡ 1
   point-power-low i b = ap (λ (x : ℕ). power p x (2 ^ l)) (point-low p w k l i b) ∙ sym (power-mul p h r (2 * i) (2 ^ l)) ∙ even-power i
 
   pub point-power-high : (i : ℕ) → power p (pointAt p w k l (2 ^ l + i)) (2 ^ l) ≡ minus p 0 1
   point-power-high i =
-      ap (λ (x : ℕ). power p x (2 ^ l)) (point-high p w k l i) ∙ sym (power-mul p h r (suc (2 * i)) (2 ^ l)) ∙ ap (power p r) {x = suc (2 * i) * 2 ^ l} {y = 2 * i * 2 ^ l + 2 ^ l} (omega arith)
+      ap (λ (x : ℕ). power p x (2 ^ l)) (point-high p w k l i) ∙ sym (power-mul p h r (suc (2 * i)) (2 ^ l))
+      ∙ ap (power p r) {x = suc (2 * i) * 2 ^ l} {y = 2 * i * 2 ^ l + 2 ^ l} (omega arith)
       ∙ root-half p l r root (2 * i * 2 ^ l) ∙ ap (minus p 0) (even-power i)
 
   -- two exponents below the root's order

@@ -44,7 +44,8 @@ pub spared-survivor : (ms : List Bool) (n i : ℕ) → getD ms i false ≡ false
 spared-survivor ms n i e j b f q = false≢true (sym e ∙ ap (λ (t : ℕ). getD ms t false) (sym q) ∙ f)
 
 module _ (p w k l : ℕ) (ms : List Bool) where
-  multiplied-true : (cs : List ℕ) (n : ℕ) → getD ms n false ≡ true → multiplied p w k l ms cs (suc n) ≡ lift p (pointAt p w k l n) 0 (multiplied p w k l ms cs n)
+  multiplied-true : (cs : List ℕ) (n : ℕ) → getD ms n false ≡ true
+      → multiplied p w k l ms cs (suc n) ≡ lift p (pointAt p w k l n) 0 (multiplied p w k l ms cs n)
   unfolding multiplied
   multiplied-true cs n e = rw (e, multiplied)
 
@@ -61,7 +62,8 @@ module _ (p w k l : ℕ) (ms : List Bool) where
   length-multiplied cs zero = omega (arith, erased-zero ms)
   length-multiplied cs (suc n) =
       ⊎-elim
-      (λ e. ap length (multiplied-true cs n e) ∙ lift-length p (pointAt p w k l n) 0 (multiplied p w k l ms cs n) ∙ omega (arith, length-multiplied cs n, erased-true ms n e))
+      (λ e. ap length (multiplied-true cs n e) ∙ lift-length p (pointAt p w k l n) 0 (multiplied p w k l ms cs n)
+      ∙ omega (arith, length-multiplied cs n, erased-true ms n e))
       (λ e. ap length (multiplied-false cs n e) ∙ omega (arith, length-multiplied cs n, erased-false ms n e)) (either (getD ms n false))
 
   module _ (h : 0 < p) where
@@ -84,7 +86,8 @@ module _ (p w k l : ℕ) (ms : List Bool) where
         let r = multiplied-value cs i n (λ j b. s j (omega arith)) in
         ⊎-elim
         (λ e. ap (λ c. horner p c x) (multiplied-true cs n e) ∙ lift-value a x (multiplied p w k l ms cs n) ∙ ap (times p (minus p x a)) r
-        ∙ ring p h ((v x ⊖ v a) ⊗ (v u ⊗ v y)) (v u ⊗ (v x ⊖ v a) ⊗ v y) h h (omega arith) ∙ ap (λ t. times p t y) (sym (weight-other p w k l ms i n e (ne-eqb n i (s n (omega arith) e)))))
+        ∙ ring p h ((v x ⊖ v a) ⊗ (v u ⊗ v y)) (v u ⊗ (v x ⊖ v a) ⊗ v y) h h (omega arith)
+        ∙ ap (λ t. times p t y) (sym (weight-other p w k l ms i n e (ne-eqb n i (s n (omega arith) e)))))
         (λ e. ap (λ c. horner p c x) (multiplied-false cs n e) ∙ r ∙ ap (λ t. times p t y) (sym (weight-survivor p w k l ms i n e))) (either (getD ms n false))
 
     -- at an erased point it is 0
@@ -108,7 +111,8 @@ module _ (p w k l : ℕ) (ms : List Bool) where
 
     -- and z R'(z) is the product that leaves the point out, times the point
     pub multiplied-euler : (cs : List ℕ) (i n : ℕ) → i < n → getD ms i false ≡ true
-        → euler p (multiplied p w k l ms cs n) (pointAt p w k l i) ≡ times p (times p (pointAt p w k l i) (weightTo p w k l ms i n)) (horner p cs (pointAt p w k l i))
+        → euler p (multiplied p w k l ms cs n) (pointAt p w k l i) ≡ times p (times p (pointAt p w k l i) (weightTo p w k l ms i n))
+        (horner p cs (pointAt p w k l i))
     multiplied-euler cs i n b f = above (λ n. euler p (multiplied p w k l ms cs n) x ≡ times p (times p x (weightTo p w k l ms i n)) y) i first next n b
       where
         x : ℕ
@@ -128,7 +132,8 @@ module _ (p w k l : ℕ) (ms : List Bool) where
             let d = v (euler p (multiplied p w k l ms cs i) x) in
             let u = v (weightTo p w k l ms i i) in
             at i f
-            ∙ lin p h (v x ⊗ r ⊕ (v x ⊖ v x) ⊗ d) (v x ⊗ u ⊗ v y) (v x) r (u ⊗ v y) (of-eq p (multiplied-value cs i i (λ j b _ q. omega arith))) h h (omega arith)
+            ∙ lin p h (v x ⊗ r ⊕ (v x ⊖ v x) ⊗ d) (v x ⊗ u ⊗ v y) (v x) r (u ⊗ v y) (of-eq p (multiplied-value cs i i (λ j b _ q. omega arith))) h h
+            (omega arith)
             ∙ ap (λ t. times p (times p x t) y) (sym (weight-own p w k l ms i i (eq-eqb i i refl)))
 
         next : (n : ℕ) → i < n → euler p (multiplied p w k l ms cs n) x ≡ times p (times p x (weightTo p w k l ms i n)) y
@@ -143,7 +148,8 @@ module _ (p w k l : ℕ) (ms : List Bool) where
             ∙ from p h (fact (v x) g (v 0) (of-eq p (multiplied-root cs i n b f)) (fact (v x ⊖ a) d (v x ⊗ u ⊗ v y) (of-eq p r) none))
             (v x ⊗ g ⊕ (v x ⊖ a) ⊗ d) (v x ⊗ (u ⊗ (v x ⊖ a)) ⊗ v y) h h (omega arith)
             ∙ ap (λ t. times p (times p x t) y) (sym (weight-other p w k l ms i n e (ne-eqb n i (λ q. omega arith)))))
-            (λ e. ap (λ c. euler p c x) (multiplied-false cs n e) ∙ r ∙ ap (λ t. times p (times p x t) y) (sym (weight-survivor p w k l ms i n e))) (either (getD ms n false))
+            (λ e. ap (λ c. euler p c x) (multiplied-false cs n e) ∙ r ∙ ap (λ t. times p (times p x t) y) (sym (weight-survivor p w k l ms i n e)))
+            (either (getD ms n false))
 
 -- a polynomial as the product of z - a over the erased points below n, and m more coefficients
 pub record Divided (p w k l : ℕ) (ms : List Bool) (m n : ℕ) (cs : List ℕ) : Type 0 where
@@ -166,7 +172,8 @@ unfolding dividedBy horner
 dividedBy-is p h a x [] e = ring p h (v 0) ((v x ⊖ v a) ⊗ v 0) h h (omega arith)
 dividedBy-is p h a x (c ∷ cs) e =
     let q = v (horner p (quotient p a cs) x) in
-    divide p h a x c cs ∙ ap (λ t. plus p t (times p (minus p x a) (horner p (quotient p a cs) x))) e ∙ ring p h (v 0 ⊕ (v x ⊖ v a) ⊗ q) ((v x ⊖ v a) ⊗ q) h h (omega arith)
+    divide p h a x c cs ∙ ap (λ t. plus p t (times p (minus p x a) (horner p (quotient p a cs) x))) e
+    ∙ ring p h (v 0 ⊕ (v x ⊖ v a) ⊗ q) ((v x ⊖ v a) ⊗ q) h h (omega arith)
 
 -- where the points differ
 module _ (p w k l : ℕ) (ms : List Bool) (P : Prime p) where
@@ -181,7 +188,8 @@ module _ (p w k l : ℕ) (ms : List Bool) (P : Prime p) where
   divided-survivor m n cs e q = record {
     rest = q .rest;
     long = q .long;
-    value = λ i s. q .value i (λ j b. s j (omega arith)) ∙ ap (λ t. times p t (horner p (q .rest) (pointAt p w k l i))) (sym (weight-survivor p w k l ms i n e));
+    value =
+        λ i s. q .value i (λ j b. s j (omega arith)) ∙ ap (λ t. times p t (horner p (q .rest) (pointAt p w k l i))) (sym (weight-survivor p w k l ms i n e));
   }
 
   divided-erased : (m n : ℕ) (cs : List ℕ) → getD ms n false ≡ true → horner p cs (pointAt p w k l n) ≡ 0
@@ -194,7 +202,8 @@ module _ (p w k l : ℕ) (ms : List Bool) (P : Prime p) where
         let a = pointAt p w k l n in
         let u = weightTo p w k l ms i n in
         let y = horner p (q .rest) x in
-        dividedBy-is p h a x cs z ∙ ap (times p (minus p x a)) (q .value i (λ j b. s j (omega arith))) ∙ ring p h ((v x ⊖ v a) ⊗ (v u ⊗ v y)) (v u ⊗ (v x ⊖ v a) ⊗ v y) h h (omega arith)
+        dividedBy-is p h a x cs z ∙ ap (times p (minus p x a)) (q .value i (λ j b. s j (omega arith)))
+        ∙ ring p h ((v x ⊖ v a) ⊗ (v u ⊗ v y)) (v u ⊗ (v x ⊖ v a) ⊗ v y) h h (omega arith)
         ∙ ap (λ t. times p t y) (sym (weight-other p w k l ms i n e (ne-eqb n i (s n (omega arith) e))));
   }
 

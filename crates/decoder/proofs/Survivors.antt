@@ -50,7 +50,12 @@ module _ (ms : List Bool) (i n : ℕ) (s : List ℕ) (R : Survivors ms (suc i) n
 
 pub survivors-are : (ms : List Bool) (i n : ℕ) → Survivors ms i n (survivorsFrom ms i n)
 unfolding survivorsFrom
-survivors-are ms i zero = record { low = λ k b. absurd (omega arith); high = λ k b. absurd (omega arith); kept = λ k b. absurd (omega arith); rising = λ j k a b. absurd (omega arith) }
+survivors-are ms i zero = record {
+  low = λ k b. absurd (omega arith);
+  high = λ k b. absurd (omega arith);
+  kept = λ k b. absurd (omega arith);
+  rising = λ j k a b. absurd (omega arith);
+}
 survivors-are ms i (suc n) = front ms i n (survivorsFrom ms (suc i) n) (survivors-are ms (suc i) n) (getD ms i false) refl
 
 -- how many of the positions below n are erased
@@ -89,7 +94,8 @@ module _ (ms : List Bool) where
   counted i (suc n) =
       let r : erasedTo ms (i + suc n) ≡ erasedTo ms (suc i + n) = ap (erasedTo ms) {x = i + suc n} {y = suc i + n} (omega arith) in
       let c = counted (suc i) n in
-      ⊎-elim (λ e. omega (arith, survivors-true i n e, erased-true i e)) (λ e. omega (arith, survivors-false i n e, erased-false i e)) (either (getD ms i false))
+      ⊎-elim (λ e. omega (arith, survivors-true i n e, erased-true i e)) (λ e. omega (arith, survivors-false i n e, erased-false i e))
+      (either (getD ms i false))
 
   pub count : (l : ℕ) → erasedCount l ms ≡ erasedTo ms (2 ^ suc l)
   count l = omega (arith, counted 0 (2 ^ suc l), erased-zero, ap (erasedTo ms) (zero-add (2 ^ suc l)))

@@ -77,7 +77,8 @@ module _ (p w k : ℕ) (R : Root p k w) where
       let s′ : l ≤ k = omega arith in
       let a = take (2 ^ l) xs in
       let b = drop (2 ^ l) xs in
-      mixed-value p l (power p w (2 ^ k / 2 ^ suc l)) (power p w (2 ^ k / 2 ^ l)) (level-root p w k R (suc l) s) (level-square p w k R l s) xs (transform p w k l a) (transform p w k l b)
+      mixed-value p l (power p w (2 ^ k / 2 ^ suc l)) (power p w (2 ^ k / 2 ^ l)) (level-root p w k R (suc l) s) (level-square p w k R l s) xs
+      (transform p w k l a) (transform p w k l b)
       (length-transform p w k l a (take-half l xs e)) (transform-value l a s′ (take-half l xs e) (words-take p h (2 ^ l) ws))
       (transform-value l b s′ (drop-half l xs e) (words-drop p h (2 ^ l) ws)) i m
 
@@ -87,7 +88,8 @@ module _ (p : ℕ) (big : 1 < p) where
       → power p w (reversed k (t + j)) ≡ times p (power p w (reversed k t)) (power p (power p w (2 ^ k / 2 ^ l)) (reversed l j))
   turned-factor w k l t j s a b =
       ap (power p w) (reversed-from k l t j s a b) ∙ power-add p big w (reversed k t) (2 ^ (k - l) * reversed l j)
-      ∙ ap (times p (power p w (reversed k t))) (power-mul p big w (2 ^ (k - l)) (reversed l j) ∙ ap (λ (e : ℕ). power p (power p w e) (reversed l j)) (sym (two-div k l s)))
+      ∙ ap (times p (power p w (reversed k t))) (power-mul p big w (2 ^ (k - l)) (reversed l j)
+      ∙ ap (λ (e : ℕ). power p (power p w e) (reversed l j)) (sym (two-div k l s)))
 
   -- word j times c * u ^ rev(j): the value is c times that at u * x
   turned-value : (l c u : ℕ) (xs ys : List ℕ) (x : ℕ) → ((j : ℕ) → j < 2 ^ l → getD ys j 0 ≡ times p (times p c (power p u (reversed l j))) (getD xs j 0))
@@ -95,7 +97,8 @@ module _ (p : ℕ) (big : 1 < p) where
   turned-value zero c u xs ys x e =
       let h : 0 < p = omega arith in
       let x0 = getD xs 0 0 in
-      value-zero p h ys x ∙ ap (λ (t : ℕ). plus p t 0) (e 0 (omega arith) ∙ ap (λ (t : ℕ). times p (times p c t) x0) (ap (power p u) (reversed-zero 0) ∙ power-zero p big u))
+      value-zero p h ys x ∙ ap (λ (t : ℕ). plus p t 0) (e 0 (omega arith)
+      ∙ ap (λ (t : ℕ). times p (times p c t) x0) (ap (power p u) (reversed-zero 0) ∙ power-zero p big u))
       ∙ ring p h (v c ⊗ v 1 ⊗ v x0 ⊕ v 0) (v c ⊗ (v x0 ⊕ v 0)) h h (omega arith) ∙ ap (times p c) (sym (value-zero p h xs (times p u x)))
   turned-value (suc l) c u xs ys x e =
       let h : 0 < p = omega arith in
@@ -106,11 +109,15 @@ module _ (p : ℕ) (big : 1 < p) where
       value-suc p h l ys x
       ∙ ap₂ (λ (s t : ℕ). plus p s (times p x t))
       (turned-value l c (times p u u) (take (2 ^ l) xs) (take (2 ^ l) ys) (times p x x)
-      (λ j m. getD-take (2 ^ l) ys j 0 m ∙ e j (omega arith) ∙ ap₂ (λ (s t : ℕ). times p (times p c s) t) (ap (power p u) (reversed-low l j m) ∙ power-double p big u (reversed l j)) (sym (getD-take (2 ^ l) xs j 0 m)))
+      (λ j m. getD-take (2 ^ l) ys j 0 m ∙ e j (omega arith)
+      ∙ ap₂ (λ (s t : ℕ). times p (times p c s) t) (ap (power p u) (reversed-low l j m) ∙ power-double p big u (reversed l j))
+      (sym (getD-take (2 ^ l) xs j 0 m)))
       ∙ ap (λ (t : ℕ). times p c (horner p (bitReversed l (take (2 ^ l) xs)) t)) q)
       (turned-value l (times p c u) (times p u u) (drop (2 ^ l) xs) (drop (2 ^ l) ys) (times p x x)
       (λ j m. getD-drop (2 ^ l) ys j 0 ∙ e (2 ^ l + j) (omega arith)
-      ∙ ap₂ (λ (s t : ℕ). times p s t) (ap (λ (i : ℕ). times p c (power p u i)) (reversed-high l j m) ∙ ap (times p c) (power-suc p big u (2 * reversed l j) ∙ ap (times p u) (power-double p big u (reversed l j))) ∙ sym (times-assoc p h c u (power p (times p u u) (reversed l j)))) (sym (getD-drop (2 ^ l) xs j 0)))
+      ∙ ap₂ (λ (s t : ℕ). times p s t) (ap (λ (i : ℕ). times p c (power p u i)) (reversed-high l j m)
+      ∙ ap (times p c) (power-suc p big u (2 * reversed l j) ∙ ap (times p u) (power-double p big u (reversed l j)))
+      ∙ sym (times-assoc p h c u (power p (times p u u) (reversed l j)))) (sym (getD-drop (2 ^ l) xs j 0)))
       ∙ ap (λ (t : ℕ). times p (times p c u) (horner p (bitReversed l (drop (2 ^ l) xs)) t)) q)
       ∙ ring p h (v c ⊗ v a ⊕ v x ⊗ (v c ⊗ v u ⊗ v b)) (v c ⊗ (v a ⊕ v u ⊗ v x ⊗ v b)) h h (omega arith)
       ∙ ap (times p c) (sym (value-suc p h l xs (times p u x)))
@@ -128,5 +135,6 @@ valuesY p w k l t xs i S C m =
     let f = power p w (reversed k t) in
     coded-high p w k l t xs (C .long) i
     ∙ transform-value p w k (S .root) l ys (S .within) (length-turned p w k t xs ∙ C .long) (words-turned p (omega arith) w k t xs) i m
-    ∙ turned-value p h l f u xs ys (power p u (2 * i)) (λ j b. turned-at p w k t xs j (omega (arith, C .long)) ∙ ap (λ (s : ℕ). times p s (getD xs j 0)) (turned-factor p h w k l t j (S .within) (S .aligned) b))
+    ∙ turned-value p h l f u xs ys (power p u (2 * i)) (λ j b. turned-at p w k t xs j (omega (arith, C .long))
+    ∙ ap (λ (s : ℕ). times p s (getD xs j 0)) (turned-factor p h w k l t j (S .within) (S .aligned) b))
     ∙ ap (λ (s : ℕ). times p f (horner p (bitReversed l xs) s)) (sym (power-suc p h u (2 * i)) ∙ sym (point-high p w k l i))

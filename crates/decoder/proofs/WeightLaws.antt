@@ -35,7 +35,11 @@ module _ (p w k l : ℕ) (ms : List Bool) (i : ℕ) where
   unfolding weightTo
   weight-own n e = own (getD ms n false)
     where
-      own : (m : Bool) → elim (m && not (eqb n i)) [ true ↦ times p (weightTo p w k l ms i n) (minus p (pointAt p w k l i) (pointAt p w k l n)) | false ↦ weightTo p w k l ms i n ] ≡ weightTo p w k l ms i n
+      own : (m : Bool) → elim (m && not (eqb n i)) [
+        | true ↦ times p (weightTo p w k l ms i n)
+            (minus p (pointAt p w k l i) (pointAt p w k l n))
+        | false ↦ weightTo p w k l ms i n
+      ] ≡ weightTo p w k l ms i n
       own true = rw (e, weightTo)
       own false = refl
 
@@ -69,7 +73,8 @@ module _ (p w k l : ℕ) (ms : List Bool) (P : Prime p) (i : ℕ) where
           let a = pointAt p w k l n in
           d n (omega arith) q
           (minus-zero p h x a (point-lt p w k l (P .big) i) (point-lt p w k l (P .big) n)
-          (no-divisors p P (weightTo p w k l ms i n) (minus p x a) (minus-lt p h x a) (weight-lt p (P .big) w k l ms i n) r (sym (weight-other p w k l ms i n m (ne-eqb n i q)) ∙ e)))
+          (no-divisors p P (weightTo p w k l ms i n) (minus p x a) (minus-lt p h x a) (weight-lt p (P .big) w k l ms i n) r
+          (sym (weight-other p w k l ms i n m (ne-eqb n i q)) ∙ e)))
 
 pub weight-nonzero : (p w k l t : ℕ) (ms : List Bool) → Parameters p w k l t → (i : ℕ) → i < 2 ^ suc l → weightTo p w k l ms i (2 ^ suc l) ≢ 0
 weight-nonzero p w k l t ms stripe i b =

@@ -85,7 +85,8 @@ FoundColumn =
 -- and so the blocks, rows of any width
 abbrev pub FindsBlocks : Type 0
 FindsBlocks =
-    (p w k l t width : ℕ) (ms : List Bool) (rows bs : List ℕ) → Parameters p w k l t → Enough l ms → Column p (2 ^ l * width) bs → length rows ≡ 2 ^ suc l * width →
+    (p w k l t width : ℕ) (ms : List Bool) (rows bs : List ℕ) → Parameters p w k l t → Enough l ms → Column p (2 ^ l * width) bs
+    → length rows ≡ 2 ^ suc l * width →
     AgreesRows ms (2 ^ suc l) width (codedRows p w k l t width bs) rows →
     (consistent p w k l t width ms rows ≡ true) × (decodedRows p w k l t width ms rows ≡ bs)
 
@@ -99,7 +100,8 @@ FoundBlocks =
 -- and so the blocks of a stripe by its numbers, with the words of `decoder::decoding::decode`
 abbrev pub FindsStripe : Type 0
 FindsStripe =
-    (st : Stripe) (ms : List Bool) (rows bs : List ℕ) → Numbers st → Enough (st .level) ms → Column (modulusOf st) (blockWords st) bs → length rows ≡ stripeWords st →
+    (st : Stripe) (ms : List Bool) (rows bs : List ℕ) → Numbers st → Enough (st .level) ms → Column (modulusOf st) (blockWords st) bs
+    → length rows ≡ stripeWords st →
     AgreesRows ms (positionCount st) (st .width) (codedStripe st bs) rows →
     (isConsistent st ms rows ≡ true) × (blocksIn st ms rows ≡ bs)
 

@@ -91,7 +91,8 @@ module _ (p : ℕ) (P : Prime p) where
   root-down : (a x c : ℕ) (cs : List ℕ) → a < p → x < p → x ≢ a → horner p (c ∷ cs) a ≡ 0 → horner p (c ∷ cs) x ≡ 0 → horner p (quotient p a cs) x ≡ 0
   root-down a x c cs la lx n ea ex =
       no-divisors (minus p x a) _ (horner-lt p h (quotient p a cs) x) (minus-lt p h x a) (λ e. n (minus-zero p h x a lx la e))
-      (ring p h ((v x ⊖ v a) ⊗ v q) (v 0 ⊕ (v x ⊖ v a) ⊗ v q) h h (omega arith) ∙ ap (λ t. plus p t (times p (minus p x a) q)) (sym ea) ∙ sym (divide p h a x c cs) ∙ ex)
+      (ring p h ((v x ⊖ v a) ⊗ v q) (v 0 ⊕ (v x ⊖ v a) ⊗ v q) h h (omega arith) ∙ ap (λ t. plus p t (times p (minus p x a) q)) (sym ea)
+      ∙ sym (divide p h a x c cs) ∙ ex)
     where
       q : ℕ
       q = horner p (quotient p a cs) x
@@ -137,7 +138,8 @@ diff-zeros p h [] [] e r s z = refl
 diff-zeros p h [] (d ∷ ds) e r s z = absurd (omega arith)
 diff-zeros p h (c ∷ cs) [] e r s z = absurd (omega arith)
 diff-zeros p h (c ∷ cs) (d ∷ ds) e r s z =
-    ap₂ _∷_ (minus-zero p h c d (r .word 0) (s .word 0) (eq~ (minus-lt p h c d) h (z .0))) (diff-zeros p h cs ds (suc-inj e) (words-tail r) (words-tail s) (z .1))
+    ap₂ _∷_ (minus-zero p h c d (r .word 0) (s .word 0) (eq~ (minus-lt p h c d) h (z .0)))
+    (diff-zeros p h cs ds (suc-inj e) (words-tail r) (words-tail s) (z .1))
 
 pub determined : (p : ℕ) → Prime p → (cs ds : List ℕ) → length cs ≡ length ds → Words p cs → Words p ds
     → (f : ℕ → ℕ) → ((k : ℕ) → k < length cs → f k < p) → ((i j : ℕ) → i < j → j < length cs → f i ≢ f j)
@@ -146,7 +148,8 @@ determined p P cs ds e r s f b n q =
     let h : 0 < p = omega (arith, P .big) in
     diff-zeros p h cs ds e r s
     (roots p P (length cs) (diff p cs ds) (diff-length p cs ds e) f b n
-    (λ k l. diff-is p h cs ds (f k) e ∙ ap (λ t. minus p t (horner p ds (f k))) (q k l) ∙ ring p h (v (horner p ds (f k)) ⊖ v (horner p ds (f k))) (v 0) h h (omega arith)))
+    (λ k l. diff-is p h cs ds (f k) e ∙ ap (λ t. minus p t (horner p ds (f k))) (q k l)
+    ∙ ring p h (v (horner p ds (f k)) ⊖ v (horner p ds (f k))) (v 0) h h (omega arith)))
 
 -- Interpolation at distinct points.
 pub record Distinct (xs : List ℕ) : Type 0 where
@@ -192,7 +195,8 @@ pub interpolate-words : (p : ℕ) → 1 < p → (xs ys : List ℕ) → Words p y
 unfolding interpolate
 interpolate-words p h [] ys w = words-nil p (omega arith)
 interpolate-words p h (x ∷ xs) [] w = words-nil p (omega arith)
-interpolate-words p h (x ∷ xs) (y ∷ ys) w = lift-words p x y (omega arith) (w .word 0) _ (interpolate-words p h xs (slopes p x y xs ys) (slopes-words p x y h xs ys))
+interpolate-words p h (x ∷ xs) (y ∷ ys) w =
+    lift-words p x y (omega arith) (w .word 0) _ (interpolate-words p h xs (slopes p x y xs ys) (slopes-words p x y h xs ys))
 
 module _ (p : ℕ) (P : Prime p) where
   -- the inverse of each residue but 0
@@ -222,5 +226,6 @@ module _ (p : ℕ) (P : Prime p) where
       let s : length (slopes p x y xs ys) ≡ length xs = slopes-length p x y xs ys (suc-inj e) in
       let x′ = getD xs k 0 in
       let i = interpolate-is xs (slopes p x y xs ys) (sym s) (words-tail wx) (slopes-words p x y (P .big) xs ys) (distinct-tail d) k (omega arith) in
-      lift-is p h x x′ y (interpolate p xs (slopes p x y xs ys)) ∙ ap (λ u. plus p y (times p (minus p x′ x) u)) (i ∙ slopes-at p x y xs ys k (suc-inj e) (omega arith))
+      lift-is p h x x′ y (interpolate p xs (slopes p x y xs ys))
+      ∙ ap (λ u. plus p y (times p (minus p x′ x) u)) (i ∙ slopes-at p x y xs ys k (suc-inj e) (omega arith))
       ∙ newton x y x′ (getD ys k 0) (wx .word 0) (wx .word (suc k)) (wy .word (suc k)) (λ z. d .apart 0 (suc k) (omega arith) (omega arith) (sym z))

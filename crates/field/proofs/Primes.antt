@@ -27,13 +27,15 @@ half-not-one e = let z : _≡_ {A = ℕ} 65536 1 = sym half ∙ e in omega arith
 pub fermat-prime : Prime 65537
 fermat-prime =
     certified 65536 3 (lit< tt) full
-    (λ r m e b. ⊎-elim (λ t. not-one 65537 3 2 32768 r m (t .0) (lit< tt) e (lit< tt) (t .1) half-not-one) (λ s. absurd (one-of m (s .0) (s .1) b)) (peel 1 16 m r e))
+    (λ r m e b. ⊎-elim (λ t. not-one 65537 3 2 32768 r m (t .0) (lit< tt) e (lit< tt) (t .1) half-not-one) (λ s. absurd (one-of m (s .0) (s .1) b))
+    (peel 1 16 m r e))
 
 -- (p - 1) / 2n times n is (p - 1) / 2
 exponent : (k : ℕ) → k ≤ 15 → 65536 / (2 * 2 ^ k) * 2 ^ k ≡ 32768
 exponent k l =
     let e : 2 ^ (15 - k) * 2 ^ k ≡ 32768 = sym (pow-add 2 (15 - k) k) ∙ ap (λ t. 2 ^ t) {x = 15 - k + k} {y = 15} (omega arith) in
-    let d : 65536 / (2 * 2 ^ k) ≡ 2 ^ (15 - k) = ap (λ t. t / (2 * 2 ^ k)) {x = 65536} {y = 2 ^ (15 - k) * (2 * 2 ^ k)} (omega arith) ∙ mul-div-cancel (2 ^ (15 - k)) (omega (arith, pow-pos k)) in
+    let d : 65536 / (2 * 2 ^ k) ≡ 2 ^ (15 - k) =
+    ap (λ t. t / (2 * 2 ^ k)) {x = 65536} {y = 2 ^ (15 - k) * (2 * 2 ^ k)} (omega arith) ∙ mul-div-cancel (2 ^ (15 - k)) (omega (arith, pow-pos k)) in
     ap (λ t. t * 2 ^ k) d ∙ e
 
 pub fermat-root : (k : ℕ) → k ≤ 15 → Root 65537 k (rootOf fermat k)

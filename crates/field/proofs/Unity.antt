@@ -42,7 +42,8 @@ module _ (p k w : ℕ) (R : Root p k w) where
 
   proper : (r m : ℕ) → m * r ≡ 2 ^ suc k → 1 < m → power p w r ≢ 1
   proper r m e l =
-      ⊎-elim (λ t. not-one p w 2 (2 ^ k) r m (t .0) big (e ∙ pow-succ' 2 k) (omega arith) (t .1) half-not-one) (λ s. absurd (one-of m (s .0) (s .1) l)) (peel 1 (suc k) m r (e ∙ omega arith))
+      ⊎-elim (λ t. not-one p w 2 (2 ^ k) r m (t .0) big (e ∙ pow-succ' 2 k) (omega arith) (t .1) half-not-one) (λ s. absurd (one-of m (s .0) (s .1) l))
+      (peel 1 (suc k) m r (e ∙ omega arith))
 
   -- the 2n powers are distinct, and none is 0
   pub root-distinct : (i j : ℕ) → i < j → j < 2 ^ suc k → power p w i ≢ power p w j
@@ -56,7 +57,8 @@ module _ (p k w : ℕ) (R : Root p k w) where
   root-down l b = record {
     odd = R .odd;
     small = power-lt p big w (2 ^ (k - l));
-    half = sym (power-mul p big w (2 ^ (k - l)) (2 ^ l)) ∙ ap (power p w) (sym (pow-add 2 (k - l) l) ∙ ap (λ t. 2 ^ t) {x = k - l + l} {y = k} (omega arith)) ∙ R .half;
+    half = sym (power-mul p big w (2 ^ (k - l)) (2 ^ l)) ∙ ap (power p w) (sym (pow-add 2 (k - l) l) ∙ ap (λ t. 2 ^ t) {x = k - l + l} {y = k} (omega arith))
+        ∙ R .half;
   }
 
 -- n / 2 ^ l, as the definitions write the exponent

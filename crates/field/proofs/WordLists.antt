@@ -138,9 +138,11 @@ words-sets p h (x ∷ xs) i u v = words-sets p h xs (suc i) (words-set p h i u (
 pub sets-append : (l : List ℕ) (i : ℕ) (xs ys : List ℕ) → sets l i (xs ++ ys) ≡ sets (sets l i xs) (i + length xs) ys
 sets-append l i [] ys = ap (λ (k : ℕ). sets l k ys) {x = i} {y = i + 0} (omega arith)
 sets-append l i (x ∷ xs) ys =
-    sets-append (set l i x) (suc i) xs ys ∙ ap (λ (k : ℕ). sets (sets (set l i x) (suc i) xs) k ys) {x = suc i + length xs} {y = i + suc (length xs)} (omega arith)
+    sets-append (set l i x) (suc i) xs ys ∙ ap (λ (k : ℕ). sets (sets (set l i x) (suc i) xs) k ys) {x = suc i + length xs} {y = i + suc (length xs)}
+    (omega arith)
 
 -- as many stores as there are elements leave nothing of what was there
 pub sets-all : (l xs : List ℕ) → length l ≡ length xs → sets l 0 xs ≡ xs
 sets-all l xs e =
-    sets-eq xs l 0 (omega arith) ∙ ap (λ (r : List ℕ). xs ++ r) (ap (λ (k : ℕ). drop k l) {x = 0 + length xs} {y = length l} (omega arith) ∙ drop-length l) ∙ append-nil xs
+    sets-eq xs l 0 (omega arith) ∙ ap (λ (r : List ℕ). xs ++ r) (ap (λ (k : ℕ). drop k l) {x = 0 + length xs} {y = length l} (omega arith) ∙ drop-length l)
+    ∙ append-nil xs

@@ -20,7 +20,8 @@ byte-next : (l : List ℕ) (i j : ℕ) → i < length l → suc i ≡ j → drop
 byte-next l i j h e = drop-cons l i 0 h ∙ ap (λ (n : ℕ). getD l i 0 ∷ drop n l) e
 
 -- the number of the four bytes from an offset on, from the bytes
-pub number-at-is : (l : List ℕ) (o : ℕ) → o + 4 ≤ length l → getD l o 0 + 256 * (getD l (o + 1) 0 + 256 * (getD l (o + 2) 0 + 256 * getD l (o + 3) 0)) ≡ numberAt l o
+pub number-at-is : (l : List ℕ) (o : ℕ) → o + 4 ≤ length l
+    → getD l o 0 + 256 * (getD l (o + 1) 0 + 256 * (getD l (o + 2) 0 + 256 * getD l (o + 3) 0)) ≡ numberAt l o
 number-at-is l o h =
     rw (
       byte-next l o (o + 1) (omega arith) (omega arith),
@@ -37,7 +38,11 @@ pub record RiseLoop (bytes : List ℕ) (size least i : ℕ) : Type 0 where
 
 pub rise-start : (bytes : List ℕ) (size : ℕ) → RiseLoop bytes size 0 0
 rise-start bytes size =
-    record { within = omega arith; left = ap (λ (n : ℕ). erasuresRise 0 size (erasuresFrom bytes 0 n)) {x = length bytes / 8 - 0} {y = length bytes / 8} (omega arith) }
+    record {
+      within = omega arith;
+      left = ap (λ (n : ℕ). erasuresRise 0 size (erasuresFrom bytes 0 n)) {x = length bytes / 8 - 0} {y = length bytes / 8}
+          (omega arith);
+    }
 
 rise-next : (bytes : List ℕ) (size least i d : ℕ) → erasuresRise least size (erasuresFrom bytes i (suc d))
     ≡ (leb least (numberAt bytes (8 * i)) && (ltb 0 (numberAt bytes (8 * i + 4)) && (leb (numberAt bytes (8 * i) + numberAt bytes (8 * i + 4)) size
@@ -45,8 +50,10 @@ rise-next : (bytes : List ℕ) (size least i d : ℕ) → erasuresRise least siz
 unfolding erasuresRise erasuresFrom
 rise-next bytes size least i d = refl
 
-module _ {bytes : List ℕ} {size least i o s : ℕ} (r : RiseLoop bytes size least i) (h : i < length bytes / 8) (eo : o ≡ numberAt bytes (8 * i)) (es : s ≡ numberAt bytes (8 * i + 4)) where
-  rise-step : (leb least o && (ltb 0 s && (leb (o + s) size && erasuresRise (suc (o + s)) size (erasuresFrom bytes (suc i) (length bytes / 8 - suc i))))) ≡ erasuresRise 0 size (erasuresIn bytes)
+module _ {bytes : List ℕ} {size least i o s : ℕ} (r : RiseLoop bytes size least i) (h : i < length bytes / 8) (eo : o ≡ numberAt bytes (8 * i))
+    (es : s ≡ numberAt bytes (8 * i + 4)) where
+  rise-step : (leb least o && (ltb 0 s && (leb (o + s) size && erasuresRise (suc (o + s)) size (erasuresFrom bytes (suc i) (length bytes / 8 - suc i)))))
+      ≡ erasuresRise 0 size (erasuresIn bytes)
   rise-step =
       let d : length bytes / 8 - i ≡ suc (length bytes / 8 - suc i) = omega arith in
       rw (eo, es, ← rise-next, ← d) (r .left)

@@ -37,7 +37,8 @@ module _ (h : Header) (m e : List ℕ) (row out scratch : ℕ) where
       record { fits = a .0; image = s .0; output = s .1; room = s .2; erasures = c .0 }
 
   -- the tests that follow
-  later : (a b c : Bool) (rest : Tests) → (refusal (test a 1 (test b 2 (test c 3 done))) ≡ 0 → ⊥) → refusal (test a 1 (test b 2 (test c 3 rest))) ≡ refusal (test a 1 (test b 2 (test c 3 done)))
+  later : (a b c : Bool) (rest : Tests) → (refusal (test a 1 (test b 2 (test c 3 done))) ≡ 0 → ⊥)
+      → refusal (test a 1 (test b 2 (test c 3 rest))) ≡ refusal (test a 1 (test b 2 (test c 3 done)))
   unfolding refusal
   later true true true rest d = absurd (d refl)
   later true true false rest d = refl

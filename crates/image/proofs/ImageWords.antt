@@ -24,4 +24,6 @@ unfolding bytesOf numberOf
 word-back p b [] w i = rw (drop-nil (4 * i))
 word-back p b (x ∷ xs) w zero =
     rw (take-at (little 4 x) (bytesOf xs) 4 (length-little 4 x)) (number-little 4 x (omega (arith, w .word 0)))
-word-back p b (x ∷ xs) w (suc i) = ap (λ (n : ℕ). numberAt (little 4 x ++ bytesOf xs) n) {x = 4 * suc i} {y = length (little 4 x) + 4 * i} (omega (arith, length-little 4 x)) ∙ ap (λ (l : List ℕ). numberOf (take 4 l)) (drop-append-add (little 4 x) (bytesOf xs) (4 * i)) ∙ word-back p b xs (words-tail w) i
+word-back p b (x ∷ xs) w (suc i) = ap (λ (n : ℕ). numberAt (little 4 x ++ bytesOf xs) n) {x = 4 * suc i} {y = length (little 4 x) + 4 * i}
+    (omega (arith, length-little 4 x)) ∙ ap (λ (l : List ℕ). numberOf (take 4 l)) (drop-append-add (little 4 x) (bytesOf xs) (4 * i))
+    ∙ word-back p b xs (words-tail w) i

@@ -55,9 +55,15 @@ pub record BetweenLoop (low high : ℕ) (entry marks : List Bool) (i : ℕ) : Ty
 
 pub between-start : (low high : ℕ) (entry : List Bool) → BetweenLoop low high entry entry low
 between-start low high entry =
-    record { from = omega arith; upto = omega arith; marked = marked-none entry (λ i. is-between low low i false (λ a b. absurd (omega arith)) (λ a. refl) (λ a. refl)) }
+    record {
+      from = omega arith;
+      upto = omega arith;
+      marked = marked-none entry
+          (λ i. is-between low low i false (λ a b. absurd (omega arith)) (λ a. refl) (λ a. refl));
+    }
 
-pub between-turn : {low high : ℕ} {entry marks : List Bool} {i : ℕ} → BetweenLoop low high entry marks i → i < high → high ≤ length entry → BetweenLoop low high entry (set marks i true) (i + 1)
+pub between-turn : {low high : ℕ} {entry marks : List Bool} {i : ℕ} → BetweenLoop low high entry marks i → i < high → high ≤ length entry
+    → BetweenLoop low high entry (set marks i true) (i + 1)
 between-turn {low} {high} {entry} {marks} {i} r h fit =
     record {
       from = omega arith;
@@ -68,18 +74,22 @@ between-turn {low} {high} {entry} {marks} {i} r h fit =
     kept : (k : ℕ) → (k ≡ i → ⊥) → getD (set marks i true) k false ≡ (getD entry k false || isBetween low (i + 1) k)
     kept k ne =
         getD-set-other marks i k true false ne ∙ r .marked .each k
-        ∙ ap (λ (t : Bool). getD entry k false || t) (is-between low i k (isBetween low (i + 1) k) (λ a b. between-in low (i + 1) k a (omega arith)) (λ a. between-low low (i + 1) k a) (λ a. between-high low (i + 1) k (omega arith)))
+        ∙ ap (λ (t : Bool). getD entry k false || t)
+        (is-between low i k (isBetween low (i + 1) k) (λ a b. between-in low (i + 1) k a (omega arith)) (λ a. between-low low (i + 1) k a)
+        (λ a. between-high low (i + 1) k (omega arith)))
 
     at : (k : ℕ) → Dec (k < i) → Dec (i < k) → getD (set marks i true) k false ≡ (getD entry k false || isBetween low (i + 1) k)
     at k (yes a) b = kept k (λ e. omega arith)
     at k (no a) (yes b) = kept k (λ e. omega arith)
     at k (no a) (no b) =
         let e : k ≡ i = omega arith in
-        rw (e, getD-set-same marks i true false (omega (arith, r .marked .same)), between-in low (i + 1) i (r .from) (omega arith)) (sym (or-true (getD entry i false)))
+        rw (e, getD-set-same marks i true false (omega (arith, r .marked .same)), between-in low (i + 1) i (r .from) (omega arith))
+        (sym (or-true (getD entry i false)))
 
 pub between-end : {low high : ℕ} {entry marks : List Bool} {i : ℕ} → BetweenLoop low high entry marks i → high ≤ i → Marked (isBetween low high) entry marks
 between-end {low} {high} {entry} {marks} {i} r h =
-    marked-same (λ k. is-between low i k (isBetween low high k) (λ a b. between-in low high k a (omega (arith, r .upto))) (λ a. between-low low high k a) (λ a. between-high low high k (omega arith))) (r .marked)
+    marked-same (λ k. is-between low i k (isBetween low high k) (λ a b. between-in low high k a (omega (arith, r .upto))) (λ a. between-low low high k a)
+    (λ a. between-high low high k (omega arith))) (r .marked)
 
 -- THE POSITIONS THAT ONE ERASURE TOUCHES
 touched-cons : (a b : ℕ) (g : Erasure) (gs : List Erasure) → touched a b (g ∷ gs) ≡ (touched a b (g ∷ []) || touched a b gs)
@@ -137,9 +147,11 @@ pub record Highest (base step n end high : ℕ) : Type 0 where
   pub inside : (i : ℕ) → i < high → base + i * step < end
   pub behind : (i : ℕ) → high ≤ i → i < n → end ≤ base + i * step
 
-pub touched-between : {base step n o : ℕ} (s : ℕ) {low high : ℕ} → Lowest base step o low → Highest base step n (o + s) high → (i : ℕ) → isBetween low high i ≡ markFor base step n (erasure o s ∷ []) i
+pub touched-between : {base step n o : ℕ} (s : ℕ) {low high : ℕ} → Lowest base step o low → Highest base step n (o + s) high → (i : ℕ)
+    → isBetween low high i ≡ markFor base step n (erasure o s ∷ []) i
 touched-between {base} {step} {n} {o} s {low} {high} l h i =
-    is-between low high i (markFor base step n (erasure o s ∷ []) i) (λ a b. mark-in base step n o s i (omega (arith, h .within)) (l .first i a) (h .inside i b))
+    is-between low high i (markFor base step n (erasure o s ∷ []) i)
+    (λ a b. mark-in base step n o s i (omega (arith, h .within)) (l .first i a) (h .inside i b))
     (λ a. mark-before base step n o s i (λ b. l .before i a)) (λ a. mark-behind base step n o s i (h .behind i a))
 
 module _ (base step : ℕ) (pos : 0 < step) where
@@ -149,8 +161,10 @@ module _ (base step : ℕ) (pos : 0 < step) where
   pub lowest-at : (o : ℕ) → base ≤ o → Lowest base step o ((o - base) / step)
   lowest-at o h =
       record {
-        first = λ i a. let e : o - base < suc i * step = div-lt-iff-lt-mul {k = step} {x = o - base} {y = suc i} pos .0 (omega arith) in omega (arith, suc-mul i step);
-        before = λ i a. let e : suc i * step ≤ o - base = le-div-iff-mul-le {k = step} {x = suc i} {y = o - base} pos .0 (omega arith) in omega (arith, suc-mul i step);
+        first = λ i a. let e : o - base < suc i * step = div-lt-iff-lt-mul {k = step} {x = o - base} {y = suc i} pos .0 (omega arith) in
+            omega (arith, suc-mul i step);
+        before = λ i a. let e : suc i * step ≤ o - base = le-div-iff-mul-le {k = step} {x = suc i} {y = o - base} pos .0 (omega arith) in
+            omega (arith, suc-mul i step);
       }
 
   -- position i ends where position i + 1 begins, at the end of the stripe at the latest
@@ -226,7 +240,8 @@ module _ {base step n : ℕ} {bytes : List ℕ} {size : ℕ} {marks : List Bool}
       record {
         within = omega arith;
         long = length-none size e;
-        each = λ k. rw (e, getD-none size k) (ap (λ (m : ℕ). markFor base step n (erasuresFrom bytes 0 m) k) {x = length bytes / 8 - 0} {y = length bytes / 8} (omega arith));
+        each = λ k. rw (e, getD-none size k) (ap (λ (m : ℕ). markFor base step n (erasuresFrom bytes 0 m) k) {x = length bytes / 8 - 0} {y = length bytes / 8}
+            (omega arith));
       }
 
   pub mark-end : {i : ℕ} → MarkLoop base step n bytes size marks i → length bytes / 8 ≤ i → marks ≡ flagsFrom 0 size (markFor base step n (erasuresIn bytes))
@@ -243,12 +258,15 @@ mark-next : (base step n : ℕ) (bytes : List ℕ) (i d k : ℕ) → markFor bas
 unfolding erasuresFrom
 mark-next base step n bytes i d k = mark-cons base step n (erasureAt bytes i) (erasuresFrom bytes (suc i) d) k
 
-pub mark-turn : {base step n : ℕ} {bytes : List ℕ} {size : ℕ} {marks after : List Bool} {i o s : ℕ} → MarkLoop base step n bytes size marks i → i < length bytes / 8
-    → o ≡ numberAt bytes (8 * i) → s ≡ numberAt bytes (8 * i + 4) → Marked (markFor base step n (erasure o s ∷ [])) marks after → MarkLoop base step n bytes size after (i + 1)
+pub mark-turn : {base step n : ℕ} {bytes : List ℕ} {size : ℕ} {marks after : List Bool} {i o s : ℕ} → MarkLoop base step n bytes size marks i
+    → i < length bytes / 8
+    → o ≡ numberAt bytes (8 * i) → s ≡ numberAt bytes (8 * i + 4) → Marked (markFor base step n (erasure o s ∷ [])) marks after
+    → MarkLoop base step n bytes size after (i + 1)
 mark-turn {base} {step} {n} {bytes} {size} {marks} {after} {i} {o} {s} r h eo es m =
     record { within = omega arith; long = m .same ∙ r .long; each = at }
   where
-    at : (k : ℕ) → (getD after k false || markFor base step n (erasuresFrom bytes (i + 1) (length bytes / 8 - (i + 1))) k) ≡ markFor base step n (erasuresIn bytes) k
+    at : (k : ℕ) → (getD after k false || markFor base step n (erasuresFrom bytes (i + 1) (length bytes / 8 - (i + 1))) k) ≡ markFor base step n
+        (erasuresIn bytes) k
     at k =
         let d : length bytes / 8 - i ≡ suc (length bytes / 8 - suc i) = omega arith in
         rw (add-one i, m .each k, or-assoc, eo, es, ← mark-next, ← d) (r .each k)
@@ -257,7 +275,8 @@ mark-turn {base} {step} {n} {bytes} {size} {marks} {after} {i} {o} {s} r h eo es
 mark-is : (h : Header) (gs : List Erasure) (l i : ℕ) → markFor (4 * stripeAt h l) (4 * width h) (2 ^ suc l) gs i ≡ markAt h gs l i
 unfolding markFor markAt
 mark-is h gs l i =
-    ap (λ (a : ℕ). elim (ltb i (2 ^ suc l)) [ true ↦ touched a (a + 4 * width h) gs | false ↦ false ]) {x = 4 * stripeAt h l + i * (4 * width h)} {y = positionAt h l i} (scaled (stripeAt h l) i (width h))
+    ap (λ (a : ℕ). elim (ltb i (2 ^ suc l)) [ true ↦ touched a (a + 4 * width h) gs | false ↦ false ]) {x = 4 * stripeAt h l + i * (4 * width h)} {y =
+    positionAt h l i} (scaled (stripeAt h l) i (width h))
   where
     scaled : (a i w : ℕ) → 4 * a + i * (4 * w) ≡ 4 * (a + i * w)
     scaled a i w = omega arith

@@ -120,7 +120,8 @@ module _ (w n : ℕ) (ms : List Bool) (bs : List ℕ) where
     pub range-marked : getD ms i false ≡ true → columnsWord w from cols (surviving w n ms (wordsOf bs)) (i * cols + j) ≡ 0
     range-marked m = range-word ∙ surviving-marked w ms (wordsOf bs) i (from + j) (omega arith) m
 
-    pub range-kept : getD ms i false ≡ false → (byte : ℕ) → byte ≡ 4 * (i * w + from) → columnsWord w from cols (surviving w n ms (wordsOf bs)) (i * cols + j) ≡ rowWord bs byte j
+    pub range-kept : getD ms i false ≡ false → (byte : ℕ) → byte ≡ 4 * (i * w + from)
+        → columnsWord w from cols (surviving w n ms (wordsOf bs)) (i * cols + j) ≡ rowWord bs byte j
     unfolding rowWord
     range-kept m byte o =
         range-word ∙ kept-word i (from + j) (4 * (i * w)) (omega arith) m refl
@@ -134,7 +135,8 @@ pub record RowsLoop (p rows width : ℕ) (f : ℕ → ℕ) (i : ℕ) : Type 0 wh
 pub rows-start : (p rows width : ℕ) (f : ℕ → ℕ) → RowsLoop p rows width f 0
 rows-start p rows width f = record { within = omega arith; left = ap (λ (n : ℕ). areBelow p (drop n (table (rows * width) f))) (zero-mul width) }
 
-module _ {p rows width : ℕ} {f : ℕ → ℕ} {i : ℕ} (r : RowsLoop p rows width f i) (h : i < rows) (g : ℕ → ℕ) (e : (j : ℕ) → j < width → f (i * width + j) ≡ g j) where
+module _ {p rows width : ℕ} {f : ℕ → ℕ} {i : ℕ} (r : RowsLoop p rows width f i) (h : i < rows) (g : ℕ → ℕ) (e : (j : ℕ) → j < width
+    → f (i * width + j) ≡ g j) where
   rows-next : (areBelow p (table width g) && areBelow p (drop ((i + 1) * width) (table (rows * width) f))) ≡ areBelow p (table (rows * width) f)
   rows-next = rw (row-next i width, ← below-append, ← row-of (rows * width) (i * width) width f g (row-in width h) e) (r .left)
 
@@ -171,4 +173,6 @@ stripe-long h m l fit = length-take-le (4 * stripeSize h l) (drop (4 * stripeAt 
 pub stripe-word : (h : Header) (m : List ℕ) (l q : ℕ) → q < stripeSize h l → getD (wordsOf (stripeIn h m l)) q 0 ≡ wordAt m (stripeAt h l + q)
 stripe-word h m l q b =
     words-at (stripeIn h m l) q
-    ∙ ap numberOf (part-inside (4 * q) 4 (4 * stripeSize h l) (drop (4 * stripeAt h l) m) (omega arith) ∙ ap (take 4) (drop-drop (4 * q) (4 * stripeAt h l) m ∙ ap (λ (x : ℕ). drop x m) {x = 4 * stripeAt h l + 4 * q} {y = 4 * (stripeAt h l + q)} (omega arith)))
+    ∙ ap numberOf (part-inside (4 * q) 4 (4 * stripeSize h l) (drop (4 * stripeAt h l) m) (omega arith)
+    ∙ ap (take 4) (drop-drop (4 * q) (4 * stripeAt h l) m
+    ∙ ap (λ (x : ℕ). drop x m) {x = 4 * stripeAt h l + 4 * q} {y = 4 * (stripeAt h l + q)} (omega arith)))

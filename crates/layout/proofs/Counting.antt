@@ -89,7 +89,8 @@ module _ {c l q : ℕ} (carry : Carry c l q) where
 
       whole : q * (2 * 2 ^ l) + 2 ^ l ≡ u * 2 ^ suc i
       whole =
-          let e : 2 ^ (l - suc i) * 2 ^ suc i ≡ 2 ^ l = sym (pow-add 2 (l - suc i) (suc i)) ∙ ap (λ (x : ℕ). 2 ^ x) {x = l - suc i + suc i} {y = l} (omega arith) in
+          let e : 2 ^ (l - suc i) * 2 ^ suc i ≡ 2 ^ l =
+          sym (pow-add 2 (l - suc i) (suc i)) ∙ ap (λ (x : ℕ). 2 ^ x) {x = l - suc i + suc i} {y = l} (omega arith) in
           rw (mul-assoc (q * 2 + 1) (2 ^ (l - suc i)) (2 ^ suc i), e) (omega arith)
 
   pub filled-before : (i : ℕ) → i < l → c / 2 ^ i % 2 ≡ 1

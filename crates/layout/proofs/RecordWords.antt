@@ -37,7 +37,8 @@ record-end n s i h = omega (arith, mul-le-mul-right s h)
 pub length-record : (n s : ℕ) (r : List ℕ) (i : ℕ) → length r ≡ n * s → i < n → length (recordIn s r i) ≡ s
 length-record n s r i e h = length-take-le s (drop (i * s) r) (rw length-drop (omega (arith, record-end n s i h)))
 
-pub replaced-is : (s : ℕ) (r : List ℕ) (i : ℕ) (b : List ℕ) → length b ≡ s → suc i * s ≤ length r → replaced s r i b ≡ take (i * s) r ++ (b ++ drop (suc i * s) r)
+pub replaced-is : (s : ℕ) (r : List ℕ) (i : ℕ) (b : List ℕ) → length b ≡ s → suc i * s ≤ length r
+    → replaced s r i b ≡ take (i * s) r ++ (b ++ drop (suc i * s) r)
 replaced-is s r i b e h =
     sets-eq b r (i * s) (omega arith) ∙ append-assoc (take (i * s) r) b (drop (i * s + length b) r)
     ∙ ap (λ (n : ℕ). take (i * s) r ++ (b ++ drop n r)) {x = i * s + length b} {y = suc i * s} (omega arith)
@@ -62,7 +63,8 @@ pub unfit-one : (s : ℕ) (r : List ℕ) (n i : ℕ) → i < n → areData (reco
 unfolding recordsFit
 unfit-one s r zero i h e = absurd (omega arith)
 unfit-one s r (suc n) i h e =
-    ⊎-elim (λ q. second-false (recordsFit s r n) (ap (λ (j : ℕ). areData (recordIn s r j)) (sym q) ∙ e)) (λ b. first-false (areData (recordIn s r n)) (unfit-one s r n i b e))
+    ⊎-elim (λ q. second-false (recordsFit s r n) (ap (λ (j : ℕ). areData (recordIn s r j)) (sym q) ∙ e))
+    (λ b. first-false (areData (recordIn s r n)) (unfit-one s r n i b e))
     (eq-or-lt-of-le (omega arith))
 
 -- they fit if all their words do

@@ -15,8 +15,11 @@ equal-three a a′ b b′ c c′ p q r = both-true (eq-eqb a a′ p) (both-true 
 
 pub three-equal : (a a′ b b′ c c′ : ℕ) → (eqb a a′ && (eqb b b′ && eqb c c′)) ≡ true → (a ≡ a′) × (b ≡ b′) × (c ≡ c′)
 three-equal a a′ b b′ c c′ e =
-    let t = second-true (eqb a a′) (eqb b b′ && eqb c c′) e in
-    (eqb-true a a′ (first-true (eqb a a′) (eqb b b′ && eqb c c′) e), eqb-true b b′ (first-true (eqb b b′) (eqb c c′) t), eqb-true c c′ (second-true (eqb b b′) (eqb c c′) t))
+    let t = second-true (eqb a a′) (eqb b b′ && eqb c c′) e in (
+      eqb-true a a′ (first-true (eqb a a′) (eqb b b′ && eqb c c′) e),
+      eqb-true b b′ (first-true (eqb b b′) (eqb c c′) t),
+      eqb-true c c′ (second-true (eqb b b′) (eqb c c′) t),
+    )
 
 -- A CALL'S NUMBER
 pub test-holds : {b : Bool} (n : ℕ) (ts : Tests) → b ≡ true → refusal (test b n ts) ≡ refusal ts

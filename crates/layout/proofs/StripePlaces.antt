@@ -56,7 +56,14 @@ module _ (h : Header) (l : ℕ) where
       where
         below : l < h .k → 4 * (fullSize h + levelAt h l) + 4 * (2 ^ suc l * width h) ≤ imageSize h
         below b =
-            omega (arith, mul-le-mul-right (width h) (pow-mono {i = suc l} {j = h .k} b), level-size (2 ^ suc l) (h .s) (omega (arith, pow-pos l)), f .full-is, f .log-is, f .image-is)
+            omega (
+              arith,
+              mul-le-mul-right (width h) (pow-mono {i = suc l} {j = h .k} b),
+              level-size (2 ^ suc l) (h .s) (omega (arith, pow-pos l)),
+              f .full-is,
+              f .log-is,
+              f .image-is,
+            )
 
 -- the numbers of a stripe are such as a stripe can have
 pub stripe-numbers : (h : Header) (l : ℕ) → headerFits h ≡ true → l ≤ h .k → Numbers (stripeOf h l)

@@ -119,15 +119,18 @@ module _ (st : Stripe) (full : st .level ≡ st .k) (thick : 0 < st .width) (bs 
       (replaced-is s (x ++ drop (n * s) r) n (blockData w bs n) long room
       ∙ rw (take-at x (drop (n * s) r) (n * s) t, d, data-row st full thick bs n b) (sym (append-assoc x (blockData w bs n) (drop (suc n * s) r))))
 
-  full-laid : blockCount st * w ≤ length bs → areRecords st bs (blockCount st) ≡ true → dataOf st bs ≡ laid s bs (blockCount st) (replicate (blockCount st * s) 0)
+  full-laid : blockCount st * w ≤ length bs → areRecords st bs (blockCount st) ≡ true
+      → dataOf st bs ≡ laid s bs (blockCount st) (replicate (blockCount st * s) 0)
   full-laid b a =
       let n = blockCount st in
-      let p : placesTo w bs n ≡ true = first-true (placesTo w bs n) (recordsFit s (dataOf st bs) n) (sym (records-full st full thick bs n b n (omega arith)) ∙ a) in
+      let p : placesTo w bs n ≡ true =
+      first-true (placesTo w bs n) (recordsFit s (dataOf st bs) n) (sym (records-full st full thick bs n b n (omega arith)) ∙ a) in
       let z : length {A = ℕ} (replicate (n * s) 0) ≡ n * s = length-replicate (n * s) 0 in
       sym (laid-full n (replicate (n * s) 0) b (omega arith) p
       ∙ ap (λ (y : List ℕ). columnsOf w 1 s n bs ++ y) (drop-of-length-le (replicate (n * s) 0) {i = n * s} (omega arith)) ∙ append-nil (columnsOf w 1 s n bs))
 
-pub data-laid : (st : Stripe) (ms : List Bool) (r : List ℕ) → st .level ≡ st .k → 0 < st .width → {o : List ℕ} → o ≡ decodedData st (solved st ms r) → decodedNumber (solved st ms r) ≡ 0
+pub data-laid : (st : Stripe) (ms : List Bool) (r : List ℕ) → st .level ≡ st .k → 0 < st .width → {o : List ℕ} → o ≡ decodedData st (solved st ms r)
+    → decodedNumber (solved st ms r) ≡ 0
     → o ≡ laidFrom (pred (st .width)) (solved st ms r) (blockCount st) (replicate (blockCount st * pred (st .width)) 0)
 data-laid st ms r full thick q z =
     let e = solved-zero st ms r z in

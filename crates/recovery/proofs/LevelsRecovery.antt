@@ -37,7 +37,8 @@ by-zero false true true true bs e = refl
 
 pub decoded-is : (st : Stripe) (ms : List Bool) (r : List ℕ) → decodedNumber (decodeMarked st ms r) ≡ 0 → decodeMarked st ms r ≡ decoded (blocksIn st ms r)
 decoded-is st ms r z =
-    by-zero (ltb (length (survivors (st .level) ms)) (blockCount st)) (areBelow (modulusOf st) r) (isConsistent st ms r) (areRecords st (blocksIn st ms r) (blockCount st)) (blocksIn st ms r) z
+    by-zero (ltb (length (survivors (st .level) ms)) (blockCount st)) (areBelow (modulusOf st) r) (isConsistent st ms r)
+    (areRecords st (blocksIn st ms r) (blockCount st)) (blocksIn st ms r) z
 
 -- a stripe with number 0 gives blocks
 abbrev pub Sound : Decoded → Type 0
@@ -60,7 +61,8 @@ module _ (h : Header) (d : ℕ → Decoded) (l : ℕ) (o : List ℕ) where
   level-fails : {r : ℕ} → isFilled h l ≡ true → r ≡ decodedNumber (d l) → (r ≡ 0 → ⊥) → levelsOver (suc l) h d o ≡ stopped r l
   level-fails e q f = filled-level e ∙ ap (λ (x : Decoded). thenLay l x (λ (bs : List ℕ). levelsOver l h d (laid (h .s) bs (2 ^ l) o))) (failed-is (d l) q f)
 
-  level-laid : {r : ℕ} → isFilled h l ≡ true → Sound (d l) → r ≡ decodedNumber (d l) → r ≡ 0 → levelsOver (suc l) h d o ≡ levelsOver l h d (laidFrom (h .s) (d l) (2 ^ l) o)
+  level-laid : {r : ℕ} → isFilled h l ≡ true → Sound (d l) → r ≡ decodedNumber (d l) → r ≡ 0
+      → levelsOver (suc l) h d o ≡ levelsOver l h d (laidFrom (h .s) (d l) (2 ^ l) o)
   level-laid e u q z = filled-level e ∙ then-laid (d l) u q z (h .s) (2 ^ l) l o (levelsOver l h d)
 
 -- THE LOOP: what is left to lay over o is what there was to lay over r

@@ -23,7 +23,8 @@ module _ (h : Header) (d : ℕ → Decoded) {r : ℕ} (q : r ≡ decodedNumber (
   pub full-stops : (r ≡ 0 → ⊥) → recover h d ≡ stopped r (h .k)
   full-stops f = ap (λ (x : Decoded). thenLay (h .k) x next) (failed-is (d (h .k)) q f)
 
-  pub full-goes : {o : List ℕ} → Sound (d (h .k)) → r ≡ 0 → o ≡ laidFrom (h .s) (d (h .k)) (count h) (replicate (rawSize h) 0) → recover h d ≡ levelsOver (h .k) h d o
+  pub full-goes : {o : List ℕ} → Sound (d (h .k)) → r ≡ 0 → o ≡ laidFrom (h .s) (d (h .k)) (count h) (replicate (rawSize h) 0)
+      → recover h d ≡ levelsOver (h .k) h d o
   full-goes u z p = then-laid (d (h .k)) u q z (h .s) (count h) (h .k) (replicate (rawSize h) 0) (levelsOver (h .k) h d) ∙ ap (levelsOver (h .k) h d) (sym p)
 
 stopped-words : (x : Recovered) (size : ℕ) → (answerOf x .number ≡ 0 → ⊥) → recoveredWords x size ≡ replicate size 0
@@ -40,13 +41,17 @@ module _ (h : Header) (m e o s : List ℕ) where
 
   pub answers-refused : {n : ℕ} → n ≡ recoverEarly h m e o s → (n ≡ 0 → ⊥) → Answers (unnamed n) o s
   answers-refused q d =
-      let f : recoverEarly h m e o s ≡ 0 → ⊥ = λ z. d (q ∙ z) in
-      (ap unnamed q ∙ sym (if-refused (answerOf found) (unnamed (recoverEarly h m e o s)) f), (sym (if-refused (recoveredWords found (rawSize h)) o f), sym (if-refused (replicate (scratchSize h) 0) s f)))
+      let f : recoverEarly h m e o s ≡ 0 → ⊥ = λ z. d (q ∙ z) in (
+        ap unnamed q ∙ sym (if-refused (answerOf found) (unnamed (recoverEarly h m e o s)) f),
+        (sym (if-refused (recoveredWords found (rawSize h)) o f), sym (if-refused (replicate (scratchSize h) 0) s f)),
+      )
 
   module _ (z : recoverEarly h m e o s ≡ 0) {a : Recovery} {s′ : List ℕ} (q : a ≡ answerOf found) (c : s′ ≡ replicate (scratchSize h) 0) where
     taken : {o′ : List ℕ} → o′ ≡ recoveredWords found (rawSize h) → Answers a o′ s′
-    taken p =
-        (q ∙ sym (if-taken (answerOf found) (unnamed (recoverEarly h m e o s)) z), (p ∙ sym (if-taken (recoveredWords found (rawSize h)) o z), c ∙ sym (if-taken (replicate (scratchSize h) 0) s z)))
+    taken p = (
+      q ∙ sym (if-taken (answerOf found) (unnamed (recoverEarly h m e o s)) z),
+      (p ∙ sym (if-taken (recoveredWords found (rawSize h)) o z), c ∙ sym (if-taken (replicate (scratchSize h) 0) s z)),
+    )
 
     pub answers-stopped : {o′ : List ℕ} → (a .number ≡ 0 → ⊥) → o′ ≡ replicate (rawSize h) 0 → Answers a o′ s′
     answers-stopped d p = taken (p ∙ sym (stopped-words found (rawSize h) (λ n. d (ap (λ (x : Recovery). x .number) q ∙ n))))

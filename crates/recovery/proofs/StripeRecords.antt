@@ -44,7 +44,8 @@ module _ (h : Header) (m : List ℕ) (gs : List Erasure) (l : ℕ) {st : Stripe}
       ∙ ap (λ (k : ℕ). laidFrom (pred (st .width)) (solved st marks (rowsIn st marks bs)) (blockCount st) (replicate k 0)) (sym (full-raw h l e refl f)))
 
 -- a level that fails leaves the records
-pub unready-laid : (h : Header) (m : List ℕ) (gs : List Erasure) (l : ℕ) {n : ℕ} → n ≡ readyOf h m gs l → (n ≡ 0 → ⊥) → (o : List ℕ) → o ≡ laidFrom (h .s) (decodeStripe h m gs l) (2 ^ l) o
+pub unready-laid : (h : Header) (m : List ℕ) (gs : List Erasure) (l : ℕ) {n : ℕ} → n ≡ readyOf h m gs l → (n ≡ 0 → ⊥) → (o : List ℕ)
+    → o ≡ laidFrom (h .s) (decodeStripe h m gs l) (2 ^ l) o
 unready-laid h m gs l q d o = sym (ap (λ (x : Decoded). laidFrom (h .s) x (2 ^ l) o) (unready-is h m gs l q d))
 
 -- a stripe with number 0 gives blocks

@@ -112,10 +112,12 @@ fn recover_levels(
     scratch: &mut [u32],
 ) -> Recovery
     requires { ⌜ RecoveryFits header (now image) (now out) (now scratch) ⌝ }
-    ensures { λ r. ⌜ r ≡ answerOf (levelsOver (header .k) header (decodeStripe header (now (image .entry)) (erasuresIn (now (erasures .entry)))) (now (out .entry))) ⌝ }
+    ensures { λ r. ⌜ r ≡
+        answerOf (levelsOver (header .k) header (decodeStripe header (now (image .entry)) (erasuresIn (now (erasures .entry)))) (now (out .entry))) ⌝ }
     ensures { λ r. ⌜ (r .number ≡ 0 →
         now (out .exit) ≡
-        recoveredWords (levelsOver (header .k) header (decodeStripe header (now (image .entry)) (erasuresIn (now (erasures .entry)))) (now (out .entry))) (rawSize header)) ⌝ }
+        recoveredWords (levelsOver (header .k) header (decodeStripe header (now (image .entry)) (erasuresIn (now (erasures .entry)))) (now (out .entry)))
+        (rawSize header)) ⌝ }
 {
     let mut level = header.k as usize;
     while 0 < level {

@@ -20,7 +20,8 @@ module _ (st : Stripe) (bs : List ℕ) where
   pub record-at : (n : ℕ) → areRecords st bs n ≡ true → (j : ℕ) → j < n → isRecord st bs j ≡ true
   unfolding areRecords
   record-at zero e j b = absurd (omega arith)
-  record-at (suc n) e j b = at (decLt j n) (first-true (isRecord st bs n) (areRecords st bs n) e) (record-at n (second-true (isRecord st bs n) (areRecords st bs n) e) j)
+  record-at (suc n) e j b = at (decLt j n) (first-true (isRecord st bs n) (areRecords st bs n) e)
+      (record-at n (second-true (isRecord st bs n) (areRecords st bs n) e) j)
     where
       at : Dec (j < n) → isRecord st bs n ≡ true → (j < n → isRecord st bs j ≡ true) → isRecord st bs j ≡ true
       at (yes y) last rest = rest y
@@ -45,7 +46,8 @@ number-full st j x e = rw (eq-eqb (st .level) (st .k) e, numberFits)
 pub number-low : (st : Stripe) (bs : List ℕ) (j : ℕ) → st .level < st .k → isRecord st bs j ≡ true → blockNumber (st .width) bs j < 2 ^ st .k
 number-low st bs j b e =
     ltb-true (blockNumber (st .width) bs j) (2 ^ st .k)
-    (sym (number-level st j (blockNumber (st .width) bs j) b) ∙ first-true (numberFits st j (blockNumber (st .width) bs j)) (areData (blockData (st .width) bs j)) e)
+    (sym (number-level st j (blockNumber (st .width) bs j) b)
+    ∙ first-true (numberFits st j (blockNumber (st .width) bs j)) (areData (blockData (st .width) bs j)) e)
 
 -- what is tested of a block that begins at an index
 abbrev fitsNumber : (l k n : ℕ) → (bs : List ℕ) → (at j : ℕ) → Bool
@@ -54,7 +56,8 @@ fitsNumber l k n bs at j = elim (eqb l k) [ true ↦ eqb (getD bs at 0) j | fals
 abbrev dataAt : (w : ℕ) → (bs : List ℕ) → (at : ℕ) → List ℕ
 dataAt w bs at = take (at + w - (at + 1)) (drop (at + 1) bs)
 
-tested : (st : Stripe) (n : ℕ) (bs : List ℕ) (at j : ℕ) → at ≡ j * st .width → 2 ^ st .k ≡ n → isRecord st bs j ≡ (fitsNumber (st .level) (st .k) n bs at j && areData (dataAt (st .width) bs at))
+tested : (st : Stripe) (n : ℕ) (bs : List ℕ) (at j : ℕ) → at ≡ j * st .width → 2 ^ st .k ≡ n
+    → isRecord st bs j ≡ (fitsNumber (st .level) (st .k) n bs at j && areData (dataAt (st .width) bs at))
 tested st n bs at j e b =
     let s : at + st .width - (at + 1) ≡ pred (st .width) = omega arith in
     let t : at + 1 ≡ suc (j * st .width) = omega arith in
@@ -71,7 +74,8 @@ unfolding areRecords
 testing-start l k n w bs rows = record { turns = omega arith; stands = sym (zero-mul w); records = λ st a b c d. refl }
 
 module _ {l k n w : ℕ} {bs : List ℕ} {rows at j : ℕ} (T : Testing l k n w bs rows at j) where
-  record-is : (st : Stripe) → st .level ≡ l → st .k ≡ k → 2 ^ st .k ≡ n → st .width ≡ w → isRecord st bs j ≡ (fitsNumber l k n bs at j && areData (dataAt w bs at))
+  record-is : (st : Stripe) → st .level ≡ l → st .k ≡ k → 2 ^ st .k ≡ n → st .width ≡ w
+      → isRecord st bs j ≡ (fitsNumber l k n bs at j && areData (dataAt w bs at))
   record-is st a b c d = tested st n bs at j (T .stands ∙ ap (λ (x : ℕ). j * x) (sym d)) c ∙ rw (a, b, d)
 
   pub testing-turn : j < rows → fitsNumber l k n bs at j ≡ true → areData (dataAt w bs at) ≡ true → Testing l k n w bs rows (at + w) (j + 1)

@@ -32,8 +32,10 @@ module _ (width from cols n : ℕ) (r : List ℕ) where
   -- one column of the range
   column-of : (j : ℕ) → j < cols → column cols n j (columnsOf width from cols n r) ≡ column width n (from + j) r
   column-of j b =
-      ext-getD 0 (column cols n j (columnsOf width from cols n r)) (column width n (from + j) r) (length-column cols n j (columnsOf width from cols n r) ∙ sym (length-column width n (from + j) r))
-      (λ i h. let h′ : i < n = rw length-column at h in column-at cols n j (columnsOf width from cols n r) i h′ ∙ columns-at i j h′ b ∙ sym (column-at width n (from + j) r i h′))
+      ext-getD 0 (column cols n j (columnsOf width from cols n r)) (column width n (from + j) r) (length-column cols n j (columnsOf width from cols n r)
+      ∙ sym (length-column width n (from + j) r))
+      (λ i h. let h′ : i < n = rw length-column at h in column-at cols n j (columnsOf width from cols n r) i h′ ∙ columns-at i j h′ b
+      ∙ sym (column-at width n (from + j) r i h′))
 
 -- all columns
 pub columns-all : (width n : ℕ) (r : List ℕ) → length r ≡ n * width → columnsOf width 0 width n r ≡ r
@@ -47,11 +49,13 @@ module _ (p w k l t : ℕ) (ms : List Bool) (width : ℕ) (r : List ℕ) where
   unfolding consistentTo
   to-range from cols x same zero h = rw add-zero
   to-range from cols x same (suc c) h =
-      let e : consistentTo p w k l t width ms r (from + c) ≡ (consistentTo p w k l t cols ms x c && consistentTo p w k l t width ms r from) = to-range from cols x same c (omega arith) in
+      let e : consistentTo p w k l t width ms r (from + c) ≡ (consistentTo p w k l t cols ms x c && consistentTo p w k l t width ms r from) =
+      to-range from cols x same c (omega arith) in
       rw (add-suc, e, same c (omega arith), and-assoc)
 
   pub consistent-range : (from cols : ℕ)
-      → consistentTo p w k l t width ms r (from + cols) ≡ (consistent p w k l t cols ms (columnsOf width from cols (2 ^ suc l) r) && consistentTo p w k l t width ms r from)
+      → consistentTo p w k l t width ms r
+      (from + cols) ≡ (consistent p w k l t cols ms (columnsOf width from cols (2 ^ suc l) r) && consistentTo p w k l t width ms r from)
   consistent-range from cols = to-range from cols (columnsOf width from cols (2 ^ suc l) r) (column-of width from cols (2 ^ suc l) r) cols (omega arith)
 
   pub decoded-range : (from cols : ℕ) → from + cols ≤ width
@@ -60,7 +64,8 @@ module _ (p w k l t : ℕ) (ms : List Bool) (width : ℕ) (r : List ℕ) where
   decoded-range from cols h =
       let x = columnsOf width from cols (2 ^ suc l) r in
       let f = decodedColumn p w k l t ms in
-      is-columns width from cols (2 ^ l) (lifted width (2 ^ suc l) (2 ^ l) f r) (lifted cols (2 ^ suc l) (2 ^ l) f x) (length-lifted cols (2 ^ suc l) (2 ^ l) f x)
+      is-columns width from cols (2 ^ l) (lifted width (2 ^ suc l) (2 ^ l) f r) (lifted cols (2 ^ suc l) (2 ^ l) f x)
+      (length-lifted cols (2 ^ suc l) (2 ^ l) f x)
       (λ i j a b. lifted-at cols (2 ^ suc l) (2 ^ l) f x i j a b ∙ ap (λ (c : List ℕ). getD (f c) i 0) (column-of width from cols (2 ^ suc l) r j b)
       ∙ sym (lifted-at width (2 ^ suc l) (2 ^ l) f r i (from + j) a (omega arith)))
 
@@ -86,6 +91,8 @@ module _ (width from cols n : ℕ) (r : List ℕ) (h : n * width + (from + cols)
   columns-row =
       let f = columnsWord width from cols r in
       let e : take cols (drop (n * width + from) r) ≡ table cols (λ j. f (n * cols + j)) =
-      is-table (take cols (drop (n * width + from) r)) cols (λ j. f (n * cols + j)) (length-take-le cols (drop (n * width + from) r) (rw length-drop (omega arith))) row-at in
+      is-table (take cols (drop (n * width + from) r)) cols (λ j. f (n * cols + j))
+      (length-take-le cols (drop (n * width + from) r) (rw length-drop (omega arith))) row-at in
       two-tables (table (suc n * cols) f) (n * cols) cols f (λ j. f (n * cols + j)) (length-table (suc n * cols) f ∙ omega arith)
-      (λ i b. getD-table (suc n * cols) i f (omega arith)) (λ j b. getD-table (suc n * cols) (n * cols + j) f (omega arith)) ∙ ap (λ (t : List ℕ). table (n * cols) f ++ t) (sym e)
+      (λ i b. getD-table (suc n * cols) i f (omega arith)) (λ j b. getD-table (suc n * cols) (n * cols + j) f (omega arith))
+      ∙ ap (λ (t : List ℕ). table (n * cols) f ++ t) (sym e)

@@ -127,7 +127,8 @@ module _ (st : Stripe) (ms : List Bool) (r : List ℕ) where
       }
 
   field-out : OutOfField st ms r → areBelow p rows ≡ false
-  field-out O = is-false (areBelow p rows) (λ e. let b = in-field e .below (O .position) (O .column) (O .among) (O .inside) (O .survives) in omega (arith, O .over))
+  field-out O =
+      is-false (areBelow p rows) (λ e. let b = in-field e .below (O .position) (O .column) (O .among) (O .inside) (O .survives) in omega (arith, O .over))
 
   -- 7, 8, or what its words come to
   seven-if : left < blockCount st → decodeRows st ms r ≡ failed 7
@@ -145,7 +146,8 @@ module _ (st : Stripe) (ms : List Bool) (r : List ℕ) where
 
   codes-found : Readable st ms r → (bs : List ℕ) → Codes st ms r bs → (isConsistent st ms rows ≡ true) × (blocksIn st ms rows ≡ bs)
   codes-found R bs C =
-      Decoder.proved .finds-stripe st ms rows bs (R .fits .numbers) (R .enough) (C .blocks) rows-long (agrees-surviving (st .width) (positionCount st) ms r (C .agrees))
+      Decoder.proved .finds-stripe st ms rows bs (R .fits .numbers) (R .enough) (C .blocks) rows-long
+      (agrees-surviving (st .width) (positionCount st) ms r (C .agrees))
 
   -- blocks that are found code to them
   found-codes : Readable st ms r → isConsistent st ms rows ≡ true → Codes st ms r (blocksIn st ms rows)

@@ -42,13 +42,16 @@ module _ (st : Stripe) (ms : List Bool) (r : List ℕ) (from cols : ℕ) where
 
   module _ {part : List ℕ} (L : part ≡ columns ++ weightsIn st ms) where
     pub loaded-front : take (positionCount st * cols) part ≡ columns
-    loaded-front = ap (take (positionCount st * cols)) L ∙ take-at columns (weightsIn st ms) (positionCount st * cols) (length-columns (st .width) from cols (positionCount st) r)
+    loaded-front = ap (take (positionCount st * cols)) L
+        ∙ take-at columns (weightsIn st ms) (positionCount st * cols) (length-columns (st .width) from cols (positionCount st) r)
 
     pub loaded-weights : drop (positionCount st * cols) part ≡ weightsIn st ms
-    loaded-weights = ap (drop (positionCount st * cols)) L ∙ drop-at columns (weightsIn st ms) (positionCount st * cols) (length-columns (st .width) from cols (positionCount st) r)
+    loaded-weights = ap (drop (positionCount st * cols)) L
+        ∙ drop-at columns (weightsIn st ms) (positionCount st * cols) (length-columns (st .width) from cols (positionCount st) r)
 
     pub loaded-long : length part ≡ positionCount st * cols + positionCount st
-    loaded-long = ap length L ∙ length-append columns (weightsIn st ms) ∙ ap₂ _+_ (length-columns (st .width) from cols (positionCount st) r) (length-weights st ms)
+    loaded-long =
+        ap length L ∙ length-append columns (weightsIn st ms) ∙ ap₂ _+_ (length-columns (st .width) from cols (positionCount st) r) (length-weights st ms)
 
     pub loaded-words : areBelow (modulusOf st) r ≡ true → Words (modulusOf st) part
     loaded-words e =
@@ -56,15 +59,18 @@ module _ (st : Stripe) (ms : List Bool) (r : List ℕ) (from cols : ℕ) where
         (words-weights (modulusOf st) (lit< tt) (st .root) (st .k) (st .level) ms (positionCount st) (positionCount st)))
 
 -- ROWS of words of the field, and the weights behind them
-pub part-words : (st : Stripe) (ms : List Bool) (part : List ℕ) → areBelow (modulusOf st) (take (stripeWords st) part) ≡ true → drop (stripeWords st) part ≡ weightsIn st ms → Words (modulusOf st) part
+pub part-words : (st : Stripe) (ms : List Bool) (part : List ℕ) → areBelow (modulusOf st) (take (stripeWords st) part) ≡ true
+    → drop (stripeWords st) part ≡ weightsIn st ms → Words (modulusOf st) part
 part-words st ms part e w =
     rw (← take-append-drop (stripeWords st) part)
     (words-append (modulusOf st) (lit< tt) {a = take (stripeWords st) part} (below-words (modulusOf st) (lit< tt) (take (stripeWords st) part) e)
     (rw w (words-weights (modulusOf st) (lit< tt) (st .root) (st .k) (st .level) ms (positionCount st) (positionCount st))))
 
 -- THE WEIGHTS STORED in the last words of a part
-pub weights-last : (st : Stripe) (ms : List Bool) {part : List ℕ} (part₀ : List ℕ) (cols : ℕ) → 0 < cols → length part₀ ≡ positionCount st * cols + positionCount st
-    → part ≡ table (positionCount st) (pointAt (modulusOf st) (st .root) (st .k) (st .level)) ++ take (length part₀ - (positionCount st + positionCount st)) (drop (positionCount st) part₀) ++ weightsIn st ms
+pub weights-last : (st : Stripe) (ms : List Bool) {part : List ℕ} (part₀ : List ℕ) (cols : ℕ) → 0 < cols
+    → length part₀ ≡ positionCount st * cols + positionCount st
+    → part ≡ table (positionCount st) (pointAt (modulusOf st) (st .root) (st .k) (st .level)) ++ take (length part₀ - (positionCount st + positionCount st))
+    (drop (positionCount st) part₀) ++ weightsIn st ms
     → drop (positionCount st * cols) part ≡ weightsIn st ms
 weights-last st ms {part} part₀ cols z e q =
     let n = positionCount st in
@@ -72,7 +78,11 @@ weights-last st ms {part} part₀ cols z e q =
     let ps = table n (pointAt (modulusOf st) (st .root) (st .k) (st .level)) in
     let b : n ≤ n * cols = some n cols z in
     let long : length (ps ++ take m (drop n part₀)) ≡ n * cols =
-    length-append ps (take m (drop n part₀)) ∙ omega (arith, length-table n (pointAt (modulusOf st) (st .root) (st .k) (st .level)), length-take-le m (drop n part₀) (rw length-drop (omega arith))) in
+    length-append ps (take m (drop n part₀)) ∙ omega (
+      arith,
+      length-table n (pointAt (modulusOf st) (st .root) (st .k) (st .level)),
+      length-take-le m (drop n part₀) (rw length-drop (omega arith)),
+    ) in
     ap (drop (n * cols)) q ∙ drop-at (ps ++ take m (drop n part₀)) (weightsIn st ms) (n * cols) long
   where
     some : (n cols : ℕ) → 0 < cols → n ≤ n * cols
@@ -95,12 +105,16 @@ module _ (st : Stripe) (ms : List Bool) (r : List ℕ) where
 
   -- zeros in place of the weights
   pub weights-cleared : {rows : ℕ} {part x : List ℕ} → part ≡ leftOf st ms r ++ weightsIn st ms → rows ≡ stripeWords st
-      → x ≡ replicate (length (take (length part - rows) (drop rows part))) 0 → putMid rows (length part - rows) part x ≡ leftOf st ms r ++ replicate (positionCount st) 0
+      → x ≡ replicate (length (take (length part - rows) (drop rows part))) 0
+      → putMid rows (length part - rows) part x ≡ leftOf st ms r ++ replicate (positionCount st) 0
   weights-cleared {rows} {part} {x} q e z =
-      let long : length part ≡ stripeWords st + positionCount st = ap length q ∙ length-append (leftOf st ms r) (weightsIn st ms) ∙ ap₂ _+_ length-left (length-weights st ms) in
-      let n : length (take (length part - rows) (drop rows part)) ≡ positionCount st = length-take-le (length part - rows) (drop rows part) (omega (arith, length-drop rows part)) ∙ omega arith in
+      let long : length part ≡ stripeWords st + positionCount st =
+      ap length q ∙ length-append (leftOf st ms r) (weightsIn st ms) ∙ ap₂ _+_ length-left (length-weights st ms) in
+      let n : length (take (length part - rows) (drop rows part)) ≡ positionCount st =
+      length-take-le (length part - rows) (drop rows part) (omega (arith, length-drop rows part)) ∙ omega arith in
       ap (λ (y : List ℕ). take rows part ++ (x ++ y)) (drop-of-length-le (drop rows part) {i = length part - rows} (omega (arith, length-drop rows part)))
-      ∙ ap (λ (y : List ℕ). take rows part ++ y) (append-nil x) ∙ ap₂ _++_ (ap (take rows) q ∙ take-at (leftOf st ms r) (weightsIn st ms) rows (length-left ∙ sym e)) (z ∙ ap (λ (m : ℕ). replicate m 0) n)
+      ∙ ap (λ (y : List ℕ). take rows part ++ y) (append-nil x)
+      ∙ ap₂ _++_ (ap (take rows) q ∙ take-at (leftOf st ms r) (weightsIn st ms) rows (length-left ∙ sym e)) (z ∙ ap (λ (m : ℕ). replicate m 0) n)
 
   pub length-cleared : length (leftOf st ms r ++ replicate (positionCount st) 0) ≡ stripeWords st + positionCount st
   length-cleared = length-append (leftOf st ms r) (replicate (positionCount st) 0) ∙ ap₂ _+_ length-left (length-replicate (positionCount st) 0)
@@ -112,15 +126,18 @@ module _ (st : Stripe) (ms : List Bool) (r : List ℕ) where
       ∙ replicate-append-replicate (stripeWords st) (positionCount st) 0
 
   -- blocks, and zeros after them
-  pub left-blocks : isConsistent st ms r ≡ true → leftOf st ms r ++ replicate (positionCount st) 0 ≡ blocksIn st ms r ++ replicate (stripeWords st + positionCount st - length (blocksIn st ms r)) 0
+  pub left-blocks : isConsistent st ms r ≡ true
+      → leftOf st ms r ++ replicate (positionCount st) 0 ≡ blocksIn st ms r ++ replicate (stripeWords st + positionCount st - length (blocksIn st ms r)) 0
   left-blocks c =
       ap (λ (y : List ℕ). y ++ replicate (positionCount st) 0) (leaves-blocks (modulusOf st) (st .root) (st .k) (st .level) (st .first) (st .width) ms r c)
       ∙ append-assoc (blocksIn st ms r) (replicate (blockWords st) 0) (replicate (positionCount st) 0)
       ∙ ap (λ (y : List ℕ). blocksIn st ms r ++ y) (replicate-append-replicate (blockWords st) (positionCount st) 0
-      ∙ ap (λ (m : ℕ). replicate m 0) {x = blockWords st + positionCount st} {y = stripeWords st + positionCount st - length (blocksIn st ms r)} (omega (arith, length-blocks, twice st)))
+      ∙ ap (λ (m : ℕ). replicate m 0) {x = blockWords st + positionCount st} {y = stripeWords st + positionCount st - length (blocksIn st ms r)}
+      (omega (arith, length-blocks, twice st)))
 
   pub left-front : isConsistent st ms r ≡ true → take (blockWords st) (leftOf st ms r ++ replicate (positionCount st) 0) ≡ blocksIn st ms r
-  left-front c = ap (take (blockWords st)) (left-blocks c) ∙ take-at (blocksIn st ms r) (replicate (stripeWords st + positionCount st - length (blocksIn st ms r)) 0) (blockWords st) length-blocks
+  left-front c = ap (take (blockWords st)) (left-blocks c)
+      ∙ take-at (blocksIn st ms r) (replicate (stripeWords st + positionCount st - length (blocksIn st ms r)) 0) (blockWords st) length-blocks
 
 -- two words for each position at least
 pub room : (n w : ℕ) → 1 < w → n + n ≤ n * w + n

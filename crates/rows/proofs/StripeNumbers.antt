@@ -48,7 +48,8 @@ module _ (st : Stripe) (ms : List Bool) (r : List ℕ) where
   too-few b = rw (lt-ltb (length (survivors (st .level) ms)) (blockCount st) (omega arith), readyNumber)
 
   -- 8: a surviving word is not of the field
-  pub ready-when : {b : Bool} → erasedCount (st .level) ms ≤ blockCount st → areBelow (modulusOf st) r ≡ b → readyNumber st ms r ≡ elim b [ true ↦ 0 | false ↦ 8 ]
+  pub ready-when : {b : Bool} → erasedCount (st .level) ms ≤ blockCount st → areBelow (modulusOf st) r ≡ b
+      → readyNumber st ms r ≡ elim b [ true ↦ 0 | false ↦ 8 ]
   ready-when t q = rw (le-ltb (length (survivors (st .level) ms)) (blockCount st) (omega arith), q, readyNumber)
 
   -- neither: it can be decoded

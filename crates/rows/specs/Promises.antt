@@ -1,5 +1,5 @@
--- WHAT IS PROMISED OF DECODING a stripe's words and marks, both ways round. Each promise is a type, and all of them are the fields of `Promises`, whose proof is
--- `proved` of proofs/Proved. st are the stripe's numbers, ms its marks (true is erased), r its words, whatever stands at erased positions. Assumes nothing.
+-- WHAT IS PROMISED OF DECODING a stripe's words and marks, both ways round. Each promise is a type, and all of them are the fields of `Promises`, whose proof
+-- is `proved` of proofs/Proved. st are the stripe's numbers, ms its marks (true is erased), r its words, whatever stands at erased positions. Assumes nothing.
 use mathlib.Core.Path.{_≡_}
 use mathlib.Core.Bool.{Bool, true, false}
 use mathlib.Core.Logic.{_↔_}
@@ -46,7 +46,8 @@ EightIff = (st : Stripe) (ms : List Bool) (r : List ℕ) → (decodeRows st ms r
 
 -- and where it is neither, the stripe is readable
 abbrev pub ElseReadable : Type 0
-ElseReadable = (st : Stripe) (ms : List Bool) (r : List ℕ) → StripeFits st → (decodeRows st ms r ≡ failed 7 → ⊥) → (decodeRows st ms r ≡ failed 8 → ⊥) → Readable st ms r
+ElseReadable =
+    (st : Stripe) (ms : List Bool) (r : List ℕ) → StripeFits st → (decodeRows st ms r ≡ failed 7 → ⊥) → (decodeRows st ms r ≡ failed 8 → ⊥) → Readable st ms r
 
 -- blocks are given if and only if they are the ones that code to all surviving words, and hold records
 abbrev pub DecodesIff : Type 0

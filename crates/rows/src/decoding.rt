@@ -98,8 +98,8 @@ fn load_and_solve(st: Stripe, bytes: &[u8], marks: &[bool], part: &mut [u32]) ->
     solve(st, marks, part)
 }
 
-// Decodes a stripe in the first words of a scratch that has room for its rows and a weight for each position: 9 or 10, or 0. These words are then the blocks and
-// zeros after them, or zeros; the others stay.
+// Decodes a stripe in the first words of a scratch that has room for its rows and a weight for each position: 9 or 10, or 0. These words are then the blocks
+// and zeros after them, or zeros; the others stay.
 pub fn decode_rows(st: Stripe, bytes: &[u8], marks: &[bool], scratch: &mut [u32]) -> u32
     requires { ⌜ Ready st (now marks) (rowsIn st (now marks) (now bytes)) ⌝ }
     requires { ⌜ (length (now bytes) ≡ 4 * stripeWords st) × (stripeWords st + positionCount st ≤ length (now scratch)) ⌝ }

@@ -29,7 +29,8 @@ module _ (h : Header) (u : Buffers) where
     unfolding refusal
     held-refused more d = by (headerFits h) (buffersFit h u) b more d
       where
-        by : (a f b : Bool) → (f ≡ false → b ≡ false) → (refusal (test a 1 (test f 2 done)) ≡ 0 → ⊥) → refusal (test a 1 (test f 2 done)) ≡ refusal (test a 1 (test b 2 rest))
+        by : (a f b : Bool) → (f ≡ false → b ≡ false) → (refusal (test a 1 (test f 2 done)) ≡ 0 → ⊥)
+            → refusal (test a 1 (test f 2 done)) ≡ refusal (test a 1 (test b 2 rest))
         by false f b more d = refl
         by true true b more d = absurd (d refl)
         by true false b more d = rw (more refl)

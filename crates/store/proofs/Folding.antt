@@ -40,7 +40,8 @@ pub record FoldLoop (half₀ : List ℕ) (level k width root : ℕ) (half : List
   pub from-is : from + m * width ≡ length half₀
   pub now : half ≡ take from half₀ ++ folded 65537 root k width l (drop from half₀)
 
-pub fold-start : {half₀ : List ℕ} {level k width root exponent : ℕ} → (level ≤ k) × (k ≤ 15) → length half₀ ≡ 2 ^ level * width → Words 65537 half₀ → exponent ≡ 2 ^ k
+pub fold-start : {half₀ : List ℕ} {level k width root exponent : ℕ} → (level ≤ k) × (k ≤ 15) → length half₀ ≡ 2 ^ level * width → Words 65537 half₀
+    → exponent ≡ 2 ^ k
     → FoldLoop half₀ level k width root half₀ exponent 1 (length half₀ - width) 0
 unfolding folded
 fold-start {half₀} {level} {k} {width} {root} {exponent} b e w x = record {
@@ -56,7 +57,8 @@ fold-start {half₀} {level} {k} {width} {root} {exponent} b e w x = record {
   now = sym (take-append-drop (length half₀ - width) half₀);
 }
 
-module _ {half₀ : List ℕ} {level k width root : ℕ} {half : List ℕ} {exponent m from l : ℕ} (h : FoldLoop half₀ level k width root half exponent m from l) (lt : l < level) where
+module _ {half₀ : List ℕ} {level k width root : ℕ} {half : List ℕ} {exponent m from l : ℕ} (h : FoldLoop half₀ level k width root half exponent m from l)
+    (lt : l < level) where
   rows-in : (m + m) * width ≤ 2 ^ level * width
   rows-in = mul-le-mul-right width (rw (h .m-is) (omega (arith, pow-mono lt)))
 
@@ -76,7 +78,8 @@ module _ {half₀ : List ℕ} {level k width root : ℕ} {half : List ℕ} {expo
       let f = from - m * width in
       let e : from ≡ f + m * width = omega (arith, room) in
       record {
-        is = h .now ∙ ap (λ (n : ℕ). take n half₀ ++ folded 65537 root k width l (drop n half₀)) e ∙ rw (take-add f (m * width) half₀, ← drop-drop (m * width) f half₀, append-assoc);
+        is = h .now ∙ ap (λ (n : ℕ). take n half₀ ++ folded 65537 root k width l (drop n half₀)) e
+            ∙ rw (take-add f (m * width) half₀, ← drop-drop (m * width) f half₀, append-assoc);
         long = length-take-le f half₀ (omega (arith, h .from-is));
       }
 
@@ -101,10 +104,12 @@ module _ {half₀ : List ℕ} {level k width root : ℕ} {half : List ℕ} {expo
 
   pub fold-turn : {ys : List ℕ} {v : ℕ} → v ≡ power 65537 root exponent
       → ys ≡ lifted width (m + m) (m + m) (mixedHalves 65537 v m) (take (length half - (from - m * width)) (drop (from - m * width) half))
-      → FoldLoop half₀ level k width root (putMid (from - m * width) (length half - (from - m * width)) half ys) (exponent / 2) (m * 2) (from - m * width) (l + 1)
+      → FoldLoop half₀ level k width root (putMid (from - m * width) (length half - (from - m * width)) half ys) (exponent / 2) (m * 2) (from - m * width)
+      (l + 1)
   fold-turn {ys} {v} ev ey =
       let f = from - m * width in
-      let y : ys ≡ lifted width (m + m) (m + m) (mixedHalves 65537 v m) rows = ey ∙ ap (lifted width (m + m) (m + m) (mixedHalves 65537 v m)) (lent-rest parts) in
+      let y : ys ≡ lifted width (m + m) (m + m) (mixedHalves 65537 v m) rows =
+      ey ∙ ap (lifted width (m + m) (m + m) (mixedHalves 65537 v m)) (lent-rest parts) in
       let n : putMid f (length half - f) half ys ≡ take f half₀ ++ ys = put-rest parts ys .is in
       let d : 2 ^ (k - l) ≡ 2 ^ (k - suc l) * 2 = pow-down (omega (arith, h .within)) in
       rw (n, add-one) (record {
@@ -112,15 +117,25 @@ module _ {half₀ : List ℕ} {level k width root : ℕ} {half : List ℕ} {expo
         within = h .within;
         few = h .few;
         long = h .long;
-        same = length-append (take f half₀) ys ∙ omega (arith, parts .long, ap length y, length-lifted width (m + m) (m + m) (mixedHalves 65537 v m) rows, room, h .from-is, add-mul m m width);
-        words = words-append 65537 (lit< tt) {a = take f half₀} (rw (lent-front parts) at (words-take 65537 (lit< tt) f (h .words))) (rw y (mixing-block width m v .words rows));
+        same = length-append (take f half₀) ys ∙ omega (
+          arith,
+          parts .long,
+          ap length y,
+          length-lifted width (m + m) (m + m) (mixedHalves 65537 v m) rows,
+          room,
+          h .from-is,
+          add-mul m m width,
+        );
+        words = words-append 65537 (lit< tt) {a = take f half₀} (rw (lent-front parts) at (words-take 65537 (lit< tt) f (h .words)))
+            (rw y (mixing-block width m v .words rows));
         exponent-is = omega (arith, h .exponent-is);
         m-is = omega (arith, h .m-is);
         from-is = omega (arith, room, h .from-is);
         now = ap (λ (r : List ℕ). take f half₀ ++ r) (y ∙ folded-more ev);
       })
 
-pub fold-done : {half₀ : List ℕ} {level k width root : ℕ} {half : List ℕ} {exponent m from l : ℕ} → FoldLoop half₀ level k width root half exponent m from l → level ≤ l
+pub fold-done : {half₀ : List ℕ} {level k width root : ℕ} {half : List ℕ} {exponent m from l : ℕ} → FoldLoop half₀ level k width root half exponent m from l
+    → level ≤ l
     → half ≡ folded 65537 root k width level half₀
 fold-done {half₀} {level} {k} {width} {root} {half} {exponent} {m} {from} {l} h b =
     let e : l ≡ level = omega (arith, h .turns) in

@@ -42,7 +42,8 @@ half-same width m a b l {y} h lt e =
     let inside : halfStart width l y + 2 ^ l * width ≤ halfStart width m 0 = omega (arith, half-end width l h, level-rises width lt) in
     ap (reduced 65537)
     (sym (part-inside (halfStart width l y) (2 ^ l * width) (halfStart width m 0) a inside)
-    ∙ ap (λ (r : List ℕ). take (2 ^ l * width) (drop (halfStart width l y) r)) e ∙ part-inside (halfStart width l y) (2 ^ l * width) (halfStart width m 0) b inside)
+    ∙ ap (λ (r : List ℕ). take (2 ^ l * width) (drop (halfStart width l y) r)) e
+    ∙ part-inside (halfStart width l y) (2 ^ l * width) (halfStart width m 0) b inside)
 
 pub gathered-same : (width m : ℕ) (a b : List ℕ) {y : ℕ} (r : List ℕ) (l : ℕ) → y ≤ 1 → l ≤ m → take (halfStart width m 0) a ≡ take (halfStart width m 0) b
     → gathered 65537 width a y r l ≡ gathered 65537 width b y r l
@@ -60,9 +61,11 @@ pub record GatherLoop (width : ℕ) (log₀ : List ℕ) (level half : ℕ) (log 
   pub same : length log ≡ length log₀
   pub at-is : at + 2 ^ l * width ≡ halfStart width level half + 2 ^ level * width
   pub front : take (halfStart width level 0) log ≡ take (halfStart width level 0) log₀
-  pub left : (row : List ℕ) → sets log at (gathered 65537 width log₀ half row l) ≡ sets log₀ (halfStart width level half) (gathered 65537 width log₀ half row level)
+  pub left : (row : List ℕ)
+      → sets log at (gathered 65537 width log₀ half row l) ≡ sets log₀ (halfStart width level half) (gathered 65537 width log₀ half row level)
 
-pub gather-start : {width : ℕ} {log : List ℕ} {level half at : ℕ} → (level ≤ 9) × (half ≤ 1) × (width ≤ 129) → halfStart width (suc level) 0 ≤ length log → at ≡ halfStart width level half
+pub gather-start : {width : ℕ} {log : List ℕ} {level half at : ℕ} → (level ≤ 9) × (half ≤ 1) × (width ≤ 129) → halfStart width (suc level) 0 ≤ length log
+    → at ≡ halfStart width level half
     → GatherLoop width log level half log at level
 gather-start {width} {log} {level} {half} b f e = record {
   turns = omega arith;
@@ -113,10 +116,12 @@ module _ {width : ℕ} {log₀ : List ℕ} {level half : ℕ} {log : List ℕ} {
         at-is = omega (arith, h .at-is, rows-double width l);
         front = ap (take (halfStart width level 0)) g ∙ take-sets (halfStart width level 0) log at part (gather-low h) ∙ h .front;
         left = λ row. ap₂ (λ (i : ℕ) (r : List ℕ). sets r (at + i) (gathered 65537 width log₀ half row l)) (sym n) g
-            ∙ sym (sets-append log at part (gathered 65537 width log₀ half row l)) ∙ ap (sets log at) (sym (gathered-suc 65537 width log₀ half row l)) ∙ h .left row;
+            ∙ sym (sets-append log at part (gathered 65537 width log₀ half row l)) ∙ ap (sets log at) (sym (gathered-suc 65537 width log₀ half row l))
+            ∙ h .left row;
       }
 
-  pub gather-turn : (l : ℕ) {from size : ℕ} {log′ : List ℕ} → GatherLoop width log₀ level half log at (suc l) → from ≡ halfStart width l half → size ≡ 2 ^ l * width
+  pub gather-turn : (l : ℕ) {from size : ℕ} {log′ : List ℕ} → GatherLoop width log₀ level half log at (suc l) → from ≡ halfStart width l half
+      → size ≡ 2 ^ l * width
       → log′ ≡ sets log at (reduced 65537 (take size (drop from log))) → GatherLoop width log₀ level half log′ (at + size) l
   gather-turn l h ef es e = rw es (gather-more l h (e ∙ ap₂ (λ (n m : ℕ). sets log at (reduced 65537 (take n (drop m log)))) es ef))
 

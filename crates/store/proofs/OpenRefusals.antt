@@ -33,7 +33,14 @@ module _ (k s : ℕ) (r f g : List ℕ) where
       let one = passes (headerFits header) 1 (test sized 2 last) e (omega arith) in
       let two = passes sized 2 last (one .1) (omega arith) in
       let t = lengths header (buffers r f g) (two .0) in
-      record { fitting = one .0; raw-long = t .0; full-long = t .1; log-long = t .2; records = passes (recordsFit s r (count header)) 5 done (two .1) (omega arith) .0 }
+      record {
+        fitting = one .0;
+        raw-long = t .0;
+        full-long = t .1;
+        log-long = t .2;
+        records = passes (recordsFit s r (count header)) 5 done (two .1)
+            (omega arith) .0;
+      }
 
   -- and so all words are data words
   pub open-data : openNumber k s r f g ≡ 0 → areData r ≡ true

@@ -30,12 +30,14 @@ half-below : (width l : ℕ) {y n : ℕ} → y ≤ 1 → halfStart width (suc l)
 half-below width l s h = omega (arith, half-end width l s)
 
 -- WHAT IS GATHERED: its length and its words, and the half that it folds to
-length-gathered : (p width : ℕ) (g : List ℕ) {y : ℕ} (r : List ℕ) (l : ℕ) → y ≤ 1 → length r ≡ width → halfStart width l 0 ≤ length g → length (gathered p width g y r l) ≡ 2 ^ l * width
+length-gathered : (p width : ℕ) (g : List ℕ) {y : ℕ} (r : List ℕ) (l : ℕ) → y ≤ 1 → length r ≡ width → halfStart width l 0 ≤ length g
+    → length (gathered p width g y r l) ≡ 2 ^ l * width
 unfolding gathered
 length-gathered p width g {y} r zero s e h = e ∙ sym (one-mul width)
 length-gathered p width g {y} r (suc l) s e h =
     length-append (halfIn p width g l y) (gathered p width g y r l)
-    ∙ ap₂ _+_ (length-copy p (halfStart width l y) (2 ^ l * width) g (half-below width l s h)) (length-gathered p width g r l s e (below width l h)) ∙ sym (rows-double width l)
+    ∙ ap₂ _+_ (length-copy p (halfStart width l y) (2 ^ l * width) g (half-below width l s h)) (length-gathered p width g r l s e (below width l h))
+    ∙ sym (rows-double width l)
 
 pub words-gathered : (p width : ℕ) → 0 < p → (g : List ℕ) (y : ℕ) {r : List ℕ} (l : ℕ) → Words p r → Words p (gathered p width g y r l)
 unfolding gathered
@@ -61,7 +63,8 @@ pub record Places (width level a m e : ℕ) : Type 0 where
   pub middle-is : m ≡ a + 2 ^ level * width
   pub end-is : e ≡ m + 2 ^ level * width
 
-pub places : (s level : ℕ) {a m e : ℕ} → a ≡ halfStart (s + 1) level 0 → m ≡ halfStart (s + 1) level 1 → e ≡ halfStart (s + 1) (level + 1) 0 → Places (suc s) level a m e
+pub places : (s level : ℕ) {a m e : ℕ} → a ≡ halfStart (s + 1) level 0 → m ≡ halfStart (s + 1) level 1 → e ≡ halfStart (s + 1) (level + 1) 0
+    → Places (suc s) level a m e
 places s level ea em ee =
     rw (← add-one s) (record { start-is = ea; middle-is = omega arith; end-is = (rw (add-one level) at ee) ∙ omega (arith, next-level (s + 1) level) })
 
@@ -141,7 +144,8 @@ module _ {width level a m e : ℕ} {g log x y : List ℕ} (h : Halves width leve
   cleared ez = ap₂ _++_ (ez ∙ ap (λ (n : ℕ). replicate n 0) front-long) (cut-rest cut-x ∙ sym (append-assoc x y (drop e g)))
 
 -- BOTH HALVES GATHERED: the second half is gathered from what the first left, which has the levels below as they were
-module _ {width level a m e : ℕ} (g g₁ g₂ rx ry : List ℕ) (at : Places width level a m e) (fits : e ≤ length g) (ex : length rx ≡ width) (ey : length ry ≡ width)
+module _ {width level a m e : ℕ} (g g₁ g₂ rx ry : List ℕ) (at : Places width level a m e) (fits : e ≤ length g) (ex : length rx ≡ width)
+    (ey : length ry ≡ width)
     (first : g₁ ≡ sets g (halfStart width level 0) (gathered 65537 width g 0 rx level))
     (second : g₂ ≡ sets g₁ (halfStart width level 1) (gathered 65537 width g₁ 1 ry level)) where
   x : List ℕ
@@ -194,14 +198,17 @@ scaled-one p h [] u = refl
 scaled-one p h (x ∷ l) u = ap₂ _∷_ (times-comm p h 1 x ∙ times-one p h x (u .word 0)) (scaled-one p h l (words-tail u))
 
 -- a half that is gathered and folded is rebuilt
-pub rebuilt-half : (h : Header) (g b : List ℕ) (level : ℕ) {y w : ℕ} {r z : List ℕ} → y ≤ 1 → halfStart (width h) level 0 ≤ length g → w ≡ vaultRoot h → r ≡ newRow h y b
+pub rebuilt-half : (h : Header) (g b : List ℕ) (level : ℕ) {y w : ℕ} {r z : List ℕ} → y ≤ 1 → halfStart (width h) level 0 ≤ length g → w ≡ vaultRoot h
+    → r ≡ newRow h y b
     → z ≡ folded 65537 w (h .k) (width h) level (gathered 65537 (width h) g y r level) → z ≡ rebuiltHalf h g y b level
 rebuilt-half h g b level {y} s f ew er ez =
     ez ∙ ap₂ (λ (v : ℕ) (u : List ℕ). folded 65537 v (h .k) (width h) level (gathered 65537 (width h) g y u level)) ew er ∙ folded-gathered h g b level s f
 
-pub finished : (h : Header) (g b : List ℕ) (level : ℕ) {a m e : ℕ} {x y : List ℕ} → Places (width h) level a m e → x ≡ rebuiltHalf h g 0 b level → y ≡ rebuiltHalf h g 1 b level
+pub finished : (h : Header) (g b : List ℕ) (level : ℕ) {a m e : ℕ} {x y : List ℕ} → Places (width h) level a m e → x ≡ rebuiltHalf h g 0 b level
+    → y ≡ rebuiltHalf h g 1 b level
     → replicate a 0 ++ (x ++ y ++ drop e g) ≡ logWith h g b level
 finished h g b level {a} {m} {e} {x} {y} at ex ey =
     let la = levelAt h level in
     let le = la + stripeSize h level in
-    ap₂ (λ (u v : ℕ). replicate u 0 ++ (x ++ y ++ drop v g)) (place-start at) (place-end at) ∙ ap₂ (λ (u v : List ℕ). replicate la 0 ++ (u ++ v ++ drop le g)) ex ey
+    ap₂ (λ (u v : ℕ). replicate u 0 ++ (x ++ y ++ drop v g)) (place-start at) (place-end at)
+    ∙ ap₂ (λ (u v : List ℕ). replicate la 0 ++ (u ++ v ++ drop le g)) ex ey

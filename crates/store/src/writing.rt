@@ -67,7 +67,8 @@ fn half_at(level: usize, half: usize, width: usize) -> usize
     (rows + rows - 2) * width + half * (rows * width)
 }
 
-// Copies X (half 0) or Y (half 1) of all levels below to that half of a level, the oldest first, each word modulo p, and puts the block's row times g after them.
+// Copies X (half 0) or Y (half 1) of all levels below to that half of a level, the oldest first, each word modulo p, and puts the block's row times g after
+// them.
 fn gather(log: &mut [u32], level: usize, half: usize, number: u32, block: &[u32], g: u32)
     requires { ⌜ (level ≤ 9) × (half ≤ 1) × (length (now block) ≤ 128) ⌝ }
     requires { ⌜ halfStart (suc (length (now block))) (suc level) 0 ≤ length (now log) ⌝ }
@@ -75,7 +76,8 @@ fn gather(log: &mut [u32], level: usize, half: usize, number: u32, block: &[u32]
     requires { ⌜ Words (fermat .modulus) (number ∷ now block) ⌝ }
     ensures { λ _. ⌜ now (log .exit) ≡
         sets (now (log .entry)) (halfStart (suc (length (now (block .entry)))) level half)
-        (gathered (fermat .modulus) (suc (length (now (block .entry)))) (now (log .entry)) half (scaled (fermat .modulus) g (number ∷ now (block .entry))) level) ⌝ }
+        (gathered (fermat .modulus) (suc (length (now (block .entry)))) (now (log .entry)) half
+        (scaled (fermat .modulus) g (number ∷ now (block .entry))) level) ⌝ }
 {
     let width = block.len() + 1;
     let mut at = half_at(level, half, width);
@@ -109,7 +111,8 @@ fn fold(half: &mut [u32], level: usize, k: usize, width: usize, root: u32)
     }
 }
 
-// Rebuilds a level from all levels below it and the block, and empties those. The level is lent on as two parts from the middle of the log; what follows it stays.
+// Rebuilds a level from all levels below it and the block, and empties those. The level is lent on as two parts from the middle of the log; what follows it
+// stays.
 fn rebuild(header: Header, log: &mut [u32], level: usize, number: u32, block: &[u32])
     requires { ⌜ (headerFits header ≡ true) × (level < header .k) ⌝ }
     requires { ⌜ (length (now log) ≡ logSize header) × (length (now block) ≡ header .s) ⌝ }
@@ -171,7 +174,8 @@ fn taken(header: Header, c: u32) -> Written
     }
 }
 
-// Writes a block to a record. Tests 1, 2 (the three buffers and the block), 4, 5; a refusal changes nothing. Words that it reads from the buffers count modulo p.
+// Writes a block to a record. Tests 1, 2 (the three buffers and the block), 4, 5; a refusal changes nothing. Words that it reads from the buffers count modulo
+// p.
 pub fn write(
     header: Header,
     raw: &mut [u32],
@@ -181,9 +185,12 @@ pub fn write(
     block: &[u32],
 ) -> Written
     ensures { λ r. ⌜ r ≡ writeAnswer header (buffers (now (raw .entry)) (now (full .entry)) (now (log .entry))) number (now (block .entry)) ⌝ }
-    ensures { λ _. ⌜ now (raw .exit) ≡ writeLeaves header (buffers (now (raw .entry)) (now (full .entry)) (now (log .entry))) number (now (block .entry)) .raw ⌝ }
-    ensures { λ _. ⌜ now (full .exit) ≡ writeLeaves header (buffers (now (raw .entry)) (now (full .entry)) (now (log .entry))) number (now (block .entry)) .full ⌝ }
-    ensures { λ _. ⌜ now (log .exit) ≡ writeLeaves header (buffers (now (raw .entry)) (now (full .entry)) (now (log .entry))) number (now (block .entry)) .log ⌝ }
+    ensures { λ _. ⌜ now (raw .exit) ≡
+        writeLeaves header (buffers (now (raw .entry)) (now (full .entry)) (now (log .entry))) number (now (block .entry)) .raw ⌝ }
+    ensures { λ _. ⌜ now (full .exit) ≡
+        writeLeaves header (buffers (now (raw .entry)) (now (full .entry)) (now (log .entry))) number (now (block .entry)) .full ⌝ }
+    ensures { λ _. ⌜ now (log .exit) ≡
+        writeLeaves header (buffers (now (raw .entry)) (now (full .entry)) (now (log .entry))) number (now (block .entry)) .log ⌝ }
 {
     let refusal = write_number(header, raw, full, log, number, block);
     if refusal != 0 {

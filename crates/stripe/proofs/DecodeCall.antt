@@ -52,9 +52,14 @@ module _ (h : Header) (m e : List ℕ) (l : ℕ) (o s : List ℕ) where
 
   pub answers-refused : {r : ℕ} → r ≡ decodeEarly h m e l o s → (r ≡ 0 → ⊥) → Answers r o s
   answers-refused q d =
-      let f : decodeEarly h m e l o s ≡ 0 → ⊥ = λ z. d (q ∙ z) in
-      (q ∙ sym (if-refused (decodedNumber found) (decodeEarly h m e l o s) f), (sym (if-refused (decodedWords found (outSize h)) o f), sym (if-refused (replicate (scratchSize h) 0) s f)))
+      let f : decodeEarly h m e l o s ≡ 0 → ⊥ = λ z. d (q ∙ z) in (
+        q ∙ sym (if-refused (decodedNumber found) (decodeEarly h m e l o s) f),
+        (sym (if-refused (decodedWords found (outSize h)) o f), sym (if-refused (replicate (scratchSize h) 0) s f)),
+      )
 
-  pub answers-taken : decodeEarly h m e l o s ≡ 0 → {r : ℕ} {o′ s′ : List ℕ} → r ≡ decodedNumber found → o′ ≡ decodedWords found (outSize h) → s′ ≡ replicate (scratchSize h) 0 → Answers r o′ s′
-  answers-taken z q p c =
-      (q ∙ sym (if-taken (decodedNumber found) (decodeEarly h m e l o s) z), (p ∙ sym (if-taken (decodedWords found (outSize h)) o z), c ∙ sym (if-taken (replicate (scratchSize h) 0) s z)))
+  pub answers-taken : decodeEarly h m e l o s ≡ 0 → {r : ℕ} {o′ s′ : List ℕ} → r ≡ decodedNumber found → o′ ≡ decodedWords found (outSize h)
+      → s′ ≡ replicate (scratchSize h) 0 → Answers r o′ s′
+  answers-taken z q p c = (
+    q ∙ sym (if-taken (decodedNumber found) (decodeEarly h m e l o s) z),
+    (p ∙ sym (if-taken (decodedWords found (outSize h)) o z), c ∙ sym (if-taken (replicate (scratchSize h) 0) s z)),
+  )

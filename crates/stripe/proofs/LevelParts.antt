@@ -67,7 +67,8 @@ comes st ms r = by (isConsistent st ms r) refl (areRecords st (blocksIn st ms r)
 replicate-front : (n m : ℕ) → n ≤ m → take {A = ℕ} n (replicate m 0) ≡ replicate n 0
 replicate-front n m b =
     let e : m ≡ n + (m - n) = omega arith in
-    ap (λ (x : ℕ). take n (replicate x 0)) e ∙ ap (take n) (sym (replicate-append-replicate n (m - n) 0)) ∙ take-at (replicate n 0) (replicate (m - n) 0) n (length-replicate n 0)
+    ap (λ (x : ℕ). take n (replicate x 0)) e ∙ ap (take n) (sym (replicate-append-replicate n (m - n) 0))
+    ∙ take-at (replicate n 0) (replicate (m - n) 0) n (length-replicate n 0)
 
 -- the blocks' words, or as many zeros, in front of a larger buffer
 pub front : (st : Stripe) (ms : List Bool) (r : List ℕ) (n m : ℕ) → blockWords st ≤ n → blockWords st ≤ m
@@ -77,14 +78,16 @@ front st ms r n m a b = by (comes st ms r)
     by : {d : Decoded} → Comes st d → take (blockWords st) (decodedWords d n) ++ replicate (m - blockWords st) 0 ≡ decodedWords d m
     by {d} (fails x e) =
         rw (e, decodedWords, replicate-front (blockWords st) n a)
-        (replicate-append-replicate (blockWords st) (m - blockWords st) 0 ∙ ap (λ (x : ℕ). replicate x 0) {x = blockWords st + (m - blockWords st)} {y = m} (omega arith))
+        (replicate-append-replicate (blockWords st) (m - blockWords st) 0
+        ∙ ap (λ (x : ℕ). replicate x 0) {x = blockWords st + (m - blockWords st)} {y = m} (omega arith))
     by {d} (gives bs e l) = rw (e, decodedWords, take-at bs (replicate (n - length bs) 0) (blockWords st) l, l)
 
 -- the copy
 pub copied-front : (n : ℕ) (l o : List ℕ) (m : ℕ) → n ≤ length l → n ≤ m → o ≡ replicate m 0 → stored 0 (wordFrom l 0) n o ≡ take n l ++ replicate (m - n) 0
 unfolding wordFrom
 copied-front n l o m a b e =
-    let t : take n l ≡ table n (wordFrom l 0) = is-table (take n l) n (wordFrom l 0) (length-take-le n l a) (λ i c. getD-take n l i 0 c ∙ ap (λ (x : ℕ). getD l x 0) {x = i} {y = 0 + i} (omega arith)) in
+    let t : take n l ≡ table n (wordFrom l 0) = is-table (take n l) n (wordFrom l 0) (length-take-le n l a) (λ i c. getD-take n l i 0 c
+    ∙ ap (λ (x : ℕ). getD l x 0) {x = i} {y = 0 + i} (omega arith)) in
     let len : length o ≡ m = ap length e ∙ length-replicate m 0 in
     stored-front (wordFrom l 0) n o (omega arith)
     ∙ ap₂ _++_ (sym t) (ap (drop n) e ∙ zeros)
@@ -92,21 +95,26 @@ copied-front n l o m a b e =
     zeros : drop {A = ℕ} n (replicate m 0) ≡ replicate (m - n) 0
     zeros =
         let e : m ≡ n + (m - n) = omega arith in
-        ap (λ (x : ℕ). drop n (replicate x 0)) e ∙ ap (drop n) (sym (replicate-append-replicate n (m - n) 0)) ∙ drop-at (replicate n 0) (replicate (m - n) 0) n (length-replicate n 0)
+        ap (λ (x : ℕ). drop n (replicate x 0)) e ∙ ap (drop n) (sym (replicate-append-replicate n (m - n) 0))
+        ∙ drop-at (replicate n 0) (replicate (m - n) 0) n (length-replicate n 0)
 
 -- the blocks' words in the scratch, whose first words came back decoded
-pub lent-front : (st : Stripe) (ms : List Bool) (r : List ℕ) {x : List ℕ} (rest : List ℕ) → x ≡ decodedWords (solved st ms r) (stripeWords st + positionCount st) ++ rest
+pub lent-front : (st : Stripe) (ms : List Bool) (r : List ℕ) {x : List ℕ} (rest : List ℕ)
+    → x ≡ decodedWords (solved st ms r) (stripeWords st + positionCount st) ++ rest
     → take (blockWords st) x ≡ take (blockWords st) (decodedWords (solved st ms r) (stripeWords st + positionCount st))
 lent-front st ms r {x} rest q =
-    rw q (take-before (blockWords st) (decodedWords (solved st ms r) (stripeWords st + positionCount st)) rest (rw (words-long (comes st ms r)) (blocks-room st)))
+    rw q (take-before (blockWords st) (decodedWords (solved st ms r) (stripeWords st + positionCount st)) rest
+    (rw (words-long (comes st ms r)) (blocks-room st)))
   where
     words-long : {d : Decoded} → Comes st d → length (decodedWords d (stripeWords st + positionCount st)) ≡ stripeWords st + positionCount st
     words-long {d} (fails n e) = rw (e, decodedWords) (length-replicate (stripeWords st + positionCount st) 0)
     words-long {d} (gives bs e l) =
-        rw (e, decodedWords) (length-append bs (replicate (stripeWords st + positionCount st - length bs) 0) ∙ omega (arith, length-replicate {A = ℕ} (stripeWords st + positionCount st - length bs) 0, l, blocks-room st))
+        rw (e, decodedWords) (length-append bs (replicate (stripeWords st + positionCount st - length bs) 0)
+        ∙ omega (arith, length-replicate {A = ℕ} (stripeWords st + positionCount st - length bs) 0, l, blocks-room st))
 
     take-before : (n : ℕ) (a b : List ℕ) → n ≤ length a → take n (a ++ b) ≡ take n a
-    take-before n a b h = ap (λ (y : List ℕ). take n (y ++ b)) (sym (take-append-drop n a)) ∙ ap (take n) (append-assoc (take n a) (drop n a) b) ∙ take-at (take n a) (drop n a ++ b) n (length-take-le n a h)
+    take-before n a b h = ap (λ (y : List ℕ). take n (y ++ b)) (sym (take-append-drop n a)) ∙ ap (take n) (append-assoc (take n a) (drop n a) b)
+        ∙ take-at (take n a) (drop n a ++ b) n (length-take-le n a h)
 
 -- A LEVEL that is decoded in the scratch l and copied from there to an output o of zeros
 pub copied-level : (st : Stripe) (ms : List Bool) (r rest : List ℕ) → st .level < st .k → {b : ℕ} → b ≡ blockCount st → {l : List ℕ}

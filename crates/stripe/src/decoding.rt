@@ -97,8 +97,8 @@ fn decode_stripe(
     decode_level(st, bytes, &marks, out, scratch)
 }
 
-// Decodes one stripe of an image: a level, or k for the full stripe. Tests 1, 2 (image, out, scratch), 3, 6, 7, 8, 9, 10; 1 to 6 change no buffer, after 7 to 10
-// output and scratch are zeros. Taken, the output holds the blocks in order of time and zeros after them, and the scratch is zeros.
+// Decodes one stripe of an image: a level, or k for the full stripe. Tests 1, 2 (image, out, scratch), 3, 6, 7, 8, 9, 10; 1 to 6 change no buffer, after 7 to
+// 10 output and scratch are zeros. Taken, the output holds the blocks in order of time and zeros after them, and the scratch is zeros.
 pub fn decode(
     header: Header,
     image: &[u8],
@@ -109,7 +109,8 @@ pub fn decode(
 ) -> u32
     ensures { λ r. ⌜ r ≡ decodeNumber header (now (image .entry)) (now (erasures .entry)) stripe (now (out .entry)) (now (scratch .entry)) ⌝ }
     ensures { λ _. ⌜ now (out .exit) ≡ decodeLeaves header (now (image .entry)) (now (erasures .entry)) stripe (now (out .entry)) (now (scratch .entry)) ⌝ }
-    ensures { λ _. ⌜ now (scratch .exit) ≡ decodeScratch header (now (image .entry)) (now (erasures .entry)) stripe (now (out .entry)) (now (scratch .entry)) ⌝ }
+    ensures { λ _. ⌜ now (scratch .exit) ≡
+        decodeScratch header (now (image .entry)) (now (erasures .entry)) stripe (now (out .entry)) (now (scratch .entry)) ⌝ }
 {
     let early = decode_early(header, image, erasures, stripe, out, scratch);
     if early != 0 {

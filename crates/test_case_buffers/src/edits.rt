@@ -1,5 +1,5 @@
-// Commands that change the buffers, or the numbers of the state, between calls; each function does nothing with a command of another kind. The first three numbers of
-// the state are the header's, the others are how much of each buffer is lent.
+// Commands that change the buffers, or the numbers of the state, between calls; each function does nothing with a command of another kind. The first three
+// numbers of the state are the header's, the others are how much of each buffer is lent.
 use crate::Command;
 use crate::draw;
 use crate::input;

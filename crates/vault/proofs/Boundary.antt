@@ -1,4 +1,5 @@
--- The promises of specs/Boundary: the index and the length that reading hands out are those of the record, and the number that says "no stripe" is no stripe's. Assumes nothing.
+-- The promises of specs/Boundary: the index and the length that reading hands out are those of the record, and the number that says "no stripe" is no stripe's.
+-- Assumes nothing.
 use mathlib.Core.Path.{_≡_, refl, sym, _∙_}
 use mathlib.Core.Bool.{Bool, true, false}
 use mathlib.Core.List.{List, []}
@@ -57,9 +58,12 @@ low-recovered : (h : Header) (d : ℕ → Decoded) → Low (h .k) (recover h d)
 low-recovered h d = low-laid (h .k) (h .k) (d (h .k)) _ (le-refl (h .k)) (λ bs. low-levels (h .k) (h .k) h d _ (le-refl (h .k)))
 
 low-answer : (h : Header) (m e o s : List ℕ) → recoverAnswer h m e o s .stripe ≤ 10
-low-answer h m e o s = of-early (eqb (recoverEarly h m e o s) 0) (λ t. omega (arith, low-recovered h (decodeStripe h m (erasuresIn e)), fits h (passes (headerFits h) 1 _ (eqb-true _ 0 t) (omega arith) .0) .k-high))
+low-answer h m e o s =
+    of-early (eqb (recoverEarly h m e o s) 0)
+    (λ t. omega (arith, low-recovered h (decodeStripe h m (erasuresIn e)), fits h (passes (headerFits h) 1 _ (eqb-true _ 0 t) (omega arith) .0) .k-high))
   where
-    of-early : (b : Bool) → (b ≡ true → Low 10 (recover h (decodeStripe h m (erasuresIn e)))) → choose b (answerOf (recover h (decodeStripe h m (erasuresIn e)))) (unnamed (recoverEarly h m e o s)) .stripe ≤ 10
+    of-early : (b : Bool) → (b ≡ true → Low 10 (recover h (decodeStripe h m (erasuresIn e))))
+        → choose b (answerOf (recover h (decodeStripe h m (erasuresIn e)))) (unnamed (recoverEarly h m e o s)) .stripe ≤ 10
     of-early true p = p refl
     of-early false p = zero≤
 

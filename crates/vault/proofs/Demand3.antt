@@ -40,7 +40,8 @@ length-image a =
     let full = fullStripe h (a .base) in
     let log = logWords h (a .since) (a .k) in
     let n = 2 ^ suc (a .k) in
-    length-bytes (full ++ log) ∙ ap (λ (x : ℕ). 4 * x) (length-append full log ∙ ap₂ _+_ (length-full h (a .base)) (length-log h (a .since) (a .k)) ∙ sym (add-mul n (n - 2) (width h)))
+    length-bytes (full ++ log) ∙ ap (λ (x : ℕ). 4 * x) (length-append full log ∙ ap₂ _+_ (length-full h (a .base)) (length-log h (a .since) (a .k))
+    ∙ sym (add-mul n (n - 2) (width h)))
     ∙ ap (λ (x : ℕ). 4 * (x * width h)) {x = n + (n - 2)} {y = 4 * 2 ^ a .k - 2} (omega (arith, pow-pos (a .k))) ∙ omega arith
 
 -- RECOVERY IS TAKEN, and gives what it finds

@@ -20,7 +20,8 @@ use Rattle.store.specs.StoreCalls.{buffersFit, writeNumber}
 use Rattle.vault.specs.Event.{Opening, Event, write}
 use Rattle.vault.specs.History.{Vault, vault, numberOn, step, after, Opens, openedVault, vaultAfter}
 use Rattle.vault.specs.Model.{Model, writes, wordsFit, tableNumber, put, fed, fedAll, openedModel, modelOf}
-use Rattle.vault.specs.Round.{Entry, Round, putAll, beforeEach, recordsIn, modelIn, startOf, grown, turnRound, roundAfter, openedRound, roundOf, roundHeader, represent}
+use Rattle.vault.specs.Round.{Entry, Round, putAll, beforeEach, recordsIn, modelIn, startOf, grown, turnRound, roundAfter, openedRound, roundOf}
+use Rattle.vault.specs.Round.{roundHeader, represent}
 use Rattle.vault.specs.Promises.{HeaderIs, SizesStay, RecordsLong, NumbersAre, WordsAre, RawIs, ModelIs, BeforeIs}
 use Rattle.field.proofs.Booleans.{choose, chosen-first, chosen-second}
 use Rattle.layout.proofs.Refusals.{passes}
@@ -28,7 +29,8 @@ use Rattle.layout.proofs.RecordWords.{data-words, replaced-is, record-end}
 use Rattle.store.proofs.OpenRefusals.{open-taken, open-data}
 use Rattle.store.proofs.StoredRecords.{length-full}
 use Rattle.vault.proofs.Levels.{length-log, log-empty}
-use Rattle.vault.proofs.Rounds.{fit-sizes, Taken, AllTaken, none, more, Good, taken-append, put-append, length-put, words-put, before-append, length-before, before-at, records-long, header-fits}
+use Rattle.vault.proofs.Rounds.{fit-sizes, Taken, AllTaken, none, more, Good, taken-append, put-append, length-put, words-put, before-append}
+use Rattle.vault.proofs.Rounds.{length-before, before-at, records-long, header-fits}
 use Rattle.vault.proofs.Rebuilding.{log-written}
 
 -- THE INVARIANT: a vault and a model represent a round
@@ -224,11 +226,13 @@ module _ (a : Round) (good : Good a) (i : ℕ) (b : List ℕ) where
       go : (z : Bool) → judged ≡ z → Represents (turnRound a (write i b)) (step (vault h u) (write i b)) (fed (modelIn a) (write i b))
       go true e =
           along (chosen-first judged (grown a x) a e)
-          (ap₂ vault (chosen-first (eqb (writeNumber h u i b) 0) (nextHeader h) h (called ∙ e)) (chosen-first (eqb (writeNumber h u i b) 0) (written h u i b) u (called ∙ e)))
+          (ap₂ vault (chosen-first (eqb (writeNumber h u i b) 0) (nextHeader h) h (called ∙ e))
+          (chosen-first (eqb (writeNumber h u i b) 0) (written h u i b) u (called ∙ e)))
           (chosen-first judged (put (modelIn a) i b) (modelIn a) e) (grown-represents (taken-is (eqb-true (tableNumber (modelIn a) (write i b)) 0 e)))
       go false e =
           along (chosen-second judged (grown a x) a e)
-          (ap₂ vault (chosen-second (eqb (writeNumber h u i b) 0) (nextHeader h) h (called ∙ e)) (chosen-second (eqb (writeNumber h u i b) 0) (written h u i b) u (called ∙ e)))
+          (ap₂ vault (chosen-second (eqb (writeNumber h u i b) 0) (nextHeader h) h (called ∙ e))
+          (chosen-second (eqb (writeNumber h u i b) 0) (written h u i b) u (called ∙ e)))
           (chosen-second judged (put (modelIn a) i b) (modelIn a) e) (record { good = good; vault-is = refl; model-is = refl })
 
 pub turn-represents : (a : Round) (v : Vault) (m : Model) (e : Event) → Represents a v m → Represents (turnRound a e) (step v e) (fed m e)
@@ -291,7 +295,8 @@ recordsLong o es O =
 pub numbersAre : NumbersAre
 numbersAre o es (write i b) O =
     let t = histories o es O in
-    ap (λ (v : Vault). numberOn v (write i b)) (t .vault-is) ∙ number-is (roundOf o es) (t .good) i b ∙ ap (λ (m : Model). tableNumber m (write i b)) (sym (t .model-is))
+    ap (λ (v : Vault). numberOn v (write i b)) (t .vault-is) ∙ number-is (roundOf o es) (t .good) i b
+    ∙ ap (λ (m : Model). tableNumber m (write i b)) (sym (t .model-is))
 
 pub wordsAre : WordsAre
 wordsAre o es O = ap (λ (v : Vault). v .held) (histories o es O .vault-is)

@@ -89,7 +89,11 @@ module _ (k s : ℕ) (r : List ℕ) (long : length r ≡ 2 ^ k * s) where
   unfolding numbered
   numbered-fit u i zero h = none
   numbered-fit u i (suc n) h =
-      more {x = record { number = i; block = recordIn s r i }} (record { within = omega arith; long = length-record (2 ^ k) s r i long (omega arith); words = words-part 65536 (lit< tt) s (i * s) u })
+      more {x = record { number = i; block = recordIn s r i }} (record {
+        within = omega arith;
+        long = length-record (2 ^ k) s r i long (omega arith);
+        words = words-part 65536 (lit< tt) s (i * s) u;
+      })
       (numbered-fit u (suc i) n (omega arith))
 
   -- put over as many words, they are the list
@@ -101,7 +105,8 @@ module _ (k s : ℕ) (r : List ℕ) (long : length r ≡ 2 ^ k * s) where
     put-next : (i : ℕ) → i < 2 ^ k → replaced s (upTo i) i (recordIn s r i) ≡ upTo (suc i)
     put-next i b =
         let front : length (take (i * s) r) ≡ i * s = length-take-le (i * s) r (omega (arith, record-end (2 ^ k) s i b)) in
-        let whole : length (upTo i) ≡ 2 ^ k * s = length-append (take (i * s) r) (drop (i * s) z) ∙ omega (arith, front, length-drop (i * s) z, record-end (2 ^ k) s i b) in
+        let whole : length (upTo i) ≡ 2 ^ k * s =
+        length-append (take (i * s) r) (drop (i * s) z) ∙ omega (arith, front, length-drop (i * s) z, record-end (2 ^ k) s i b) in
         replaced-is s (upTo i) i (recordIn s r i) (length-record (2 ^ k) s r i long b) (omega (arith, whole, record-end (2 ^ k) s i b))
         ∙ rw (
           suc-mul i s,

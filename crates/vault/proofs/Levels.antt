@@ -41,7 +41,8 @@ length-level h xs l = go (isFilled h l) refl
 -- the next level begins where this one ends
 pub level-end : (h : Header) (l : ℕ) → levelAt h (suc l) ≡ levelAt h l + stripeSize h l
 level-end h l =
-    ap (λ (n : ℕ). n * width h) {x = 2 ^ suc (suc l) - 2} {y = (2 ^ suc l - 2) + 2 ^ suc l} (omega (arith, pow-pos l)) ∙ add-mul (2 ^ suc l - 2) (2 ^ suc l) (width h)
+    ap (λ (n : ℕ). n * width h) {x = 2 ^ suc (suc l) - 2} {y = (2 ^ suc l - 2) + 2 ^ suc l} (omega (arith, pow-pos l))
+    ∙ add-mul (2 ^ suc l - 2) (2 ^ suc l) (width h)
 
 pub length-log : (h : Header) (xs : List Entry) (n : ℕ) → length (logWords h xs n) ≡ levelAt h n
 unfolding logWords
@@ -54,7 +55,8 @@ pub level-in : (h : Header) (l n : ℕ) → l < n → levelAt h l + stripeSize h
 level-in h l n b =
     rw (← level-end) (mul-le-mul-right (width h) (omega (arith, pow-pos l, pow-mono b)))
 
-place : (h : Header) (xs : List Entry) (l : ℕ) (g rest : List ℕ) → levelAt h l + stripeSize h l ≤ length g → take (stripeSize h l) (drop (levelAt h l) g) ≡ levelWords h xs l
+place : (h : Header) (xs : List Entry) (l : ℕ) (g rest : List ℕ) → levelAt h l + stripeSize h l ≤ length g
+    → take (stripeSize h l) (drop (levelAt h l) g) ≡ levelWords h xs l
     → take (stripeSize h l) (drop (levelAt h l) (g ++ rest)) ≡ levelWords h xs l
 place h xs l g rest b e =
     ap (take (stripeSize h l)) (drop-append-le (levelAt h l) g rest (omega arith))
@@ -63,7 +65,8 @@ place h xs l g rest b e =
 pub level-place : (h : Header) (xs : List Entry) (l n : ℕ) → l < n → take (stripeSize h l) (drop (levelAt h l) (logWords h xs n)) ≡ levelWords h xs l
 unfolding logWords
 level-place h xs l zero b = absurd (omega arith)
-level-place h xs l (suc n) b = ⊎-elim last (λ d. place h xs l (logWords h xs n) (levelWords h xs n) (rw length-log (level-in h l n d)) (level-place h xs l n d)) (eq-or-lt-of-le (suc-le-suc-iff .0 b))
+level-place h xs l (suc n) b = ⊎-elim last (λ d. place h xs l (logWords h xs n) (levelWords h xs n) (rw length-log (level-in h l n d)) (level-place h xs l n d))
+    (eq-or-lt-of-le (suc-le-suc-iff .0 b))
   where
     last : l ≡ n → take (stripeSize h l) (drop (levelAt h l) (logWords h xs n ++ levelWords h xs n)) ≡ levelWords h xs l
     last e =
@@ -76,5 +79,6 @@ pub log-empty : (h : Header) (xs : List Entry) (n : ℕ) → ((l : ℕ) → l < 
 unfolding logWords
 log-empty h xs zero e = ap (λ (i : ℕ). replicate i 0) (sym (zero-mul (width h)))
 log-empty h xs (suc l) e =
-    ap₂ _++_ (log-empty h xs l (λ i b. e i (omega arith))) (level-empty h xs l (e l (omega arith))) ∙ replicate-append-replicate (levelAt h l) (stripeSize h l) 0
+    ap₂ _++_ (log-empty h xs l (λ i b. e i (omega arith))) (level-empty h xs l (e l (omega arith)))
+    ∙ replicate-append-replicate (levelAt h l) (stripeSize h l) 0
     ∙ ap (λ (i : ℕ). replicate i 0) (sym (level-end h l))

@@ -51,7 +51,8 @@ module _ (h : Header) (xs : List Entry) (l : ℕ) (b : l < h .k) (e : isFilled h
 
   halves : take (stripeSize h l) (drop (levelAt h l) log) ≡ halfOf 0 ++ halfOf 1
   unfolding log halfOf
-  halves = level-place h xs l (h .k) b ∙ level-filled h xs l e ∙ coded-halves (primeOf h) (vaultRoot h) (h .k) (width h) l (firstOf h l) (rowsOf (levelEntries h xs l))
+  halves = level-place h xs l (h .k) b ∙ level-filled h xs l e
+      ∙ coded-halves (primeOf h) (vaultRoot h) (h .k) (width h) l (firstOf h l) (rowsOf (levelEntries h xs l))
 
   half-place : (y : ℕ) → y < 2 → take m (drop (levelAt h l + y * m) log) ≡ halfOf y
   unfolding m halfOf
@@ -70,7 +71,8 @@ module _ (h : Header) (xs : List Entry) (l : ℕ) (b : l < h .k) (e : isFilled h
       pick (suc zero) z = rw (one-mul, drop-at (halfOf 0) (halfOf 1) m (long 0)) (take-all m (halfOf 1) (omega (arith, long 1)))
       pick (suc (suc y)) z = absurd (omega arith)
 
-  half-is : (y : ℕ) → y < 2 → Words (primeOf h) (rowsOf (levelEntries h xs l)) → halfAt h (logWords h xs (h .k)) l y ≡ halfIn h y l (firstOf h l) (rowsOf (levelEntries h xs l))
+  half-is : (y : ℕ) → y < 2 → Words (primeOf h) (rowsOf (levelEntries h xs l))
+      → halfAt h (logWords h xs (h .k)) l y ≡ halfIn h y l (firstOf h l) (rowsOf (levelEntries h xs l))
   unfolding m log halfOf
   half-is y z u =
       ap (reduced (primeOf h)) (half-place y z)
@@ -112,7 +114,8 @@ module _ {a : Round} {x : Entry} (good : Good a) (last : Taken (a .k) (a .s) x) 
       new (suc y) = half-scaled (primeOf h) (vaultRoot h) (a .k) (suc (a .s)) y c (x .number ∷ x .block) (ap suc (last .long))
   rebuilt-half g y (suc l) b e =
       let n : suc c - 2 ^ suc l + 2 ^ l ≡ suc c - 2 ^ l = omega arith in
-      ap₂ (λ (u v : List ℕ). lifted (suc (a .s)) (2 ^ suc l) (2 ^ suc l) (mixedHalves (primeOf h) (power (primeOf h) (vaultRoot h) (2 ^ a .k / 2 ^ l)) (2 ^ l)) (u ++ v))
+      ap₂ (λ (u v : List ℕ). lifted (suc (a .s)) (2 ^ suc l) (2 ^ suc l) (mixedHalves (primeOf h) (power (primeOf h) (vaultRoot h) (2 ^ a .k / 2 ^ l)) (2 ^ l))
+      (u ++ v))
       (e l (omega arith)) (rebuilt-half g y l (omega arith) (λ i d. e i (omega arith)))
       ∙ rw (← n) (mixed (suc c - 2 ^ suc l) (omega (arith, pow-pos l)))
     where
@@ -141,7 +144,8 @@ module _ {a : Round} {x : Entry} (good : Good a) (last : Taken (a .k) (a .s) x) 
     level-rebuilt : levelWords h′ now l ≡ rebuilt h (logWords h (a .since) (a .k)) (x .number ∷ x .block) l
     level-rebuilt =
         level-filled h′ now l (ap (λ (n : ℕ). eqb n 1) (filled-now carry))
-        ∙ coded-halves (primeOf h) (vaultRoot h) (a .k) (suc (a .s)) l (firstOf h′ l) (rowsOf (levelEntries h′ now l)) ∙ ap₂ _++_ (sym (side 0 (omega arith))) (sym (side 1 (omega arith)))
+        ∙ coded-halves (primeOf h) (vaultRoot h) (a .k) (suc (a .s)) l (firstOf h′ l) (rowsOf (levelEntries h′ now l))
+        ∙ ap₂ _++_ (sym (side 0 (omega arith))) (sym (side 1 (omega arith)))
       where
         before : (y : ℕ) → y < 2 → (i : ℕ) → i < l
             → halfAt h (logWords h (a .since) (a .k)) i y ≡ halfIn h y i (suc c - 2 ^ suc i) (rowsOf (take (2 ^ i) (drop (suc c - 2 ^ suc i) (a .since))))
@@ -149,7 +153,8 @@ module _ {a : Round} {x : Entry} (good : Good a) (last : Taken (a .k) (a .s) x) 
             let e : isFilled h i ≡ true = ap (λ (n : ℕ). eqb n 1) (filled-before carry i d) in
             let f : i < a .k = omega arith in
             half-is h (a .since) i f e y z (level-column good i f e .words)
-            ∙ ap (λ (t : ℕ). halfIn h y i t (rowsOf (take (2 ^ i) (drop t (a .since))))) {x = firstOf h i} {y = suc c - 2 ^ suc i} (first-level h i (λ e. omega arith) ∙ omega (arith, first-before carry i d))
+            ∙ ap (λ (t : ℕ). halfIn h y i t (rowsOf (take (2 ^ i) (drop t (a .since))))) {x = firstOf h i} {y = suc c - 2 ^ suc i}
+            (first-level h i (λ e. omega arith) ∙ omega (arith, first-before carry i d))
 
         first : suc c - 2 ^ l ≡ firstOf h′ l
         first = omega (arith, first-now carry) ∙ sym (first-level h′ l (λ e. omega arith))
@@ -159,7 +164,8 @@ module _ {a : Round} {x : Entry} (good : Good a) (last : Taken (a .k) (a .s) x) 
             ap (λ (t : ℕ). drop t now) first
             ∙ sym (take-all (2 ^ l) (drop (firstOf h′ l) now) (rw (length-drop, ← first) (omega (arith, length-append (a .since) (x ∷ []), first-now carry))))
 
-        side : (y : ℕ) → y < 2 → rebuiltHalf h (logWords h (a .since) (a .k)) y (x .number ∷ x .block) l ≡ halfIn h y l (firstOf h′ l) (rowsOf (levelEntries h′ now l))
+        side : (y : ℕ) → y < 2
+            → rebuiltHalf h (logWords h (a .since) (a .k)) y (x .number ∷ x .block) l ≡ halfIn h y l (firstOf h′ l) (rowsOf (levelEntries h′ now l))
         side y z =
             rebuilt-half (logWords h (a .since) (a .k)) y l (omega (arith, first-now carry)) (before y z)
             ∙ ap₂ (λ (t : ℕ) (es : List Entry). halfIn h y l t (rowsOf es)) first entries
@@ -172,7 +178,8 @@ module _ {a : Round} {x : Entry} (good : Good a) (last : Taken (a .k) (a .s) x) 
         same = ap (λ (n : ℕ). eqb (n % 2) 1) (same-above carry i d)
 
         first : firstOf h′ i ≡ firstOf h i
-        first = first-level h′ i (λ e. omega arith) ∙ ap (λ (n : ℕ). n * 2 ^ suc i) (same-above carry (suc i) (omega arith)) ∙ sym (first-level h i (λ e. omega arith))
+        first = first-level h′ i (λ e. omega arith) ∙ ap (λ (n : ℕ). n * 2 ^ suc i) (same-above carry (suc i) (omega arith))
+            ∙ sym (first-level h i (λ e. omega arith))
 
         go : (v : Bool) → isFilled h i ≡ v → levelWords h′ now i ≡ levelWords h (a .since) i
         go true e =
@@ -191,14 +198,16 @@ module _ {a : Round} {x : Entry} (good : Good a) (last : Taken (a .k) (a .s) x) 
         next : l < n → logWords h′ now n ≡ logWords h′ now (suc l) ++ drop (levelAt h (suc l)) (logWords h (a .since) n)
             → logWords h′ now (suc n) ≡ logWords h′ now (suc l) ++ drop (levelAt h (suc l)) (logWords h (a .since) (suc n))
         next g e =
-            ap₂ _++_ e (level-above n g f) ∙ append-assoc (logWords h′ now (suc l)) (drop (levelAt h (suc l)) (logWords h (a .since) n)) (levelWords h (a .since) n)
+            ap₂ _++_ e (level-above n g f)
+            ∙ append-assoc (logWords h′ now (suc l)) (drop (levelAt h (suc l)) (logWords h (a .since) n)) (levelWords h (a .since) n)
             ∙ ap (λ (r : List ℕ). logWords h′ now (suc l) ++ r)
             (sym (drop-append-le (levelAt h (suc l)) (logWords h (a .since) n) (levelWords h (a .since) n) (rw (length-log, level-end) (level-in h l n g))))
 
         end : l ≡ n → logWords h′ now (suc n) ≡ logWords h′ now (suc l) ++ drop (levelAt h (suc l)) (logWords h (a .since) (suc n))
         end e =
             subst (λ (i : ℕ). logWords h′ now (suc i) ≡ logWords h′ now (suc l) ++ drop (levelAt h (suc l)) (logWords h (a .since) (suc i))) e
-            (sym (rw (drop-of-length-le (logWords h (a .since) (suc l)) {i = levelAt h (suc l)} (omega (arith, length-log h (a .since) (suc l)))) (append-nil (logWords h′ now (suc l)))))
+            (sym (rw (drop-of-length-le (logWords h (a .since) (suc l)) {i = levelAt h (suc l)} (omega (arith, length-log h (a .since) (suc l))))
+            (append-nil (logWords h′ now (suc l)))))
 
     log-square : logWith h (logWords h (a .since) (a .k)) (x .number ∷ x .block) l ≡ logWords h′ now (a .k)
     unfolding logWords
@@ -212,7 +221,8 @@ module _ {a : Round} {x : Entry} (good : Good a) (last : Taken (a .k) (a .s) x) 
 
   -- THE SQUARE of the log, for a write that is not the last of its round
   pub log-written : suc (length (a .since)) < 2 ^ a .k
-      → logWith (roundHeader a) (logWords (roundHeader a) (a .since) (a .k)) (x .number ∷ x .block) (levelFor (roundHeader a)) ≡ logWords (headerOf (a .k) (a .s) (length now)) now (a .k)
+      → logWith (roundHeader a) (logWords (roundHeader a) (a .since) (a .k)) (x .number ∷ x .block) (levelFor (roundHeader a)) ≡ logWords
+      (headerOf (a .k) (a .s) (length now)) now (a .k)
   log-written f =
       let r : Carried (a .k) 0 c = carried (a .k) 0 c f in
       ap (logWith h (logWords h (a .since) (a .k)) (x .number ∷ x .block)) {x = levelFor h} {y = r .level} (r .first ∙ zero-add (r .level))

@@ -127,13 +127,19 @@ module _ {a : Round} (good : Good a) where
     level-decodes l lt filled =
         let E = level-taken good l in
         rows-decode l (omega arith) (inr (lt, filled)) (levelEntries h (a .since) l) E (length-entries good l lt filled)
-        (λ j b. rw (ne-eqb l (a .k) (λ t. omega arith), numberFits) (lt-ltb (getD (levelEntries h (a .since) l) j noEntry .number) (2 ^ a .k) (entry-at E j b .within)))
+        (λ j b. rw (
+          ne-eqb l (a .k) (λ t. omega arith),
+          numberFits,
+        ) (lt-ltb (getD (levelEntries h (a .since) l) j noEntry .number) (2 ^ a .k) (entry-at E j b .within)))
         (λ q b. level-at l lt q b ∙ ap (λ (x : List ℕ). getD x q 0) (level-filled h (a .since) l filled))
 
     pub full-decodes : decodeStripe h m (erasuresIn e) (a .k) ≡ decoded (blocksOf h (a .base))
     full-decodes =
         let isK : isFull h (a .k) ≡ true = eq-eqb (a .k) (a .k) refl in
-        let place : (j : ℕ) → j < length start → getD start j noEntry .number ≡ j = λ j b. number-numbered (a .s) (a .base) 0 (2 ^ a .k) j (omega (arith, length-start)) ∙ zero-add j in
-        rows-decode (a .k) (le-refl (a .k)) (inl isK) start start-taken length-start (λ j b. rw (isK, numberFits) (eq-eqb (getD start j noEntry .number) j (place j b)))
-        (λ q b. full-at q b ∙ ap₂ (λ (t : ℕ) (x : List ℕ). getD (codedRows 65537 (vaultRoot h) (a .k) (a .k) t (width h) x) q 0) (sym (first-full h (a .k) refl)) start-rows)
+        let place : (j : ℕ) → j < length start → getD start j noEntry .number ≡ j =
+        λ j b. number-numbered (a .s) (a .base) 0 (2 ^ a .k) j (omega (arith, length-start)) ∙ zero-add j in
+        rows-decode (a .k) (le-refl (a .k)) (inl isK) start start-taken length-start
+        (λ j b. rw (isK, numberFits) (eq-eqb (getD start j noEntry .number) j (place j b)))
+        (λ q b. full-at q b ∙ ap₂ (λ (t : ℕ) (x : List ℕ). getD (codedRows 65537 (vaultRoot h) (a .k) (a .k) t (width h) x) q 0)
+        (sym (first-full h (a .k) refl)) start-rows)
         ∙ ap decoded (sym start-rows)

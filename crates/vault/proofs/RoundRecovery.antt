@@ -85,7 +85,8 @@ module _ {a : Round} (good : Good a) where
             → levelsOver (suc l) h decoding (above (suc l)) ≡ recovered (recordsIn a)
         go true f rest =
             rw (f, levelsOver)
-            (then-laid h decoding l l (2 ^ l) (above (suc l)) (above l) (rowsOf (levelEntries h (a .since) l)) (level-decodes good e m L S l b f) (lay-level l b f) ∙ rest)
+            (then-laid h decoding l l (2 ^ l) (above (suc l)) (above l) (rowsOf (levelEntries h (a .since) l)) (level-decodes good e m L S l b f)
+            (lay-level l b f) ∙ rest)
         go false f rest = rw (f, levelsOver, multiple-empty (h .c) l f) rest
 
     pub recover-round : recover h decoding ≡ recovered (recordsIn a)
@@ -93,4 +94,5 @@ module _ {a : Round} (good : Good a) where
     recover-round =
         let none : h .c / 2 ^ a .k * 2 ^ a .k ≡ 0 = ap (λ (n : ℕ). n * 2 ^ a .k) (div-eq-of-lt (good .few)) ∙ zero-mul (2 ^ a .k) in
         let start : a .base ≡ above (a .k) = ap (λ (n : ℕ). putAll (a .s) (a .base) (take n (a .since))) (sym none) in
-        then-laid h decoding (a .k) (a .k) (2 ^ a .k) (replicate (rawSize h) 0) (above (a .k)) (blocksOf h (a .base)) (full-decodes good e m L S) (lay-full ∙ start) ∙ lay-levels (a .k) (le-refl (a .k))
+        then-laid h decoding (a .k) (a .k) (2 ^ a .k) (replicate (rawSize h) 0) (above (a .k)) (blocksOf h (a .base)) (full-decodes good e m L S) (lay-full
+        ∙ start) ∙ lay-levels (a .k) (le-refl (a .k))

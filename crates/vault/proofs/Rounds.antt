@@ -167,8 +167,10 @@ module _ {a : Round} (good : Good a) where
       let h = roundHeader a in
       length-take-le (2 ^ l) (drop (firstOf h l) (a .since)) (rw length-drop (omega (arith, filled-in h l b e)))
 
-  pub level-column : (l : ℕ) → l < a .k → isFilled (roundHeader a) l ≡ true → Column 65537 (2 ^ l * suc (a .s)) (rowsOf (levelEntries (roundHeader a) (a .since) l))
-  level-column l b e = rows-column (2 ^ l) (good .sizes .k-high) (taken-take (2 ^ l) (taken-drop (firstOf (roundHeader a) l) (good .taken))) (length-entries l b e)
+  pub level-column : (l : ℕ) → l < a .k → isFilled (roundHeader a) l ≡ true
+      → Column 65537 (2 ^ l * suc (a .s)) (rowsOf (levelEntries (roundHeader a) (a .since) l))
+  level-column l b e =
+      rows-column (2 ^ l) (good .sizes .k-high) (taken-take (2 ^ l) (taken-drop (firstOf (roundHeader a) l) (good .taken))) (length-entries l b e)
 
   pub base-column : (c : ℕ) → Column 65537 (2 ^ a .k * suc (a .s)) (blocksOf (headerOf (a .k) (a .s) c) (a .base))
   base-column c = record {

@@ -1,4 +1,5 @@
--- What a round's stripes decode to fixes the round: the full stripe gives the records of its start, and the filled levels give the writes since. Assumes nothing.
+-- What a round's stripes decode to fixes the round: the full stripe gives the records of its start, and the filled levels give the writes since. Assumes
+-- nothing.
 use mathlib.Core.Path.{_≡_, refl, sym, ap, ap₂, _∙_, subst}
 use mathlib.Core.Bool.{Bool, true, false}
 use mathlib.Core.List.{List, _∷_, _++_}
@@ -32,8 +33,10 @@ rows-same (more f t) none n e = absurd (omega arith)
 rows-same {s} (more {x = x} {xs = xs} f t) (more {x = y} {xs = ys} g u) n e =
     let row : List ℕ = x .number ∷ x .block in
     let row′ : List ℕ = y .number ∷ y .block in
-    let same : row ≡ row′ = sym (take-at row (rowsOf xs) (suc s) (ap suc (f .long))) ∙ ap (take (suc s)) e ∙ take-at row′ (rowsOf ys) (suc s) (ap suc (g .long)) in
-    let rest : rowsOf xs ≡ rowsOf ys = sym (drop-at row (rowsOf xs) (suc s) (ap suc (f .long))) ∙ ap (drop (suc s)) e ∙ drop-at row′ (rowsOf ys) (suc s) (ap suc (g .long)) in
+    let same : row ≡ row′ =
+    sym (take-at row (rowsOf xs) (suc s) (ap suc (f .long))) ∙ ap (take (suc s)) e ∙ take-at row′ (rowsOf ys) (suc s) (ap suc (g .long)) in
+    let rest : rowsOf xs ≡ rowsOf ys =
+    sym (drop-at row (rowsOf xs) (suc s) (ap suc (f .long))) ∙ ap (drop (suc s)) e ∙ drop-at row′ (rowsOf ys) (suc s) (ap suc (g .long)) in
     ap₂ _∷_ (ap entryIn same) (rows-same t u (omega arith) rest)
 
 -- the writes up to level l's last are those up to the last of the level above, and then level l's if it is filled
@@ -48,7 +51,8 @@ module _ (h : Header) {xs ys : List Entry} (X : AllTaken (h .k) (h .s) xs) (Y : 
     (few : h .c < 2 ^ h .k) (rows : (l : ℕ) → l < h .k → isFilled h l ≡ true → rowsOf (levelEntries h xs l) ≡ rowsOf (levelEntries h ys l)) where
   level-same : (l : ℕ) → l < h .k → isFilled h l ≡ true → levelEntries h xs l ≡ levelEntries h ys l
   level-same l b f =
-      rows-same (taken-take (2 ^ l) (taken-drop (firstOf h l) X)) (taken-take (2 ^ l) (taken-drop (firstOf h l) Y)) (size xs long ∙ sym (size ys long′)) (rows l b f)
+      rows-same (taken-take (2 ^ l) (taken-drop (firstOf h l) X)) (taken-take (2 ^ l) (taken-drop (firstOf h l) Y)) (size xs long ∙ sym (size ys long′))
+      (rows l b f)
     where
       size : (zs : List Entry) → length zs ≡ h .c → length (levelEntries h zs l) ≡ 2 ^ l
       size zs n = length-take-le (2 ^ l) (drop (firstOf h l) zs) (rw length-drop (omega (arith, filled-in h l b f)))

@@ -21,7 +21,8 @@ use Rattle.rows.proofs.RowDecoding.{Outcome, gives, nine, ten, outcome}
 use Rattle.rows.proofs.StripeNumbers.{stripe-fits}
 use Rattle.stripe.specs.Decoding.{decodeStripe}
 use Rattle.stripe.specs.StripeCall.{decodeEarly, decodeNumber, decodeLeaves}
-use Rattle.vault.specs.Promises.{marks, wordsIn, Readable, Asked, GivesSeven, GivesEight, GivesNine, GivesTen, GivesZero, LeavesBlocks, LeavesZeros, Needed, Gives}
+use Rattle.vault.specs.Promises.{marks, wordsIn, Readable, Asked, GivesSeven, GivesEight, GivesNine, GivesTen, GivesZero, LeavesBlocks, LeavesZeros}
+use Rattle.vault.specs.Promises.{Needed, Gives}
 use Rattle.field.proofs.Booleans.{both-true, first-true}
 use Rattle.layout.proofs.Refusals.{passes, test-holds, none-fails, equal-three, if-taken}
 use Rattle.vault.proofs.StripeDecoding.{readable-rows, decodesIff, nineIff, tenIff}
@@ -88,13 +89,15 @@ givesEight h m e l out scratch A =
 
 pub givesNine : GivesNine
 givesNine h m e l out scratch A = (
-  λ q. let R = is-read h m e l out scratch A 9 (λ t. omega arith) (λ t. omega arith) q in (R, nineIff h m e l R .0 (fails h m e l out scratch A 9 (omega arith) q)),
+  λ q. let R = is-read h m e l out scratch A 9 (λ t. omega arith) (λ t. omega arith) q in
+      (R, nineIff h m e l R .0 (fails h m e l out scratch A 9 (omega arith) q)),
   λ t. number-of h m e l out scratch A ∙ ap decodedNumber (nineIff h m e l (t .0) .1 (t .1)),
 )
 
 pub givesTen : GivesTen
 givesTen h m e l out scratch A = (
-  λ q. let R = is-read h m e l out scratch A 10 (λ t. omega arith) (λ t. omega arith) q in (R, tenIff h m e l R .0 (fails h m e l out scratch A 10 (omega arith) q)),
+  λ q. let R = is-read h m e l out scratch A 10 (λ t. omega arith) (λ t. omega arith) q in
+      (R, tenIff h m e l R .0 (fails h m e l out scratch A 10 (omega arith) q)),
   λ t. number-of h m e l out scratch A ∙ ap decodedNumber (tenIff h m e l (t .0) .1 (t .1)),
 )
 
@@ -138,7 +141,8 @@ call-gives h m e l bs fits formed needed is = record {
   stripe = is;
   call = λ out scratch image outLong scratchLong.
       let A : Asked h m e l out scratch =
-      test-holds 1 _ fits ∙ test-holds 2 _ (equal-three (length m) (imageSize h) (length out) (outSize h) (length scratch) (scratchSize h) image outLong scratchLong)
+      test-holds 1 _ fits ∙ test-holds 2 _
+      (equal-three (length m) (imageSize h) (length out) (outSize h) (length scratch) (scratchSize h) image outLong scratchLong)
       ∙ test-holds 3 _ formed ∙ test-holds 6 done (needed-passes h l needed) ∙ none-fails in (
         number-of h m e l out scratch A ∙ ap decodedNumber is,
         words-of h m e l out scratch A ∙ ap (λ (d : Decoded). decodedWords d (outSize h)) is,

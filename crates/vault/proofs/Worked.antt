@@ -24,8 +24,10 @@ use Rattle.vault.specs.Model.{wordsFit, fedAll}
 use Rattle.vault.specs.Worked.{Holds, examples}
 
 pub worked : Holds examples
-unfolding plus minus times powerFrom power inverse lift slopes interpolate rootOf Words.table sumAt differenceAt mixed transform scaled reversed turned column columnsFrom
-    rowOf rowsFrom lifted coded codedRows survivorsFrom pointAt valueAt bitReversed decodedColumn agrees consistentColumn consistentTo decodedRows areData recordsFit reduced
+unfolding plus minus times powerFrom power inverse lift slopes interpolate rootOf Words.table sumAt differenceAt mixed transform scaled reversed turned column
+    columnsFrom
+    rowOf rowsFrom lifted coded codedRows survivorsFrom pointAt valueAt bitReversed decodedColumn agrees consistentColumn consistentTo decodedRows areData
+    recordsFit reduced
     blocksFrom firstEmpty rebuiltHalf little bytesOf numberOf erasuresFrom erasuresRise touched flagsFrom markAt survivingAt areBelow areRecords laid levelsOver
     refusal after wordsFit fedAll
 worked = (refl, (refl, (refl, (refl, (refl, (refl, (refl, (refl, (refl, (refl, (refl, (refl, (refl, (refl, (refl, (refl, (refl, (refl, tt))))))))))))))))))

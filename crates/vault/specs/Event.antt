@@ -1,4 +1,5 @@
--- What a history is made of: an opening, and events after it. It imports lists and numbers alone, and nothing of the vault. Assumes nothing: these are definitions.
+-- What a history is made of: an opening, and events after it. It imports lists and numbers alone, and nothing of the vault. Assumes nothing: these are
+-- definitions.
 use mathlib.Core.List.{List}
 use Prim.Native.Nat.{ℕ}
 

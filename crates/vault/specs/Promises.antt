@@ -1,5 +1,6 @@
--- WHAT THE VAULT PROMISES of every history, and of decoding and recovery. Each promise is a type and has a line of words above it; the record `Promises` at the end has one
--- field for each; and `proved : Promises` in proofs/Proved.antt is their proof, all in one term: with one of them missing it is refused. Assumes nothing.
+-- WHAT THE VAULT PROMISES of every history, and of decoding and recovery. Each promise is a type and has a line of words above it; the record `Promises` at the
+-- end has one field for each; and `proved : Promises` in proofs/Proved.antt is their proof, all in one term: with one of them missing it is refused. Assumes
+-- nothing.
 --
 -- SIGNS
 --   (x : T) → A       for every x of type T: A             A → B       if A, then B
@@ -28,27 +29,33 @@
 --
 -- FROM THIS CRATE
 --   specs/Event    Opening, Event: what a history is made of
---   specs/History  Opens o: the call takes the opening, that is, gives 0. vaultAfter o es: header and buffers as the calls leave them; headerAfter, imageAfter: its header and its
---                  image. numberOn v next: the number that the call gives to an event
---   specs/Model    modelOf o es: what the model (record book) says, from k, s, the opened records and the events alone. writes: its count. tableNumber: the table's number
---   specs/Round    roundOf o es: the round that a history ends in. represent a: the buffers' words as docs/FORMAT.md fixes them (sections 3 to 5).
---                  modelIn a: the model of a round. putAll s r xs: the records r with the writes xs put in. levelEntries h xs l: the writes that level l
---                  holds. rowsOf xs: writes as blocks
+--   specs/History  Opens o: the call takes the opening, that is, gives 0. vaultAfter o es: header and buffers as the calls leave them; headerAfter, imageAfter:
+--                  its header and its image. numberOn v next: the number that the call gives to an event
+--   specs/Model    modelOf o es: what the model (record book) says, from k, s, the opened records and the events alone. writes: its count. tableNumber: the
+--                  table's number
+--   specs/Round    roundOf o es: the round that a history ends in. represent a: the buffers' words as docs/FORMAT.md fixes them (sections 3 to 5). modelIn a:
+--                  the model of a round. putAll s r xs: the records r with the writes xs put in. levelEntries h xs l: the writes that level l holds. rowsOf xs:
+--                  writes as blocks
 --
 -- FROM OTHER CRATES
 --   layout     headerOf k s c: the header of these numbers. headerFits h: k is 1 to 10, s 1 to 128, c below n. rawSize, outSize, scratchSize, imageSize: the
 --              lengths of docs/FORMAT.md, section 3. width h: 1 + s. isFull h l: l is k. isFilled h l: bit l of c is 1. stripeAt h l: the word of the image at
 --              which the stripe begins; stripeSize h l: how many it has. stripeOf h l: the stripe's numbers: l, k, its t0, w of order 2n, and 1 + s
---   code       p: the field's modulus, 65537. codedStripe st bs: the words that the blocks bs of the stripe st are coded to. Column p n xs: xs are n words below p
---   decoder    survivors l ms: the positions of stripe l that are not erased. AgreesRows ms n width xs ys: xs and ys have the same words at these, of n positions
+--   code       p: the field's modulus, 65537. codedStripe st bs: the words that the blocks bs of the stripe st are coded to. Column p n xs: xs are n words
+--              below p
+--   decoder    survivors l ms: the positions of stripe l that are not erased. AgreesRows ms n width xs ys: xs and ys have the same words at these, of n
+--              positions
 --   store      blocksOf h raw: the raw records as blocks, in number order
---   image      wordAt m i: word i of an image. wordsOf bytes: the words of some bytes. stripeIn h m l: the bytes of a stripe in an image. erasuresIn e: the pairs of a list.
---              erasuresFit h e: it is well formed, number 3 does not apply. marksOf h gs l: for each position of a stripe whether a pair touches one of its bytes; true is erased
---   rows       of a stripe's numbers st, its marks ms and its words r, whatever stands at erased positions. Its specs/Promises has: Codes st ms r bs: bs are 2^l blocks of words
---              below p (Column) that code to (codedStripe) all words of r that survive (AgreesRows); InField st ms r: all of these are below p; OutOfField st ms r: one is not.
---              Its specs/Decoding has: `decoded bs` or `failed` with a number: what a stripe decodes to; areRecords st bs n: the first n blocks are records, number 10 does not apply
---   stripe     decodeStripe h m gs l: what a stripe of an image decodes to: decodeRows of the rows crate, of its numbers, marks and words. decodeEarly: the number of the call
---              `decode` by its tests 1 to 6. decodeNumber, decodeLeaves, decodeScratch: the number that it gives, and what it leaves in the output and in the scratch
+--   image      wordAt m i: word i of an image. wordsOf bytes: the words of some bytes. stripeIn h m l: the bytes of a stripe in an image. erasuresIn e: the
+--              pairs of a list. erasuresFit h e: it is well formed, number 3 does not apply. marksOf h gs l: for each position of a stripe whether a pair
+--              touches one of its bytes; true is erased
+--   rows       of a stripe's numbers st, its marks ms and its words r, whatever stands at erased positions. Its specs/Promises has: Codes st ms r bs: bs are
+--              2^l blocks of words below p (Column) that code to (codedStripe) all words of r that survive (AgreesRows); InField st ms r: all of these are
+--              below p; OutOfField st ms r: one is not. Its specs/Decoding has: `decoded bs` or `failed` with a number: what a stripe decodes to; areRecords st
+--              bs n: the first n blocks are records, number 10 does not apply
+--   stripe     decodeStripe h m gs l: what a stripe of an image decodes to: decodeRows of the rows crate, of its numbers, marks and words. decodeEarly: the
+--              number of the call `decode` by its tests 1 to 6. decodeNumber, decodeLeaves, decodeScratch: the number that it gives, and what it leaves in the
+--              output and in the scratch
 --   recovery   recoverAnswer, recoverLeaves, recoverScratch: what the call `recover` answers and leaves. unnamed n: the number n, and no stripe is named
 use mathlib.Core.Path.{_≡_}
 use mathlib.Core.Bool.{Bool, true, false}
@@ -102,7 +109,8 @@ RawIs = (o : Opening) (es : List Event) → Opens o → vaultAfter o es .held .r
 abbrev pub ModelIs : Type 0
 ModelIs = (o : Opening) (es : List Event) → Opens o → modelOf o es ≡ modelIn (roundOf o es)
 
--- and what it remembers of the round is what was there: it counts the writes since, and entry i of `before` is the records as all writes but the last i + 1 left them
+-- and what it remembers of the round is what was there: it counts the writes since, and entry i of `before` is the records as all writes but the last i + 1
+-- left them
 abbrev pub BeforeIs : Type 0
 BeforeIs =
     (o : Opening) (es : List Event) → Opens o →
@@ -168,8 +176,8 @@ GivesEight =
     (h : Header) (m e : List ℕ) (l : ℕ) (out scratch : List ℕ) → Asked h m e l out scratch →
     (decodeNumber h m e l out scratch ≡ 8) ↔ ((2 ^ l ≤ length (survivors l (marks h e l))) × OutOfField (stripeOf h l) (marks h e l) (wordsIn h m l))
 
--- 9 if and only if the stripe is readable and no blocks code to its surviving words; 10 if and only if it is and blocks do that hold no records; 0 if and only if it is and
--- blocks do that hold records
+-- 9 if and only if the stripe is readable and no blocks code to its surviving words; 10 if and only if it is and blocks do that hold no records; 0 if and only
+-- if it is and blocks do that hold records
 abbrev pub GivesNine : Type 0
 GivesNine =
     (h : Header) (m e : List ℕ) (l : ℕ) (out scratch : List ℕ) → Asked h m e l out scratch →
@@ -185,7 +193,8 @@ GivesZero =
     (h : Header) (m e : List ℕ) (l : ℕ) (out scratch : List ℕ) → Asked h m e l out scratch →
     (decodeNumber h m e l out scratch ≡ 0) ↔ (Readable h m e l × ((bs : List ℕ) × Codes h m e l bs × (areRecords (stripeOf h l) bs (2 ^ l) ≡ true)))
 
--- with 0 it leaves the blocks in order of time at the start of the output, and zeros after them; with any other number an output of zeros; and always a scratch of zeros
+-- with 0 it leaves the blocks in order of time at the start of the output, and zeros after them; with any other number an output of zeros; and always a scratch
+-- of zeros
 abbrev pub LeavesBlocks : Type 0
 LeavesBlocks =
     (h : Header) (m e : List ℕ) (l : ℕ) (bs out scratch : List ℕ) → Asked h m e l out scratch →

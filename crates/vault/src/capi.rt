@@ -33,11 +33,16 @@ pub extern "C" fn vault_write(
     record: u32,
     block: &[u32],
 ) -> u32
-    ensures { λ r. ⌜ r ≡ writeNumber (headerOf k s (now (c .entry))) (buffers (now (raw .entry)) (now (full .entry)) (now (log .entry))) «record» (now (block .entry)) ⌝ }
-    ensures { λ _. ⌜ now (c .exit) ≡ writeAnswer (headerOf k s (now (c .entry))) (buffers (now (raw .entry)) (now (full .entry)) (now (log .entry))) «record» (now (block .entry)) .header .c ⌝ }
-    ensures { λ _. ⌜ now (raw .exit) ≡ writeLeaves (headerOf k s (now (c .entry))) (buffers (now (raw .entry)) (now (full .entry)) (now (log .entry))) «record» (now (block .entry)) .raw ⌝ }
-    ensures { λ _. ⌜ now (full .exit) ≡ writeLeaves (headerOf k s (now (c .entry))) (buffers (now (raw .entry)) (now (full .entry)) (now (log .entry))) «record» (now (block .entry)) .full ⌝ }
-    ensures { λ _. ⌜ now (log .exit) ≡ writeLeaves (headerOf k s (now (c .entry))) (buffers (now (raw .entry)) (now (full .entry)) (now (log .entry))) «record» (now (block .entry)) .log ⌝ }
+    ensures { λ r. ⌜ r ≡
+        writeNumber (headerOf k s (now (c .entry))) (buffers (now (raw .entry)) (now (full .entry)) (now (log .entry))) «record» (now (block .entry)) ⌝ }
+    ensures { λ _. ⌜ now (c .exit) ≡ writeAnswer (headerOf k s (now (c .entry))) (buffers (now (raw .entry)) (now (full .entry)) (now (log .entry))) «record»
+        (now (block .entry)) .header .c ⌝ }
+    ensures { λ _. ⌜ now (raw .exit) ≡
+        writeLeaves (headerOf k s (now (c .entry))) (buffers (now (raw .entry)) (now (full .entry)) (now (log .entry))) «record» (now (block .entry)) .raw ⌝ }
+    ensures { λ _. ⌜ now (full .exit) ≡
+        writeLeaves (headerOf k s (now (c .entry))) (buffers (now (raw .entry)) (now (full .entry)) (now (log .entry))) «record» (now (block .entry)) .full ⌝ }
+    ensures { λ _. ⌜ now (log .exit) ≡
+        writeLeaves (headerOf k s (now (c .entry))) (buffers (now (raw .entry)) (now (full .entry)) (now (log .entry))) «record» (now (block .entry)) .log ⌝ }
 {
     let header = Header { k: k, s: s, c: *c };
     let answer = store::writing::write(header, raw, full, log, record, block);
@@ -85,8 +90,10 @@ pub extern "C" fn vault_decode(
     scratch: &mut [u32],
 ) -> u32
     ensures { λ r. ⌜ r ≡ decodeNumber (headerOf k s c) (now (image .entry)) (now (gaps .entry)) shelf (now (out .entry)) (now (scratch .entry)) ⌝ }
-    ensures { λ _. ⌜ now (out .exit) ≡ decodeLeaves (headerOf k s c) (now (image .entry)) (now (gaps .entry)) shelf (now (out .entry)) (now (scratch .entry)) ⌝ }
-    ensures { λ _. ⌜ now (scratch .exit) ≡ decodeScratch (headerOf k s c) (now (image .entry)) (now (gaps .entry)) shelf (now (out .entry)) (now (scratch .entry)) ⌝ }
+    ensures { λ _. ⌜ now (out .exit) ≡
+        decodeLeaves (headerOf k s c) (now (image .entry)) (now (gaps .entry)) shelf (now (out .entry)) (now (scratch .entry)) ⌝ }
+    ensures { λ _. ⌜ now (scratch .exit) ≡
+        decodeScratch (headerOf k s c) (now (image .entry)) (now (gaps .entry)) shelf (now (out .entry)) (now (scratch .entry)) ⌝ }
 {
     stripe::decoding::decode(
         Header { k: k, s: s, c: c },
@@ -122,8 +129,10 @@ pub extern "C" fn vault_recover(
 ) -> u32
     ensures { λ r. ⌜ r ≡ recoverAnswer (headerOf k s c) (now (image .entry)) (now (gaps .entry)) (now (out .entry)) (now (scratch .entry)) .number ⌝ }
     ensures { λ _. ⌜ now (out .exit) ≡ recoverLeaves (headerOf k s c) (now (image .entry)) (now (gaps .entry)) (now (out .entry)) (now (scratch .entry)) ⌝ }
-    ensures { λ _. ⌜ now (scratch .exit) ≡ recoverScratch (headerOf k s c) (now (image .entry)) (now (gaps .entry)) (now (out .entry)) (now (scratch .entry)) ⌝ }
-    ensures { λ _. ⌜ now (shelf .exit) ≡ shelfOf (recoverAnswer (headerOf k s c) (now (image .entry)) (now (gaps .entry)) (now (out .entry)) (now (scratch .entry))) ⌝ }
+    ensures { λ _. ⌜ now (scratch .exit) ≡
+        recoverScratch (headerOf k s c) (now (image .entry)) (now (gaps .entry)) (now (out .entry)) (now (scratch .entry)) ⌝ }
+    ensures { λ _. ⌜ now (shelf .exit) ≡
+        shelfOf (recoverAnswer (headerOf k s c) (now (image .entry)) (now (gaps .entry)) (now (out .entry)) (now (scratch .entry))) ⌝ }
 {
     let answer = recovery::recovering::recover(
         Header { k: k, s: s, c: c },

@@ -7,7 +7,8 @@ use Rattle.listing.proofs.writes.Statement.{statement}
 use Rattle.listing.proofs.writes.Tie as tie
 
 abbrev Inv-loop : tie.InvT-loop
-Inv-loop s raw₀ full₀ log₀ bytes size header₀ from₀ i₀ raw full log header from i = (i ≤ 256) × (from ≤ length bytes) × (size ≡ 2 + 2 * s) × (length raw ≡ length raw₀) × (length full ≡ length full₀) × (length log ≡ length log₀)
+Inv-loop s raw₀ full₀ log₀ bytes size header₀ from₀ i₀ raw full log header from i =
+    (i ≤ 256) × (from ≤ length bytes) × (size ≡ 2 + 2 * s) × (length raw ≡ length raw₀) × (length full ≡ length full₀) × (length log ≡ length log₀)
 
 abbrev μ-loop : tie.MeasureT-loop
 μ-loop s raw₀ full₀ log₀ bytes size header₀ from₀ i₀ raw full log header from i = 256 - i

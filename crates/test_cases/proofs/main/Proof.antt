@@ -21,7 +21,8 @@ record Kept (count : ℕ) (raw full log block out scratch image list : List ℕ)
   list-long : length list ≡ 16384
 
 abbrev Inv-loop : tie.InvT-loop
-Inv-loop numbers₀ raw₀ full₀ log₀ block₀ out₀ scratch₀ image₀ list₀ count i₀ numbers raw full log block out scratch image list i = Kept count raw full log block out scratch image list i
+Inv-loop numbers₀ raw₀ full₀ log₀ block₀ out₀ scratch₀ image₀ list₀ count i₀ numbers raw full log block out scratch image list i =
+    Kept count raw full log block out scratch image list i
 
 abbrev μ-loop : tie.MeasureT-loop
 μ-loop numbers₀ raw₀ full₀ log₀ block₀ out₀ scratch₀ image₀ list₀ count i₀ numbers raw full log block out scratch image list i = count - i

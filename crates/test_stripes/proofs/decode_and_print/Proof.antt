@@ -34,7 +34,11 @@ returns c = search needs
 decode-requires : tie.Need-decode-requires
 decode-requires c κs =
     let s = start-at-two-to (c .before .before .before) in
-    let half = enough (s .args .st .level) (s .args .marks .now) (omega (arith, positions (s .args .st .level) (c .before .before .before .two-to .ensures), c .before .before .count-erased .ensures)) in
+    let half = enough (s .args .st .level) (s .args .marks .now) (omega (
+      arith,
+      positions (s .args .st .level) (c .before .before .before .two-to .ensures),
+      c .before .before .count-erased .ensures,
+    )) in
     let pre = s .pre in
     (pre .0, ((pre .1 .0, half), pre .1 .1))
 

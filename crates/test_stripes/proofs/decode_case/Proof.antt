@@ -35,8 +35,13 @@ marks-requires c κs = omega (arith, positions (c .before .before .before .befor
 
 weights-requires : tie.Need-weights-requires
 weights-requires c κs =
-    let s = start-at-marks (c .before .before .before .before) in
-    (s .pre .0, (omega (arith, c .before .before .before .before .marks .ensures), omega (arith, le-mul-of-pos-right (positionCount (s .args .st)) (s .pre .1 .0))))
+    let s = start-at-marks (c .before .before .before .before) in (
+      s .pre .0,
+      (
+        omega (arith, c .before .before .before .before .marks .ensures),
+        omega (arith, le-mul-of-pos-right (positionCount (s .args .st)) (s .pre .1 .0)),
+      ),
+    )
 
 words-requires : tie.Need-words-requires
 words-requires c κs = search needs

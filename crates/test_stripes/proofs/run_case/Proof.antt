@@ -56,19 +56,35 @@ two-to-requires : tie.Need-two-to-requires
 two-to-requires c κs = omega (arith, ltb-false)
 
 add-positions : tie.Need-add-positions
-add-positions c = omega (arith, small-length (byte2-at-two-to c .byte2 .result) (c .before .before .before .before .before .byte4 .result) (c .two-to .ensures) (omega (arith, ltb-false)) (omega arith))
+add-positions c = omega (
+  arith,
+  small-length (byte2-at-two-to c .byte2 .result) (c .before .before .before .before .before .byte4 .result) (c .two-to .ensures)
+      (omega (arith, ltb-false)) (omega arith),
+)
 
 mul-count : tie.Need-mul-count
-mul-count c = omega (arith, small-length (byte2-at-two-to c .byte2 .result) (c .before .before .before .before .before .byte4 .result) (c .two-to .ensures) (omega (arith, ltb-false)) (omega arith))
+mul-count c = omega (
+  arith,
+  small-length (byte2-at-two-to c .byte2 .result) (c .before .before .before .before .before .byte4 .result) (c .two-to .ensures)
+      (omega (arith, ltb-false)) (omega arith),
+)
 
 add-all : tie.Need-add-all
-add-all c = omega (arith, small-length (byte2-at-two-to c .byte2 .result) (c .before .before .before .before .before .byte4 .result) (c .two-to .ensures) (omega (arith, ltb-false)) (omega arith))
+add-all c = omega (
+  arith,
+  small-length (byte2-at-two-to c .byte2 .result) (c .before .before .before .before .before .byte4 .result) (c .two-to .ensures)
+      (omega (arith, ltb-false)) (omega arith),
+)
 
 rem-if4 : tie.Need-rem-if4
 rem-if4 c = rw (c .two-to .ensures) (pow-pos (byte2-at-two-to c .byte2 .result))
 
 add-if5 : tie.Need-add-if5
-add-if5 c = omega (arith, small-length (byte2-at-two-to (c .before) .byte2 .result) (c .before .before .before .before .before .before .byte4 .result) (c .before .two-to .ensures) (omega (arith, ltb-false)) (omega arith))
+add-if5 c = omega (
+  arith,
+  small-length (byte2-at-two-to (c .before) .byte2 .result) (c .before .before .before .before .before .before .byte4 .result)
+      (c .before .two-to .ensures) (omega (arith, ltb-false)) (omega arith),
+)
 
 returns-2 : tie.Need-returns-2
 returns-2 c = search needs
@@ -88,7 +104,8 @@ decode-case-requires c κs =
     let l = byte2-at-two-to t .byte2 .result in
     let width = t .before .before .before .before .before .byte4 .result in
     let e = t .two-to .ensures in (
-      numbers e (else4-at-root (c .before .before .before) .if4 .left) (omega (arith, ltb-false)) (omega (arith, ltb-false)) (omega (arith, ltb-false)) (c .before .before .before .root .ensures),
+      numbers e (else4-at-root (c .before .before .before) .if4 .left) (omega (arith, ltb-false)) (omega (arith, ltb-false)) (omega (arith, ltb-false))
+          (c .before .before .before .root .ensures),
       (
         omega (arith, eqb-false),
         (
@@ -110,7 +127,8 @@ code-case-requires c κs =
     let l = byte2-at-two-to t .byte2 .result in
     let width = t .before .before .before .before .before .byte4 .result in
     let e = t .two-to .ensures in (
-      numbers e (c .before .before .before .before .before .before .if4 .left) (omega (arith, ltb-false)) (omega (arith, ltb-false)) (omega (arith, ltb-false)) (c .before .before .root .ensures),
+      numbers e (c .before .before .before .before .before .before .if4 .left) (omega (arith, ltb-false)) (omega (arith, ltb-false)) (omega (arith, ltb-false))
+          (c .before .before .root .ensures),
       length-take-le _ _ (omega (arith, ltb-false)) ∙ stripe-length l width e,
     )
 

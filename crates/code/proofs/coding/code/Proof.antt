@@ -20,14 +20,16 @@ use Rattle.code.proofs.coding.code.Tie as tie
 
 -- X and Y of all columns
 coded-rows : (w k l t width : ℕ) (bs x y z : List ℕ) → x ≡ lifted width (2 ^ l) (2 ^ l) (transform 65537 w k l) bs
-    → y ≡ lifted width (2 ^ l) (2 ^ l) (turned 65537 w k t) bs → z ≡ lifted width (2 ^ l) (2 ^ l) (transform 65537 w k l) y → x ++ z ≡ codedRows 65537 w k l t width bs
+    → y ≡ lifted width (2 ^ l) (2 ^ l) (turned 65537 w k t) bs → z ≡ lifted width (2 ^ l) (2 ^ l) (transform 65537 w k l) y
+    → x ++ z ≡ codedRows 65537 w k l t width bs
 unfolding codedRows coded
 coded-rows w k l t width bs x y z ex ey ez =
     let n = 2 ^ l in
     let T = transform 65537 w k l in
     let U = turned 65537 w k t in
     ap₂ _++_ ex (ez ∙ ap (lifted width n n T) ey ∙ lifted-then width n n n U T bs (λ c h. length-turned 65537 w k t c ∙ h))
-    ∙ lifted-both width n n n T (λ c. T (U c)) bs (length-transform 65537 w k l) ∙ ap (λ (m : ℕ). lifted width n m (coded 65537 w k l t) bs) {x = n + n} {y = 2 ^ suc l} (omega arith)
+    ∙ lifted-both width n n n T (λ c. T (U c)) bs (length-transform 65537 w k l)
+    ∙ ap (λ (m : ℕ). lifted width n m (coded 65537 w k l t) bs) {x = n + n} {y = 2 ^ suc l} (omega arith)
 
 -- the arguments, and the words of a half
 abbrev start : tie.After-two-to → tie.Start
@@ -120,8 +122,13 @@ mix-all-requires : tie.Need-mix-all-requires
 mix-all-requires c κs =
     let at-copy = c .before .before .before in
     let at-two = copy-two at-copy in
-    let pre = start at-two .pre in
-    (pre .0, (ap length (lent-front (copied at-copy)) ∙ length-blocks at-two ∙ half-is at-two, rw (lent-front (copied at-copy)) (rw (half-is at-two) (pre .1 .1))))
+    let pre = start at-two .pre in (
+      pre .0,
+      (
+        ap length (lent-front (copied at-copy)) ∙ length-blocks at-two ∙ half-is at-two,
+        rw (lent-front (copied at-copy)) (rw (half-is at-two) (pre .1 .1)),
+      ),
+    )
 
 mul-turn : tie.Need-mul-turn
 mul-turn c = omega (arith, long (mix-two (c .before .before)))
@@ -139,8 +146,13 @@ turn-requires : tie.Need-turn-requires
 turn-requires c κs =
     let at-mix = c .before .before .before in
     let at-two = mix-two at-mix in
-    let pre = start at-two .pre in
-    (pre .0, (ap length (lent-rest (mixed-parts at-mix)) ∙ length-blocks at-two ∙ half-is at-two, (pre .0 .rooted .small, rw (lent-rest (mixed-parts at-mix)) (rw (half-is at-two) (pre .1 .1)))))
+    let pre = start at-two .pre in (
+      pre .0,
+      (
+        ap length (lent-rest (mixed-parts at-mix)) ∙ length-blocks at-two ∙ half-is at-two,
+        (pre .0 .rooted .small, rw (lent-rest (mixed-parts at-mix)) (rw (half-is at-two) (pre .1 .1))),
+      ),
+    )
 
 mul-mix-all : tie.Need-mul-mix-all
 mul-mix-all c = omega (arith, long (turn-two (c .before .before)))

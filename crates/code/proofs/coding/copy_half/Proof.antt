@@ -53,7 +53,8 @@ same-length c = c .before .loop .inv .same
 copied : (half : ℕ) (l : List ℕ) → length l ≡ half + half → stored half (λ n. getD l n 0) half l ≡ take half l ++ take half l
 copied half l e =
     stored-last half (λ n. getD l n 0) half l e
-    ∙ ap (λ (r : List ℕ). take half l ++ r) (sym (is-table (take half l) half (λ n. getD l n 0) (length-take-le half l (omega arith)) (λ k b. getD-take half l k 0 b)))
+    ∙ ap (λ (r : List ℕ). take half l ++ r)
+    (sym (is-table (take half l) half (λ n. getD l n 0) (length-take-le half l (omega arith)) (λ k b. getD-take half l k 0 b)))
 
 returns : tie.Need-returns Inv-loop μ-loop
 returns c = storing-done (c .before .loop .inv) (c .loop-test .left) ∙ copied _ _ (c .before .before .pre)

@@ -28,8 +28,11 @@ slice-read-mul c = omega arith
 
 mul-requires : tie.Need-mul-requires Inv-loop μ-loop
 mul-requires c κs =
-    let at-loop = c .before .before in
-    (omega arith, rw (storing-rest (at-loop .loop .inv) (at-loop .before .before .args .at + at-loop .loop .j) (omega arith)) (at-loop .before .before .pre .1 .1 .word _))
+    let at-loop = c .before .before in (
+      omega arith,
+      rw (storing-rest (at-loop .loop .inv) (at-loop .before .before .args .at + at-loop .loop .j) (omega arith))
+          (at-loop .before .before .pre .1 .1 .word _),
+    )
 
 mul-part : tie.Need-mul-part Inv-loop μ-loop
 mul-part c = omega arith

@@ -15,7 +15,8 @@ use Rattle.code.specs.Transform.{reversed, turned}
 use Rattle.code.specs.steps.Storing.{stored}
 use Rattle.code.proofs.Shapes.{turned-at}
 use Rattle.code.proofs.Lifting.{length-column, column-at, table-lifted}
-use Rattle.code.proofs.RowLaws.{stored-last, StoringRows, storing-rows-start, storing-rows-room, storing-rows-done, scaledRowsWord, scaling-words, scaling-turn}
+use Rattle.code.proofs.RowLaws.{stored-last, StoringRows, storing-rows-start, storing-rows-room, storing-rows-done, scaledRowsWord, scaling-words}
+use Rattle.code.proofs.RowLaws.{scaling-turn}
 use Rattle.code.proofs.coding.turn.Statement.{statement}
 use Rattle.code.proofs.coding.turn.Tie as tie
 
@@ -59,8 +60,13 @@ scale-row-requires : tie.Need-scale-row-requires Inv-loop μ-loop
 scale-row-requires c κs =
     let at-test = c .before .before .before in
     let s = start at-test in
-    let st = s .args .st in
-    (room at-test, (rw (c .before .power .ensures) (power-lt 65537 (lit< tt) _ _), scaling-words 65537 (st .width) (factor (s .args .w) (st .k) (st .first)) (at-test .before .loop .inv) (lit< tt) (s .pre .1 .1 .1)))
+    let st = s .args .st in (
+      room at-test,
+      (
+        rw (c .before .power .ensures) (power-lt 65537 (lit< tt) _ _),
+        scaling-words 65537 (st .width) (factor (s .args .w) (st .k) (st .first)) (at-test .before .loop .inv) (lit< tt) (s .pre .1 .1 .1),
+      ),
+    )
 
 add-at : tie.Need-add-at Inv-loop μ-loop
 add-at c = omega (arith, room (c .before .before .before .before .before .before))
@@ -88,7 +94,8 @@ unfolding factor scaledRowsWord
 turned-rows rows first k width root l e =
     stored-last 0 (scaledRowsWord 65537 width (factor root k first) l) (rows * width) l (e ∙ sym (zero-add (rows * width)))
     ∙ table-lifted width rows rows (turned 65537 root k first) (scaledRowsWord 65537 width (factor root k first) l) l
-    (λ i j h b. rw (digits-div i b) (ap (times 65537 (power 65537 root (reversed k (first + i)))) (sym (column-at width rows j l i h)) ∙ sym (turned-at 65537 root k first (column width rows j l) i (rw length-column h))))
+    (λ i j h b. rw (digits-div i b) (ap (times 65537 (power 65537 root (reversed k (first + i)))) (sym (column-at width rows j l i h))
+    ∙ sym (turned-at 65537 root k first (column width rows j l) i (rw length-column h))))
 
 same-length : tie.Need-same-length Inv-loop μ-loop
 same-length c = c .before .loop .inv .same
@@ -99,7 +106,8 @@ returns c =
     let a = s .args in
     let e = c .before .before .two-to .ensures in
     storing-rows-done (c .before .loop .inv) (c .loop-test .left)
-    ∙ turned-rows (c .before .before .two-to .result) (a .st .first) (a .st .k) (a .st .width) (a .w) (a .part .now) (s .pre .1 .0 ∙ sym (ap (λ (n : ℕ). n * a .st .width) e))
+    ∙ turned-rows (c .before .before .two-to .result) (a .st .first) (a .st .k) (a .st .width) (a .w) (a .part .now) (s .pre .1 .0
+    ∙ sym (ap (λ (n : ℕ). n * a .st .width) e))
     ∙ ap (λ (n : ℕ). lifted (a .st .width) n n (turned 65537 (a .w) (a .st .k) (a .st .first)) (a .part .now)) e
 
 pub turn-spec : {M : Type 1} → statement M

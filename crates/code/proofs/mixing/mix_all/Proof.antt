@@ -45,7 +45,8 @@ mixed-both root k l c e =
 
 -- a level
 mix-level : (width root k l b : ℕ) (rows : List ℕ) → b * ((2 ^ l + 2 ^ l) * width) ≤ length rows
-    → eachRows width b (2 ^ l + 2 ^ l) (mixedHalves 65537 (power 65537 root (2 ^ k / 2 ^ l)) (2 ^ l)) (eachRows width (b * 2) (2 ^ l) (transform 65537 root k l) rows)
+    → eachRows width b (2 ^ l + 2 ^ l) (mixedHalves 65537 (power 65537 root (2 ^ k / 2 ^ l)) (2 ^ l))
+    (eachRows width (b * 2) (2 ^ l) (transform 65537 root k l) rows)
     ≡ eachRows width b (2 ^ suc l) (transform 65537 root k (suc l)) rows
 mix-level width root k l b rows h =
     let m = 2 ^ l in
@@ -76,7 +77,8 @@ module _ {half₀ : List ℕ} {level k width root : ℕ} {half : List ℕ} {bloc
   level-in : Inv half₀ level k width root half blocks exponent m l → l < level → Level width level l (length half) (blocks / 2) m
   level-in h lt = level-at lt (omega arith) (h .same ∙ h .long) (omega (arith, pow-down lt)) (h .m-is)
 
-  turn : {half′ : List ℕ} {v : ℕ} → Inv half₀ level k width root half blocks exponent m l → l < level → length half′ ≡ length half → v ≡ power 65537 root exponent
+  turn : {half′ : List ℕ} {v : ℕ} → Inv half₀ level k width root half blocks exponent m l → l < level → length half′ ≡ length half
+      → v ≡ power 65537 root exponent
       → half′ ≡ eachRows width (blocks / 2) (m + m) (mixedHalves 65537 v m) half
       → Inv half₀ level k width root half′ (blocks / 2) (exponent / 2) (m * 2) (l + 1)
   turn {half′} {v} h lt el ev eh =
@@ -121,7 +123,8 @@ loop-holds c =
     start (p .0 .within, p .0 .small) (p .1 .0) (p .1 .1) (c .before .two-to .ensures) (c .two-to2 .ensures)
 
 here : (c : tie.In-loop Inv-loop μ-loop)
-    → Level (c .before .before .before .before .before .args .st .width) (c .before .before .before .before .before .args .st .level) (c .before .loop .l) (length (c .before .loop .half)) (c .before .loop .blocks / 2) (c .before .loop .m)
+    → Level (c .before .before .before .before .before .args .st .width) (c .before .before .before .before .before .args .st .level) (c .before .loop .l)
+    (length (c .before .loop .half)) (c .before .loop .blocks / 2) (c .before .loop .m)
 here c = level-in (c .before .loop .inv) (c .loop-test .taken)
 
 cast-power : tie.Need-cast-power Inv-loop μ-loop
@@ -132,8 +135,13 @@ power-requires c κs = c .before .before .before .before .before .pre .0 .rooted
 
 mix-each-requires : tie.Need-mix-each-requires Inv-loop μ-loop
 mix-each-requires c κs =
-    let s = here (c .before .before) in
-    (s .rows, (omega (arith, s .m-few), (omega (arith, s .fits), (rw (c .before .power .ensures) (power-lt 65537 (omega arith) _ _), c .before .before .before .loop .inv .words))))
+    let s = here (c .before .before) in (
+      s .rows,
+      (
+        omega (arith, s .m-few),
+        (omega (arith, s .fits), (rw (c .before .power .ensures) (power-lt 65537 (omega arith) _ _), c .before .before .before .loop .inv .words)),
+      ),
+    )
 
 mul-m : tie.Need-mul-m Inv-loop μ-loop
 mul-m c = omega (arith, here (c .before .before .before .before .before) .m-few)
@@ -148,7 +156,8 @@ loop-again : tie.Need-loop-again Inv-loop μ-loop
 loop-again c =
     let at-each = c .before .before in
     let at-test = at-each .before .before .before in
-    turn (at-test .before .loop .inv) (at-test .loop-test .taken) (at-each .mix-each .kept .0) (at-each .before .before .power .ensures) (at-each .mix-each .ensures)
+    turn (at-test .before .loop .inv) (at-test .loop-test .taken) (at-each .mix-each .kept .0) (at-each .before .before .power .ensures)
+    (at-each .mix-each .ensures)
 
 same-length : tie.Need-same-length Inv-loop μ-loop
 same-length c = c .before .loop .inv .same

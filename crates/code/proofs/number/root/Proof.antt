@@ -27,7 +27,8 @@ returns : tie.Need-returns
 unfolding rootOf
 returns c =
     let k = c .before .before .args .k in
-    c .power .ensures ∙ ap (λ (n : ℕ). power 65537 3 (32768 / n)) (c .before .two-to .ensures) ∙ ap (power 65537 3) (sym (mul-div-mul-left {m = 2} 32768 (2 ^ k) (lit< tt)))
+    c .power .ensures ∙ ap (λ (n : ℕ). power 65537 3 (32768 / n)) (c .before .two-to .ensures)
+    ∙ ap (power 65537 3) (sym (mul-div-mul-left {m = 2} 32768 (2 ^ k) (lit< tt)))
 
 pub root-spec : {M : Type 1} → statement M
 root-spec = tie.close (tie.spec two-to-requires div-power cast-power power-requires returns)

@@ -107,7 +107,8 @@ loop-holds c =
     start (p .0 .within, p .0 .small) (p .1 .0) (p .1 .1 .1) (c .two-to .ensures)
 
 here : (c : tie.In-loop Inv-loop μ-loop)
-    → Level (c .before .before .before .before .args .st .width) (c .before .before .before .before .args .st .level) (c .before .loop .left - 1) (length (c .before .loop .half)) (c .before .loop .blocks) (c .before .loop .m / 2)
+    → Level (c .before .before .before .before .args .st .width) (c .before .before .before .before .args .st .level) (c .before .loop .left - 1)
+    (length (c .before .loop .half)) (c .before .loop .blocks) (c .before .loop .m / 2)
 here c = level-in (c .before .loop .inv) (c .loop-test .taken)
 
 sub-left : tie.Need-sub-left Inv-loop μ-loop
@@ -120,15 +121,24 @@ two-to-requires-2 : tie.Need-two-to-requires-2 Inv-loop μ-loop
 two-to-requires-2 c κs = omega arith
 
 cast-power : tie.Need-cast-power Inv-loop μ-loop
-cast-power c = omega (arith, c .two-to2 .ensures, pow-mono {i = c .before .before .before .before .before .args .st .k - (c .before .before .loop .left - 1)} {j = 16} (omega arith))
+cast-power c = omega (
+  arith,
+  c .two-to2 .ensures,
+  pow-mono {i = c .before .before .before .before .before .args .st .k - (c .before .before .loop .left - 1)} {j = 16} (omega arith),
+)
 
 power-requires : tie.Need-power-requires Inv-loop μ-loop
 power-requires c κs = omega arith
 
 unmix-each-requires : tie.Need-unmix-each-requires Inv-loop μ-loop
 unmix-each-requires c κs =
-    let s = here (c .before .before .before) in
-    (s .rows, (omega (arith, s .m-few), (omega (arith, s .fits), (rw (c .before .power .ensures) (power-lt 65537 (omega arith) _ _), c .before .before .before .before .loop .inv .words))))
+    let s = here (c .before .before .before) in (
+      s .rows,
+      (
+        omega (arith, s .m-few),
+        (omega (arith, s .fits), (rw (c .before .power .ensures) (power-lt 65537 (omega arith) _ _), c .before .before .before .before .loop .inv .words)),
+      ),
+    )
 
 mul-blocks : tie.Need-mul-blocks Inv-loop μ-loop
 mul-blocks c = omega (arith, here (c .before .before .before .before .before .before) .blocks-few)
@@ -141,7 +151,8 @@ loop-again c =
     let at-each = c .before .before in
     let at-power = at-each .before .before in
     let at-test = at-power .before .before in
-    turn (at-test .before .loop .inv) (at-test .loop-test .taken) (at-each .unmix-each .kept .0) (at-power .before .two-to2 .ensures) (at-power .power .ensures) (at-each .unmix-each .ensures)
+    turn (at-test .before .loop .inv) (at-test .loop-test .taken) (at-each .unmix-each .kept .0) (at-power .before .two-to2 .ensures) (at-power .power .ensures)
+    (at-each .unmix-each .ensures)
 
 same-length : tie.Need-same-length Inv-loop μ-loop
 same-length c = c .before .loop .inv .same

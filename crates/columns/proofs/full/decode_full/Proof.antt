@@ -58,8 +58,11 @@ are-records-requires : tie.Need-are-records-requires
 are-records-requires c κs =
     let s = start-at-slice-known4 (c .before .before) in
     let a = s .args in
-    let d = c .before .before .before .before .before .before .decode-all .ensures in
-    (s .pre .0 .fits, ap length (full-blocks (a .st) (a .marks .now) (rowsIn (a .st) (a .marks .now) (a .bytes .now)) (d .0) (d .1 .0) (c .before .if1 .left)) ∙ length-blocks (a .st) (a .marks .now) (rowsIn (a .st) (a .marks .now) (a .bytes .now)))
+    let d = c .before .before .before .before .before .before .decode-all .ensures in (
+      s .pre .0 .fits,
+      ap length (full-blocks (a .st) (a .marks .now) (rowsIn (a .st) (a .marks .now) (a .bytes .now)) (d .0) (d .1 .0) (c .before .if1 .left))
+          ∙ length-blocks (a .st) (a .marks .now) (rowsIn (a .st) (a .marks .now) (a .bytes .now)),
+    )
 
 same-length-3 : tie.Need-same-length-3
 same-length-3 c = search needs
@@ -73,7 +76,8 @@ returns-2 c =
     let r = rowsIn (a .st) (a .marks .now) (a .bytes .now) in
     let d = decode-all-at-are-records (c .before) .decode-all .ensures in
     let z = c .before .before .before .if1 .left in
-    let f = blocks-given (a .st) (a .marks .now) r (full-agrees (a .st) (a .marks .now) r (d .0) (d .1 .0) z) (full-blocks (a .st) (a .marks .now) r (d .0) (d .1 .0) z) (sym (c .before .are-records .ensures) ∙ c .if2 .taken) in
+    let f = blocks-given (a .st) (a .marks .now) r (full-agrees (a .st) (a .marks .now) r (d .0) (d .1 .0) z)
+    (full-blocks (a .st) (a .marks .now) r (d .0) (d .1 .0) z) (sym (c .before .are-records .ensures) ∙ c .if2 .taken) in
     (f .0, (f .1, d .1 .1))
 
 clear-requires : tie.Need-clear-requires
@@ -91,7 +95,9 @@ returns-3 c =
     let r = rowsIn (a .st) (a .marks .now) (a .bytes .now) in
     let d = decode-all-at-clear (c .before .before) .decode-all .ensures in
     let z = else1-at-clear (c .before .before) .if1 .left in
-    let f = blocks-refused (a .st) (a .marks .now) r (full-agrees (a .st) (a .marks .now) r (d .0) (d .1 .0) z) (full-blocks (a .st) (a .marks .now) r (d .0) (d .1 .0) z) (sym (c .before .before .before .before .before .are-records .ensures) ∙ c .before .before .before .before .if2 .left) (c .before .before .clear .ensures) in
+    let f = blocks-refused (a .st) (a .marks .now) r (full-agrees (a .st) (a .marks .now) r (d .0) (d .1 .0) z)
+    (full-blocks (a .st) (a .marks .now) r (d .0) (d .1 .0) z) (sym (c .before .before .before .before .before .are-records .ensures)
+    ∙ c .before .before .before .before .if2 .left) (c .before .before .clear .ensures) in
     (f .0, (f .1, d .1 .1))
 
 pub decode-full-spec : {M : Type 1} → statement M

@@ -56,7 +56,8 @@ thick c = omega (arith, start c .pre .0 .fits .thick)
 long : (c : tie.After-decode-all) → length (c .decode-all .last .1 .1 .1 .1 .0) ≡ blockCount (start c .args .st) * pred (start c .args .st .width)
 long c = c .decode-all .kept .1 .1 .1 .1 .0 ∙ start c .pre .1 .1 .0
 
-sizes : (c : tie.After-decode-all) → (start c .args .st .width - 1 ≡ pred (start c .args .st .width)) × (c .before .before .before .two-to .result ≡ blockCount (start c .args .st))
+sizes : (c : tie.After-decode-all)
+    → (start c .args .st .width - 1 ≡ pred (start c .args .st .width)) × (c .before .before .before .two-to .result ≡ blockCount (start c .args .st))
 sizes c = (omega arith, c .before .before .before .two-to .ensures)
 
 returns : tie.Need-returns
@@ -91,7 +92,8 @@ returns-2 c =
     let p = decode-all-at-else1 (c .before .before .before .before) in
     let a = start p .args in
     let d = p .decode-all .ensures in
-    let f = data-given (a .st) (a .marks .now) (words p) (start p .pre .1 .0 .1) (thick p) (d .0) (d .1 .0) (c .before .before .before .before .if1 .left) (tested (c .before) _ (c .if2 .taken)) in
+    let f = data-given (a .st) (a .marks .now) (words p) (start p .pre .1 .0 .1) (thick p) (d .0) (d .1 .0) (c .before .before .before .before .if1 .left)
+    (tested (c .before) _ (c .if2 .taken)) in
     (f .0, (f .1, d .1 .1))
 
 clear-requires : tie.Need-clear-requires
@@ -108,7 +110,8 @@ returns-3 c =
     let p = decode-all-at-clear (c .before .before) in
     let a = start p .args in
     let d = p .decode-all .ensures in
-    let f = data-wrong (a .st) (a .marks .now) (words p) (start p .pre .1 .0 .1) (thick p) (d .0) (d .1 .0) (else1-at-clear (c .before .before) .if1 .left) (tested (c .before .before .before .before .before) _ (c .before .before .before .before .if2 .left)) (c .before .before .clear .ensures) (long p) in
+    let f = data-wrong (a .st) (a .marks .now) (words p) (start p .pre .1 .0 .1) (thick p) (d .0) (d .1 .0) (else1-at-clear (c .before .before) .if1 .left)
+    (tested (c .before .before .before .before .before) _ (c .before .before .before .before .if2 .left)) (c .before .before .clear .ensures) (long p) in
     (f .0, (f .1, d .1 .1))
 
 pub recover-full-spec : {M : Type 1} → statement M

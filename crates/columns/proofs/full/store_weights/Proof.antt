@@ -29,11 +29,20 @@ pos : (c : tie.After-two-to) → c .two-to .result ≡ positionCount (c .before 
 pos c = positions (c .before .before .before .before .args .st .level) (c .two-to .ensures)
 
 -- the words that are lent: as many points, and as many weights
-tail : (c : tie.After-two-to) → let a = c .before .before .before .before .args in Tail (a .scratch .now) (scratchWords (a .st)) (length (a .scratch .now) - 2 * c .two-to .result) 1 (positionCount (a .st))
-tail c = record { long = c .before .before .before .before .pre .1 .1; begins = omega (arith, twice-low (c .before .before .before .before .args .st), c .before .before .before .before .pre .1 .1, pos c) }
+tail : (c : tie.After-two-to) → let a = c .before .before .before .before .args in
+    Tail (a .scratch .now) (scratchWords (a .st)) (length (a .scratch .now) - 2 * c .two-to .result) 1 (positionCount (a .st))
+tail c = record {
+  long = c .before .before .before .before .pre .1 .1;
+  begins = omega (arith, twice-low (c .before .before .before .before .args .st), c .before .before .before .before .pre .1 .1, pos c);
+}
 
 mul-start : tie.Need-mul-start
-mul-start c = omega (arith, twice-low (c .before .before .before .before .args .st), scratch-low (c .before .before .before .before .args .st) (c .before .before .before .before .pre .0), pos c)
+mul-start c = omega (
+  arith,
+  twice-low (c .before .before .before .before .args .st),
+  scratch-low (c .before .before .before .before .args .st) (c .before .before .before .before .pre .0),
+  pos c,
+)
 
 sub-start : tie.Need-sub-start
 sub-start c = omega (arith, twice-low (c .before .before .before .before .args .st), c .before .before .before .before .pre .1 .1, pos c)
@@ -51,7 +60,10 @@ part-weights-end : tie.Need-part-weights-end
 part-weights-end c = search needs
 
 weights-requires : tie.Need-weights-requires
-weights-requires c κs = (c .before .before .before .before .before .pre .0 .numbers, (c .before .before .before .before .before .pre .1 .0, omega (arith, tail-long (tail (c .before)))))
+weights-requires c κs = (
+  c .before .before .before .before .before .pre .0 .numbers,
+  (c .before .before .before .before .before .pre .1 .0, omega (arith, tail-long (tail (c .before)))),
+)
 
 same-length : tie.Need-same-length
 same-length c = search needs
@@ -59,7 +71,8 @@ same-length c = search needs
 returns : tie.Need-returns
 returns c =
     let st = start-at-two-to (c .before .before .before .before) .args .st in
-    stored-weights (tail (c .before .before .before .before)) (c .before .before .weights .last .0) (table (positionCount st) (pointAt (modulusOf st) (st .root) (st .k) (st .level))) _ _
+    stored-weights (tail (c .before .before .before .before)) (c .before .before .weights .last .0)
+    (table (positionCount st) (pointAt (modulusOf st) (st .root) (st .k) (st .level))) _ _
     (length-table (positionCount st) (pointAt (modulusOf st) (st .root) (st .k) (st .level))) (c .before .before .weights .ensures)
 
 pub store-weights-spec : {M : Type 1} → statement M

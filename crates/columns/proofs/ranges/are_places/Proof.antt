@@ -19,7 +19,8 @@ mul-if1 : tie.Need-mul-if1 Inv-loop μ-loop
 mul-if1 c = let l = c .before in omega (arith, placing-reads (l .loop .inv) (c .loop-test .taken) (l .before .pre .0) (l .before .pre .1))
 
 shared-slice-read-if1 : tie.Need-shared-slice-read-if1 Inv-loop μ-loop
-shared-slice-read-if1 c = let l = c .before .before in omega (arith, placing-reads (l .loop .inv) (c .before .loop-test .taken) (l .before .pre .0) (l .before .pre .1))
+shared-slice-read-if1 c =
+    let l = c .before .before in omega (arith, placing-reads (l .loop .inv) (c .before .loop-test .taken) (l .before .pre .0) (l .before .pre .1))
 
 cast-if1 : tie.Need-cast-if1 Inv-loop μ-loop
 cast-if1 c = omega (arith, c .shared-slice-known .given (c .before .before .loop .at))
@@ -28,7 +29,8 @@ returns : tie.Need-returns Inv-loop μ-loop
 returns c = sym (placing-fails (c .before .before .before .loop .inv) (c .before .before .loop-test .taken) (c .if1 .taken))
 
 add-at : tie.Need-add-at Inv-loop μ-loop
-add-at c = let l = c .before .before .before in omega (arith, placing-reads (l .loop .inv) (c .before .before .loop-test .taken) (l .before .pre .0) (l .before .pre .1))
+add-at c = let l = c .before .before .before in
+    omega (arith, placing-reads (l .loop .inv) (c .before .before .loop-test .taken) (l .before .pre .0) (l .before .pre .1))
 
 add-i : tie.Need-add-i Inv-loop μ-loop
 add-i c = omega arith

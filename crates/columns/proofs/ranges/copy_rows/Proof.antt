@@ -26,10 +26,18 @@ copy-row-requires c κs =
     (copying-fits (l .loop .inv) b (s .pre .0 .0) (s .pre .0 .1), copying-reads (l .loop .inv) b (s .pre .1 .0) (s .pre .1 .1))
 
 add-x : tie.Need-add-x Inv-loop μ-loop
-add-x c = omega (arith, next-source (c .before .before .before .before .before .loop .inv) (c .before .before .before .before .loop-test .taken) (omega (arith, start-at-copy-row (c .before .before) .pre .1 .0)) (start-at-copy-row (c .before .before) .pre .1 .1))
+add-x c = omega (
+  arith,
+  next-source (c .before .before .before .before .before .loop .inv) (c .before .before .before .before .loop-test .taken)
+      (omega (arith, start-at-copy-row (c .before .before) .pre .1 .0)) (start-at-copy-row (c .before .before) .pre .1 .1),
+)
 
 add-y : tie.Need-add-y Inv-loop μ-loop
-add-y c = omega (arith, next-target (c .before .before .before .before .before .loop .inv) (c .before .before .before .before .loop-test .taken) (omega (arith, start-at-copy-row (c .before .before) .pre .0 .0)) (start-at-copy-row (c .before .before) .pre .0 .1))
+add-y c = omega (
+  arith,
+  next-target (c .before .before .before .before .before .loop .inv) (c .before .before .before .before .loop-test .taken)
+      (omega (arith, start-at-copy-row (c .before .before) .pre .0 .0)) (start-at-copy-row (c .before .before) .pre .0 .1),
+)
 
 add-i : tie.Need-add-i Inv-loop μ-loop
 add-i c = omega arith
@@ -38,7 +46,8 @@ loop-less : tie.Need-loop-less Inv-loop μ-loop
 loop-less c = omega arith
 
 loop-again : tie.Need-loop-again Inv-loop μ-loop
-loop-again c = copying-turn (c .before .before .before .before .before .loop .inv) (c .before .before .before .before .loop-test .taken) (c .before .before .copy-row .ensures)
+loop-again c = copying-turn (c .before .before .before .before .before .loop .inv) (c .before .before .before .before .loop-test .taken)
+    (c .before .before .copy-row .ensures)
 
 same-length : tie.Need-same-length Inv-loop μ-loop
 same-length c = c .before .loop .inv .same

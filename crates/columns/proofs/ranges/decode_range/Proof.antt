@@ -42,11 +42,14 @@ add-start : tie.Need-add-start
 add-start c = search needs
 
 -- the words of the range and the weights, and where they begin
-span-is : (c : tie.After-two-to) → let a = c .before .before .before .before .before .args in 2 * c .two-to .result * (a .range .cols + 1) ≡ positionCount (a .st) * a .range .cols + positionCount (a .st)
-span-is c = let a = c .before .before .before .before .before .args in span (a .st .level) (a .range .cols) (a .range .cols) (c .two-to .result) refl (c .two-to .ensures)
+span-is : (c : tie.After-two-to) → let a = c .before .before .before .before .before .args in 2 * c .two-to .result * (a .range .cols + 1) ≡ positionCount
+    (a .st) * a .range .cols + positionCount (a .st)
+span-is c = let a = c .before .before .before .before .before .args in span (a .st .level) (a .range .cols) (a .range .cols) (c .two-to .result) refl
+    (c .two-to .ensures)
 
 tail : (c : tie.After-two-to) → let a = c .before .before .before .before .before .args in
-    Tail (a .scratch .now) (scratchWords (a .st)) (length (a .scratch .now) - 2 * c .two-to .result * (a .range .cols + 1)) (a .range .cols) (positionCount (a .st))
+    Tail (a .scratch .now) (scratchWords (a .st)) (length (a .scratch .now) - 2 * c .two-to .result * (a .range .cols + 1)) (a .range .cols)
+    (positionCount (a .st))
 tail c =
     let s = c .before .before .before .before .before in
     record { long = s .pre .1 .1 .1 .0; begins = omega (arith, span-is c, s .pre .1 .0 .room, s .pre .1 .1 .1 .0) }
@@ -81,13 +84,17 @@ same-length : tie.Need-same-length
 same-length c = search needs
 
 -- the weights stay
-weights-stay : (c : tie.After-decode-columns) → let a = start-at-part (c .before) .args in let n = length (a .scratch .now) - 2 * c .before .before .two-to .result * (a .range .cols + 1) in
-    drop (scratchWords (a .st) - positionCount (a .st)) (putMid n (length (a .scratch .now) - n) (a .scratch .now) (c .decode-columns .last .1 .1 .1 .1 .1 .0)) ≡ drop (scratchWords (a .st) - positionCount (a .st)) (a .scratch .now)
+weights-stay : (c : tie.After-decode-columns) → let a = start-at-part (c .before) .args in let n =
+    length (a .scratch .now) - 2 * c .before .before .two-to .result * (a .range .cols + 1) in
+    drop (scratchWords (a .st) - positionCount (a .st))
+    (putMid n (length (a .scratch .now) - n) (a .scratch .now) (c .decode-columns .last .1 .1 .1 .1 .1 .0)) ≡ drop
+    (scratchWords (a .st) - positionCount (a .st)) (a .scratch .now)
 weights-stay c =
     let s = start-at-part (c .before) in
     let a = s .args in
     let T = tail (c .before .before) in
-    put-weights T _ (range-weights (a .st) (a .marks .now) (rowsIn (a .st) (a .marks .now) (a .bytes .now)) (a .range .from) (a .range .cols) (c .decode-columns .ensures .1) ∙ sym (tail-weights T ∙ s .pre .1 .1 .1 .1))
+    put-weights T _ (range-weights (a .st) (a .marks .now) (rowsIn (a .st) (a .marks .now) (a .bytes .now)) (a .range .from) (a .range .cols)
+    (c .decode-columns .ensures .1) ∙ sym (tail-weights T ∙ s .pre .1 .1 .1 .1))
 
 returns : tie.Need-returns
 returns c =
@@ -120,7 +127,15 @@ take-range-requires c κs =
     let a = s .args in
     let f = s .pre .1 .0 in (
       (omega (arith, s .pre .0 .ready .fits .low, s .pre .0 .ready .fits .numbers .within), f .some, f .within, s .pre .0 .few),
-      (rw (words-are (c .before .before .before .before .before .before), c .before .before .before .before .before .before .decode-columns .kept .1 .1 .1 .1 .1 .0, tail-long (tail (two-to-at-scratch2 (c .before .before)))) (half-span (a .st .level) (a .range .cols)), s .pre .1 .1 .0),
+      (
+        rw (
+          words-are (c .before .before .before .before .before .before),
+          c .before .before .before .before .before .before .decode-columns .kept .1 .1 .1 .1 .1 .0,
+          tail-long (tail (two-to-at-scratch2 (c .before .before))),
+        )
+            (half-span (a .st .level) (a .range .cols)),
+        s .pre .1 .1 .0,
+      ),
     )
 
 same-length-2 : tie.Need-same-length-2
@@ -131,7 +146,8 @@ same-length-3 c = search needs
 
 -- the range taken
 taken : (c : tie.After-take-range) → let a = start-at-scratch2 (c .before .before .before) .args in let r = rowsIn (a .st) (a .marks .now) (a .bytes .now) in
-    (c .take-range .result ≡ rangeNumber (a .range .from) (a .range .skip) (isConsistentRange (a .st) (a .marks .now) r (a .range .from) (a .range .cols)) (arePlaces (a .st) (a .marks .now) r))
+    (c .take-range .result ≡ rangeNumber (a .range .from) (a .range .skip) (isConsistentRange (a .st) (a .marks .now) r (a .range .from) (a .range .cols))
+    (arePlaces (a .st) (a .marks .now) r))
     × (c .take-range .last .1 .1 .1 .0 ≡ rangeTaken (a .st) (a .marks .now) r (a .range .from) (a .range .cols) (a .range .skip) (a .out .now))
 taken c =
     let s = start-at-scratch2 (c .before .before .before) in

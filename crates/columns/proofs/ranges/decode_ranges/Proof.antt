@@ -6,13 +6,15 @@ use Prim.Native.Nat.{_-_, _<_}
 use native.Mathlib.Omega.{arith}
 use lib.ListN.{length}
 use Rattle.image.specs.steps.Loading.{rowsIn}
-use Rattle.columns.proofs.RangeLoop.{Ranging, ranging-start, ranging-first, ranging-later, ranging-fails, ranging-agrees, ranging-number, ranging-rows, columns-fail, columns-agree}
+use Rattle.columns.proofs.RangeLoop.{Ranging, ranging-start, ranging-first, ranging-later, ranging-fails, ranging-agrees, ranging-number, ranging-rows}
+use Rattle.columns.proofs.RangeLoop.{columns-fail, columns-agree}
 use Rattle.columns.proofs.ranges.decode_ranges.Statement.{statement}
 use Rattle.columns.proofs.ranges.decode_ranges.Tie as tie
 
 abbrev Inv-loop : tie.InvT-loop
 Inv-loop st bytes marks skip out₀ scratch₀ width number₀ from₀ out scratch number from =
-    (width ≡ st .width) × (length out ≡ length out₀) × (length scratch ≡ length scratch₀) × Ranging st marks (rowsIn st marks bytes) skip out₀ out scratch number from
+    (width ≡ st .width) × (length out ≡ length out₀) × (length scratch ≡ length scratch₀) × Ranging st marks
+    (rowsIn st marks bytes) skip out₀ out scratch number from
 
 abbrev μ-loop : tie.MeasureT-loop
 μ-loop st bytes marks skip out₀ scratch₀ width number₀ from₀ out scratch number from = width - from
@@ -59,13 +61,16 @@ same-length : tie.Need-same-length Inv-loop μ-loop
 same-length c = c .before .before .before .before .before .decode-range .kept .1 .1 .1 .1 .0 ∙ loop-at-out (c .before .before .before .before) .loop .inv .1
 
 same-length-2 : tie.Need-same-length-2 Inv-loop μ-loop
-same-length-2 c = c .before .before .before .before .before .decode-range .kept .1 .1 .1 .1 .1 .0 ∙ loop-at-out (c .before .before .before .before) .loop .inv .2
+same-length-2 c =
+    c .before .before .before .before .before .decode-range .kept .1 .1 .1 .1 .1 .0 ∙ loop-at-out (c .before .before .before .before) .loop .inv .2
 
 returns : tie.Need-returns Inv-loop μ-loop
 returns c =
     let a = start-at-out (c .before .before .before .before) .args in
     let r = rowsIn (a .st) (a .marks .now) (a .bytes .now) in
-    let f = ranging-fails (a .st) (a .marks .now) r (a .skip) (a .out .now) (loop-at-out (c .before .before .before .before) .loop .inv .3) (range-columns-at-scratch (c .before .before) .range-columns .ensures) (c .before .before .before .before .before .decode-range .ensures .0) (c .if1 .taken) in
+    let f = ranging-fails (a .st) (a .marks .now) r (a .skip) (a .out .now) (loop-at-out (c .before .before .before .before) .loop .inv .3)
+    (range-columns-at-scratch (c .before .before) .range-columns .ensures) (c .before .before .before .before .before .decode-range .ensures .0)
+    (c .if1 .taken) in
     (sym (columns-fail (a .skip) _ f), λ t. absurd (false≢true (sym f ∙ t)))
 
 add-from : tie.Need-add-from Inv-loop μ-loop
@@ -74,7 +79,11 @@ add-from c =
     omega (arith, p .range-columns .ensures .within, start-at-range-columns p .pre .0 .ready .fits .thin)
 
 loop-less : tie.Need-loop-less Inv-loop μ-loop
-loop-less c = omega (arith, range-columns-at-scratch (c .before .before .before) .range-columns .ensures .some, in-loop-at-scratch (c .before .before .before) .loop-test .taken)
+loop-less c = omega (
+  arith,
+  range-columns-at-scratch (c .before .before .before) .range-columns .ensures .some,
+  in-loop-at-scratch (c .before .before .before) .loop-test .taken,
+)
 
 loop-again : tie.Need-loop-again Inv-loop μ-loop
 loop-again c =

@@ -43,7 +43,8 @@ record Picked (part₀ : List ℕ) (marks : List Bool) (level k width root rows 
   read : (c : ℕ) → c < width
       → getD part (from + c) 0 ≡ elim (getD marks i false) [ true ↦ getD part₀ (2 ^ level * width + (i * width + c)) 0 | false ↦ getD part₀ (i * width + c) 0 ]
 
-module _ {part₀ : List ℕ} {marks : List Bool} {level k width root rows square u : ℕ} {part : List ℕ} {at i : ℕ} (h : Inv part₀ marks level k width root rows square u part at i) (l : i < rows) where
+module _ {part₀ : List ℕ} {marks : List Bool} {level k width root rows square u : ℕ} {part : List ℕ} {at i : ℕ}
+    (h : Inv part₀ marks level k width root rows square u part at i) (l : i < rows) where
   room : at + width ≤ rows * width
   room = omega (arith, storing-rows-room (h .storing) l)
 
@@ -54,26 +55,31 @@ module _ {part₀ : List ℕ} {marks : List Bool} {level k width root rows squar
   -- the position's weight
   weight : getD part (rows * width + rows * width + i) 0 ≡ getD (drop (2 ^ suc level * width) part₀) i 0
   weight =
-      storing-rows-rest (h .storing) (rows * width + rows * width + i) (omega (arith, room)) ∙ sym (getD-drop (2 ^ suc level * width) part₀ i 0 ∙ rw (two-halves, h .rows-is))
+      storing-rows-rest (h .storing) (rows * width + rows * width + i) (omega (arith, room))
+      ∙ sym (getD-drop (2 ^ suc level * width) part₀ i 0 ∙ rw (two-halves, h .rows-is))
 
   -- a word of the row at `at`, or at the same place of the second half
   word : (a b : ℕ) → at ≤ a → a ≡ b → getD part a 0 ≡ getD part₀ b 0
   word a b le e = storing-rows-rest (h .storing) a le ∙ ap (λ (q : ℕ). getD part₀ q 0) e
 
-  erased : {e d from : ℕ} → getD marks i false ≡ true → e ≡ power 65537 u (2 * i) → d ≡ times 65537 e (getD part (rows * width + rows * width + i) 0) → from ≡ rows * width + at
+  erased : {e d from : ℕ} → getD marks i false ≡ true → e ≡ power 65537 u (2 * i) → d ≡ times 65537 e (getD part (rows * width + rows * width + i) 0)
+      → from ≡ rows * width + at
       → Picked part₀ marks level k width root rows square part at i d from
   unfolding divisorAt
   erased {e} {from} m ee ed ef =
-      let point : pointAt 65537 root k level i ≡ power 65537 u (2 * i) = point-low 65537 root k level i (rw (← h .rows-is) l) ∙ ap (λ (v : ℕ). power 65537 v (2 * i)) (sym (h .u-is)) in
+      let point : pointAt 65537 root k level i ≡ power 65537 u (2 * i) =
+      point-low 65537 root k level i (rw (← h .rows-is) l) ∙ ap (λ (v : ℕ). power 65537 v (2 * i)) (sym (h .u-is)) in
       record {
         small = rw ed (times-lt 65537 (lit< tt) e (getD part (rows * width + rows * width + i) 0));
         low = omega arith;
         within = omega (arith, room);
         divisor = rw (m, h .square-is, ed, weight, ee, point);
-        read = λ c t. rw m (word (from + c) (2 ^ level * width + (i * width + c)) (omega arith) (omega (arith, h .storing .at-is, ap (λ (n : ℕ). n * width) (h .rows-is))));
+        read = λ c t. rw m (word (from + c) (2 ^ level * width + (i * width + c)) (omega arith)
+            (omega (arith, h .storing .at-is, ap (λ (n : ℕ). n * width) (h .rows-is))));
       }
 
-  survives : {d from : ℕ} → getD marks i false ≡ false → d ≡ getD part (rows * width + rows * width + i) 0 → from ≡ at → Picked part₀ marks level k width root rows square part at i d from
+  survives : {d from : ℕ} → getD marks i false ≡ false → d ≡ getD part (rows * width + rows * width + i) 0 → from ≡ at
+      → Picked part₀ marks level k width root rows square part at i d from
   unfolding divisorAt
   survives {from} m ed ef = record {
     small = rw ed (words .word (rows * width + rows * width + i));
@@ -93,7 +99,11 @@ module _ {part₀ : List ℕ} {marks : List Bool} {level k width root rows squar
     u-is = h .u-is;
     words₀ = h .words₀;
     storing = storing-rows-turn (h .storing) _ l e
-        (λ c t. rw (digits-div i t, eg, p .divisor) (ap (times 65537 (inverse 65537 (divisorAt 65537 root k level marks (drop (2 ^ suc level * width) part₀) i))) (p .read c t)));
+        (λ c t. rw (
+          digits-div i t,
+          eg,
+          p .divisor,
+        ) (ap (times 65537 (inverse 65537 (divisorAt 65537 root k level marks (drop (2 ^ suc level * width) part₀) i))) (p .read c t)));
   }
 
 abbrev Inv-loop : tie.InvT-loop
@@ -129,7 +139,8 @@ long c =
 picked : (c : tie.Joined1 Inv-loop μ-loop) → let loop = c .before .before .before .before in
     let mul = loop .before .before .before in
     let a = mul .before .before .before .before .args in
-    Picked (a .part .now) (a .marks .now) (a .st .level) (a .st .k) (a .st .width) (a .st .root) (mul .before .two-to .result) (mul .mul .result) (loop .loop .part) (loop .loop .at) (loop .loop .i) (c .if1 .d) (c .if1 .from)
+    Picked (a .part .now) (a .marks .now) (a .st .level) (a .st .k) (a .st .width) (a .st .root) (mul .before .two-to .result) (mul .mul .result)
+    (loop .loop .part) (loop .loop .at) (loop .loop .i) (c .if1 .d) (c .if1 .from)
 picked c =
     let at = c .before .before .before in
     let h = at .before .loop .inv in
@@ -161,7 +172,8 @@ two-to-requires-2 : tie.Need-two-to-requires-2 Inv-loop μ-loop
 two-to-requires-2 c κs = omega arith
 
 cast-power : tie.Need-cast-power Inv-loop μ-loop
-cast-power c = let a = c .before .before .before .before .before .args in omega (arith, c .two-to2 .ensures, pow-mono {i = a .st .k - a .st .level} {j = 15} (omega arith))
+cast-power c =
+    let a = c .before .before .before .before .before .args in omega (arith, c .two-to2 .ensures, pow-mono {i = a .st .k - a .st .level} {j = 15} (omega arith))
 
 power-requires : tie.Need-power-requires Inv-loop μ-loop
 power-requires c κs = c .before .before .before .before .before .pre .0 .rooted .small
@@ -177,7 +189,8 @@ loop-holds c =
       square-is = c .before .before .mul .ensures ∙ rw (two .two-to .ensures);
       u-is = c .power .ensures ∙ ap (power 65537 (a .st .root)) (c .before .two-to2 .ensures ∙ sym (two-div (a .st .k) (a .st .level) (s .pre .0 .within)));
       words₀ = s .pre .1 .1 .1;
-      storing = storing-rows-start 0 (chooseWord 65537 (a .st .root) (a .st .k) (a .st .level) (a .st .width) (a .marks .now) (a .part .now)) (two .two-to .result) (a .st .width) (a .part .now);
+      storing = storing-rows-start 0 (chooseWord 65537 (a .st .root) (a .st .k) (a .st .level) (a .st .width) (a .marks .now) (a .part .now))
+          (two .two-to .result) (a .st .width) (a .part .now);
     }
 
 add-x : tie.Need-add-x Inv-loop μ-loop
@@ -225,8 +238,10 @@ choose-row-requires : tie.Need-choose-row-requires Inv-loop μ-loop
 choose-row-requires c κs =
     let join = c .before .before .before in
     let h = join .before .before .before .before .loop .inv in
-    let p = picked join in
-    ((p .low, omega (arith, p .within, h .long, h .storing .same)), (rw (c .inverse .ensures) (inverse-lt 65537 (lit< tt) _), words h (join .before .before .before .loop-test .taken)))
+    let p = picked join in (
+      (p .low, omega (arith, p .within, h .long, h .storing .same)),
+      (rw (c .inverse .ensures) (inverse-lt 65537 (lit< tt) _), words h (join .before .before .before .loop-test .taken)),
+    )
 
 add-at : tie.Need-add-at Inv-loop μ-loop
 add-at c =
@@ -245,7 +260,8 @@ loop-again c =
     let row = c .before .before in
     let join = row .before .before .before .before in
     let at = join .before .before .before in
-    turn (at .before .loop .inv) (at .loop-test .taken) (picked join) (row .before .inverse .ensures ∙ ap (inverse 65537) (row .before .before .mul3 .ensures)) (row .choose-row .ensures)
+    turn (at .before .loop .inv) (at .loop-test .taken) (picked join) (row .before .inverse .ensures ∙ ap (inverse 65537) (row .before .before .mul3 .ensures))
+    (row .choose-row .ensures)
 
 same-length : tie.Need-same-length Inv-loop μ-loop
 same-length c = c .before .loop .inv .storing .same

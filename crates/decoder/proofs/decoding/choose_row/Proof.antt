@@ -52,7 +52,8 @@ unfolding scaledWord
 loop-again c =
     let at = c .before .before in
     let s = at .before .before .before in
-    storing-turn (at .before .loop .inv) (at .loop-test .taken) (c .mul .ensures ∙ ap (times 65537 (s .args .g)) (storing-rest (at .before .loop .inv) (s .args .from + at .before .loop .j) (omega arith)))
+    storing-turn (at .before .loop .inv) (at .loop-test .taken) (c .mul .ensures
+    ∙ ap (times 65537 (s .args .g)) (storing-rest (at .before .loop .inv) (s .args .from + at .before .loop .j) (omega arith)))
 
 same-length : tie.Need-same-length Inv-loop μ-loop
 same-length c = c .before .loop .inv .same

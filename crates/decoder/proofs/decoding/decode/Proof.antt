@@ -12,7 +12,9 @@ use Rattle.field.proofs.Primes.{fermat-prime}
 use Rattle.field.proofs.Powers.{inverse-lt}
 use Rattle.field.proofs.WordLists.{words-take, words-drop, length-table}
 use Rattle.code.proofs.Lifting.{two-halves}
-use Rattle.decoder.proofs.DecodeRows.{Decoding, Sound, AllRows, HalfRows, isConsistent, weightsOf, weighedOf, splitOf, derivedOf, evaluatedOf, chosenOf, solvedOf, fits, counted, sized, words-lent, words-part, length-holds, length-half, after-weigh, after-split, check-is, after-refusal, after-derive, after-evaluate, after-choose, after-solve, after-blocks}
+use Rattle.decoder.proofs.DecodeRows.{Decoding, Sound, AllRows, HalfRows, isConsistent, weightsOf, weighedOf, splitOf, derivedOf, evaluatedOf}
+use Rattle.decoder.proofs.DecodeRows.{chosenOf, solvedOf, fits, counted, sized, words-lent, words-part, length-holds, length-half, after-weigh}
+use Rattle.decoder.proofs.DecodeRows.{after-split, check-is, after-refusal, after-derive, after-evaluate, after-choose, after-solve, after-blocks}
 use Rattle.code.specs.declared.Stripe.{Stripe}
 use Rattle.code.specs.Stripe.{positionCount, blockWords, stripeWords}
 use Rattle.decoder.proofs.decoding.decode.Statement.{statement}
@@ -22,7 +24,17 @@ use Rattle.decoder.proofs.decoding.decode.Tie as tie
 abbrev decoding : tie.Start → Decoding
 decoding c =
     let st = c .args .st in
-    record { p = 65537; w = st .root; k = st .k; l = st .level; t = st .first; width = st .width; marks = c .args .marks .now; rows = take (stripeWords st) (c .args .part .now) }
+    record {
+      p = 65537;
+      w = st .root;
+      k = st .k;
+      l = st .level;
+      t = st .first;
+      width = st .width;
+      marks = c .args .marks .now;
+      rows = take (stripeWords st)
+          (c .args .part .now);
+    }
 
 sound : (c : tie.Start) → Sound (decoding c)
 sound c = record {
@@ -145,7 +157,8 @@ abbrev unmix-part : tie.After-unmix-all → List ℕ
 unmix-part c = c .unmix-all .last .0 ++ drop (half (unmix-two c)) (unmix-choose c .choose .last .0)
 
 unmix-holds : (c : tie.After-unmix-all) → First (unmix-two c) (evaluate-part (choose-evaluate (unmix-choose c))) solvedOf (unmix-part c)
-unmix-holds c = after-solve (sound (start (unmix-two c))) (choose-holds (unmix-choose c)) (choose-inverse (unmix-choose c) .inverse .ensures) (c .unmix-all .ensures)
+unmix-holds c =
+    after-solve (sound (start (unmix-two c))) (choose-holds (unmix-choose c)) (choose-inverse (unmix-choose c) .inverse .ensures) (c .unmix-all .ensures)
 
 unmix-long : (c : tie.After-unmix-all) → length (unmix-part c) ≡ half (unmix-two c) + half (unmix-two c) + positionCount (stripe (unmix-two c))
 unmix-long c =

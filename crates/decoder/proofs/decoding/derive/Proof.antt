@@ -17,7 +17,8 @@ use Rattle.decoder.specs.steps.RowTests.{deriveAt}
 use Rattle.field.proofs.Laws.{plus-lt, minus-lt, times-lt}
 use Rattle.code.proofs.Lifting.{two-halves, row-next, row-in}
 use Rattle.code.proofs.Shapes.{reversed-lt}
-use Rattle.code.proofs.RowLaws.{StoringRows, storing-rows-start, storing-rows-room, storing-rows-front, storing-rows-rest, storing-rows-words, storing-rows-turn, storing-rows-done}
+use Rattle.code.proofs.RowLaws.{StoringRows, storing-rows-start, storing-rows-room, storing-rows-front, storing-rows-rest, storing-rows-words}
+use Rattle.code.proofs.RowLaws.{storing-rows-turn, storing-rows-done}
 use Rattle.decoder.proofs.DecodeSteps.{deriveWord, derive-rows}
 use Rattle.decoder.proofs.decoding.derive.Statement.{statement}
 use Rattle.decoder.proofs.decoding.derive.Tie as tie
@@ -39,7 +40,8 @@ module _ {part₀ : List ℕ} {level width rows b : ℕ} {part : List ℕ} {low 
   words u = storing-rows-words (h .storing) (lit< tt) u (λ q. minus-lt 65537 (lit< tt) _ _)
 
   -- a word of the row that is written
-  word : {a : ℕ} → j < rows → a ≡ plus 65537 (Transform.reversed level j) b → (c : ℕ) → c < width → deriveAt 65537 low high a b part c ≡ deriveWord 65537 level width part₀ (j * width + c)
+  word : {a : ℕ} → j < rows → a ≡ plus 65537 (Transform.reversed level j) b → (c : ℕ) → c < width
+      → deriveAt 65537 low high a b part c ≡ deriveWord 65537 level width part₀ (j * width + c)
   unfolding deriveAt deriveWord
   word l e c t =
       let x : getD part (low + c) 0 ≡ getD part₀ (low + c) 0 = storing-rows-front (h .storing) (low + c) (omega (arith, row-in width l)) in
@@ -49,7 +51,13 @@ module _ {part₀ : List ℕ} {level width rows b : ℕ} {part : List ℕ} {low 
 
   turn : {a : ℕ} {part′ : List ℕ} → j < rows → a ≡ plus 65537 (Transform.reversed level j) b → part′ ≡ stored high (deriveAt 65537 low high a b part) width part
       → Inv part₀ level width rows b part′ (low + width) (high + width) (j + 1)
-  turn l e p = record { rows-is = h .rows-is; long = h .long; b-is = h .b-is; low-is = omega (arith, row-next j width); storing = storing-rows-turn (h .storing) _ l p (word l e) }
+  turn l e p = record {
+    rows-is = h .rows-is;
+    long = h .long;
+    b-is = h .b-is;
+    low-is = omega (arith, row-next j width);
+    storing = storing-rows-turn (h .storing) _ l p (word l e);
+  }
 
 abbrev Inv-loop : tie.InvT-loop
 Inv-loop part₀ level width rows b low₀ high₀ j₀ part low high j = Inv part₀ level width rows b part low high j
@@ -65,7 +73,8 @@ mul-at-add c = c .before .before .before .before
 small : (c : tie.After-two-to Inv-loop μ-loop) → c .two-to .result ≤ 32768
 small c = omega (arith, c .two-to .ensures, pow-mono {i = c .before .before .args .level} {j = 15} (omega arith))
 
-long : (c : tie.After-two-to Inv-loop μ-loop) → length (c .before .before .args .part .now) ≡ c .two-to .result * c .before .before .args .width + c .two-to .result * c .before .before .args .width
+long : (c : tie.After-two-to Inv-loop μ-loop)
+    → length (c .before .before .args .part .now) ≡ c .two-to .result * c .before .before .args .width + c .two-to .result * c .before .before .args .width
 long c = c .before .before .pre .1 .0 ∙ rw (c .two-to .ensures) (two-halves (c .before .before .args .level) (c .before .before .args .width))
 
 half : (c : tie.After-mul Inv-loop μ-loop) → c .mul .result ≡ halfOf 65537 (c .before .before .before .args .level)
@@ -96,7 +105,8 @@ loop-holds c =
       long = long two;
       b-is = half c;
       low-is = sym (zero-mul (a .width));
-      storing = storing-rows-start (two .two-to .result * a .width) (deriveWord 65537 (a .level) (a .width) (a .part .now)) (two .two-to .result) (a .width) (a .part .now);
+      storing = storing-rows-start (two .two-to .result * a .width) (deriveWord 65537 (a .level) (a .width) (a .part .now)) (two .two-to .result) (a .width)
+          (a .part .now);
     }
 
 reversed-requires : tie.Need-reversed-requires Inv-loop μ-loop
@@ -105,15 +115,22 @@ reversed-requires c κs = omega arith
 add-requires : tie.Need-add-requires Inv-loop μ-loop
 add-requires c κs =
     let at = c .before in
-    let two = at .before .before .before in
-    (omega (arith, c .reversed .ensures, reversed-lt (two .before .before .args .level) (at .before .loop .j), two .two-to .ensures, small two), factor (at .before .before))
+    let two = at .before .before .before in (
+      omega (arith, c .reversed .ensures, reversed-lt (two .before .before .args .level) (at .before .loop .j), two .two-to .ensures, small two),
+      factor (at .before .before),
+    )
 
 derive-row-requires : tie.Need-derive-row-requires Inv-loop μ-loop
 derive-row-requires c κs =
     let at = c .before .before .before in
     let h = at .before .loop .inv in
-    let r = room h (at .loop-test .taken) in
-    ((r .0, omega (arith, r .1, h .storing .same)), ((rw (c .before .add .ensures) (plus-lt 65537 (lit< tt) _ _), factor (at .before .before)), words h (at .before .before .before .before .before .pre .1 .1)))
+    let r = room h (at .loop-test .taken) in (
+      (r .0, omega (arith, r .1, h .storing .same)),
+      (
+        (rw (c .before .add .ensures) (plus-lt 65537 (lit< tt) _ _), factor (at .before .before)),
+        words h (at .before .before .before .before .before .pre .1 .1),
+      ),
+    )
 
 add-low : tie.Need-add-low Inv-loop μ-loop
 add-low c =
@@ -139,7 +156,9 @@ loop-again c =
     let add = row .before .before in
     let at = add .before .before in
     let h = at .before .loop .inv in
-    turn h (at .loop-test .taken) (add .add .ensures ∙ ap (λ (n : ℕ). plus 65537 n (mul-at-add (c .before .before .before .before) .mul .result)) (add .before .reversed .ensures)) (row .derive-row .ensures)
+    turn h (at .loop-test .taken) (add .add .ensures
+    ∙ ap (λ (n : ℕ). plus 65537 n (mul-at-add (c .before .before .before .before) .mul .result)) (add .before .reversed .ensures))
+    (row .derive-row .ensures)
 
 same-length : tie.Need-same-length Inv-loop μ-loop
 same-length c = c .before .loop .inv .storing .same
@@ -148,7 +167,8 @@ returns : tie.Need-returns Inv-loop μ-loop
 returns c =
     let h = c .before .loop .inv in
     let s = c .before .before .before .before .before in
-    storing-rows-done (h .storing) (c .loop-test .left) ∙ rw (h .rows-is) (derive-rows 65537 (s .args .level) (s .args .width) (s .args .part .now) (s .pre .1 .0))
+    storing-rows-done (h .storing) (c .loop-test .left)
+    ∙ rw (h .rows-is) (derive-rows 65537 (s .args .level) (s .args .width) (s .args .part .now) (s .pre .1 .0))
 
 pub derive-spec : {M : Type 1} → statement M
 derive-spec =

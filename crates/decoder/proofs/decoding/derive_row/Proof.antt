@@ -85,7 +85,8 @@ loop-less c = omega arith
 loop-again : tie.Need-loop-again Inv-loop μ-loop
 loop-again c =
     let at = c .before .before .before .before .before in
-    turn (at .before .loop .inv) (at .loop-test .taken) (at .before .before .before .pre .0 .0) (c .before .before .before .mul .ensures) (c .before .mul2 .ensures) (c .sub .ensures)
+    turn (at .before .loop .inv) (at .loop-test .taken) (at .before .before .before .pre .0 .0) (c .before .before .before .mul .ensures)
+    (c .before .mul2 .ensures) (c .sub .ensures)
 
 same-length : tie.Need-same-length Inv-loop μ-loop
 same-length c = c .before .loop .inv .storing .same

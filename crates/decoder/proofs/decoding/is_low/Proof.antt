@@ -26,7 +26,8 @@ record Inv (part : List ℕ) (level width erased rows low high j : ℕ) : Type 0
   high-is : high ≡ rows * width + j * width
   lows : allTo j (lowRowAt level erased width part) ≡ true
 
-start : (part : List ℕ) (level width erased rows : ℕ) → rows ≡ 2 ^ level → length part ≡ 2 ^ suc level * width → Inv part level width erased rows 0 (rows * width) 0
+start : (part : List ℕ) (level width erased rows : ℕ) → rows ≡ 2 ^ level → length part ≡ 2 ^ suc level * width
+    → Inv part level width erased rows 0 (rows * width) 0
 unfolding allTo
 start part level width erased rows e l = record {
   turns = omega arith;
@@ -62,7 +63,8 @@ module _ {part : List ℕ} {level width erased rows low high j : ℕ} (h : Inv p
   unfolding lowRowAt
   tested l e =
       let m : 2 ^ level * width + j * width ≡ high = ap (λ (n : ℕ). n * width + j * width) (sym (h .rows-is)) ∙ sym (h .high-is) in
-      ap (λ (b : Bool). b || allTo width (sameAt (j * width) (2 ^ level * width + j * width) part)) (le-ltb (reversed level j) erased l) ∙ rw (m, ← h .low-is) (sym e)
+      ap (λ (b : Bool). b || allTo width (sameAt (j * width) (2 ^ level * width + j * width) part)) (le-ltb (reversed level j) erased l)
+      ∙ rw (m, ← h .low-is) (sym e)
 
   failed : j < rows → lowRowAt level erased width part j ≡ false → false ≡ lowRows level erased width part
   failed l e = sym (allTo-false (2 ^ level) j (lowRowAt level erased width part) (rw (← h .rows-is) l) e)
@@ -77,7 +79,8 @@ abbrev μ-loop : tie.MeasureT-loop
 μ-loop part level width erased rows low₀ high₀ j₀ low high j = rows - j
 
 -- both halves
-long : (c : tie.After-two-to Inv-loop μ-loop) → length (c .before .before .args .part .now) ≡ c .two-to .result * c .before .before .args .width + c .two-to .result * c .before .before .args .width
+long : (c : tie.After-two-to Inv-loop μ-loop)
+    → length (c .before .before .args .part .now) ≡ c .two-to .result * c .before .before .args .width + c .two-to .result * c .before .before .args .width
 long c = c .before .before .pre .1 ∙ rw (c .two-to .ensures) (two-halves (c .before .before .args .level) (c .before .before .args .width))
 
 two-to-requires : tie.Need-two-to-requires Inv-loop μ-loop
@@ -87,13 +90,19 @@ mul-high : tie.Need-mul-high Inv-loop μ-loop
 mul-high c = omega (arith, long c)
 
 loop-holds : tie.Need-loop-holds Inv-loop μ-loop
-loop-holds c = let a = c .before .before .args in start (a .part .now) (a .level) (a .width) (a .erased) (c .two-to .result) (c .two-to .ensures) (c .before .before .pre .1)
+loop-holds c = let a = c .before .before .args in start (a .part .now) (a .level) (a .width) (a .erased) (c .two-to .result) (c .two-to .ensures)
+    (c .before .before .pre .1)
 
 reversed-requires : tie.Need-reversed-requires Inv-loop μ-loop
 reversed-requires c κs = omega arith
 
 cast-if1 : tie.Need-cast-if1 Inv-loop μ-loop
-cast-if1 c = let a = c .before .before .before .before .before .args in omega (arith, c .reversed .ensures, reversed-lt (a .level) (c .before .before .loop .j), pow-mono {i = a .level} {j = 15} (omega arith))
+cast-if1 c = let a = c .before .before .before .before .before .args in omega (
+  arith,
+  c .reversed .ensures,
+  reversed-lt (a .level) (c .before .before .loop .j),
+  pow-mono {i = a .level} {j = 15} (omega arith),
+)
 
 same-row-requires : tie.Need-same-row-requires Inv-loop μ-loop
 same-row-requires c κs =
@@ -106,7 +115,9 @@ returns c =
     let row = c .before in
     let at = row .before .before .before in
     let h = at .before .loop .inv in
-    failed h (at .loop-test .taken) (tested h (rw (row .before .before .reversed .ensures) at (row .before .if1 .taken)) (sym (not-true (row .same-row .result) (c .if2 .taken)) ∙ row .same-row .ensures))
+    failed h (at .loop-test .taken)
+    (tested h (rw (row .before .before .reversed .ensures) at (row .before .if1 .taken)) (sym (not-true (row .same-row .result) (c .if2 .taken))
+    ∙ row .same-row .ensures))
 
 add-low : tie.Need-add-low Inv-loop μ-loop
 add-low c = omega (arith, room (c .before .before .before .loop .inv) (c .before .before .loop-test .taken))

@@ -11,7 +11,8 @@ use lib.ListN.{length, getD, drop}
 use lib.Seq.{getD-drop}
 use Rattle.field.proofs.WordLists.{words-drop}
 use Rattle.code.proofs.Shapes.{positions}
-use Rattle.code.proofs.RowLaws.{StoringRows, storing-rows-start, storing-rows-room, storing-rows-rest, storing-rows-done, scaledRowsWord, scaling-words, scaling-turn}
+use Rattle.code.proofs.RowLaws.{StoringRows, storing-rows-start, storing-rows-room, storing-rows-rest, storing-rows-done, scaledRowsWord, scaling-words}
+use Rattle.code.proofs.RowLaws.{scaling-turn}
 use Rattle.decoder.proofs.DecodeSteps.{weightOr, weightOr-lt, weigh-rows}
 use Rattle.decoder.proofs.decoding.weigh.Statement.{statement}
 use Rattle.decoder.proofs.decoding.weigh.Tie as tie
@@ -21,13 +22,15 @@ abbrev factors : (marks : List Bool) → (rows width : ℕ) → (part : List ℕ
 factors marks rows width part i = weightOr marks (drop (rows * width) part) i
 
 abbrev Inv-loop : tie.InvT-loop
-Inv-loop part₀ marks level width rows base at₀ i₀ part at i = StoringRows 0 (scaledRowsWord 65537 width (factors marks rows width part₀) part₀) rows width part₀ part at i
+Inv-loop part₀ marks level width rows base at₀ i₀ part at i =
+    StoringRows 0 (scaledRowsWord 65537 width (factors marks rows width part₀) part₀) rows width part₀ part at i
 
 abbrev μ-loop : tie.MeasureT-loop
 μ-loop part₀ marks level width rows base at₀ i₀ part at i = rows - i
 
 -- the factor that is read
-module _ (marks : List Bool) {rows width : ℕ} {part₀ part : List ℕ} {at i g : ℕ} (h : StoringRows 0 (scaledRowsWord 65537 width (factors marks rows width part₀) part₀) rows width part₀ part at i) where
+module _ (marks : List Bool) {rows width : ℕ} {part₀ part : List ℕ} {at i g : ℕ}
+    (h : StoringRows 0 (scaledRowsWord 65537 width (factors marks rows width part₀) part₀) rows width part₀ part at i) where
   erased : getD marks i false ≡ true → g ≡ 0 → g ≡ factors marks rows width part₀ i
   unfolding weightOr
   erased m e = e ∙ rw (m, weightOr)
@@ -41,7 +44,8 @@ module _ (marks : List Bool) {rows width : ℕ} {part₀ part : List ℕ} {at i 
 sized : (c : tie.After-two-to Inv-loop μ-loop) → c .two-to .result ≡ 2 ^ suc (c .before .before .before .args .level)
 sized c = positions (c .before .before .before .args .level) (c .two-to .ensures)
 
-long : (c : tie.After-two-to Inv-loop μ-loop) → length (c .before .before .before .args .part .now) ≡ c .two-to .result * c .before .before .before .args .width + c .two-to .result
+long : (c : tie.After-two-to Inv-loop μ-loop)
+    → length (c .before .before .before .args .part .now) ≡ c .two-to .result * c .before .before .before .args .width + c .two-to .result
 long c = c .before .before .before .pre .1 .1 .0 ∙ rw (sized c) refl
 
 room : (c : tie.In-loop Inv-loop μ-loop) → let two = c .before .before in
@@ -49,7 +53,8 @@ room : (c : tie.In-loop Inv-loop μ-loop) → let two = c .before .before in
 room c = omega (arith, storing-rows-room (c .before .loop .inv) (c .loop-test .taken), c .before .loop .inv .same, long (c .before .before))
 
 factor : (c : tie.Joined1 Inv-loop μ-loop) → let two = c .before .before .before .before in
-    let a = two .before .before .before .args in c .if1 .g ≡ factors (a .marks .now) (two .two-to .result) (a .width) (a .part .now) (c .before .before .before .loop .i)
+    let a = two .before .before .before .args in c .if1 .g ≡ factors (a .marks .now) (two .two-to .result) (a .width) (a .part .now)
+    (c .before .before .before .loop .i)
 factor c =
     let at = c .before .before in
     let h = at .before .loop .inv in
@@ -86,8 +91,13 @@ scale-row-requires c κs =
     let two = at .before .before in
     let s = two .before .before .before in
     let n = two .two-to .result * s .args .width in
-    let w = s .pre .1 .1 .1 in
-    (omega (arith, room at), (rw (factor (c .before)) (weightOr-lt 65537 (lit< tt) (s .args .marks .now) (words-drop 65537 (lit< tt) n w) (at .before .loop .i)), scaling-words 65537 (s .args .width) _ (at .before .loop .inv) (lit< tt) w))
+    let w = s .pre .1 .1 .1 in (
+      omega (arith, room at),
+      (
+        rw (factor (c .before)) (weightOr-lt 65537 (lit< tt) (s .args .marks .now) (words-drop 65537 (lit< tt) n w) (at .before .loop .i)),
+        scaling-words 65537 (s .args .width) _ (at .before .loop .inv) (lit< tt) w,
+      ),
+    )
 
 add-at : tie.Need-add-at Inv-loop μ-loop
 add-at c = omega (arith, room (c .before .before .before .before .before .before))
@@ -103,7 +113,8 @@ loop-again c =
     let row = c .before .before in
     let join = row .before .before in
     let at = join .before .before in
-    scaling-turn 65537 (at .before .before .before .before .before .args .width) _ (at .before .loop .inv) (at .loop-test .taken) (factor join) (row .scale-row .ensures)
+    scaling-turn 65537 (at .before .before .before .before .before .args .width) _ (at .before .loop .inv) (at .loop-test .taken) (factor join)
+    (row .scale-row .ensures)
 
 same-length : tie.Need-same-length Inv-loop μ-loop
 same-length c = c .before .loop .inv .same
@@ -113,7 +124,8 @@ returns c =
     let two = c .before .before in
     let a = two .before .before .before .args in
     storing-rows-done (c .before .loop .inv) (c .loop-test .left)
-    ∙ rw (sized two) (weigh-rows 65537 (lit< tt) (a .level) (a .width) (a .marks .now) (a .part .now) (omega (arith, two .before .before .before .pre .1 .1 .0)))
+    ∙ rw (sized two) (weigh-rows 65537 (lit< tt) (a .level) (a .width) (a .marks .now) (a .part .now)
+    (omega (arith, two .before .before .before .pre .1 .1 .0)))
 
 pub weigh-spec : {M : Type 1} → statement M
 weigh-spec =

@@ -84,10 +84,12 @@ loop-holds : tie.Need-loop-holds Inv-loop μ-loop
 loop-holds c =
     let at-power = c .before in
     let at-start = at-power .before .before .before .before in
-    start _ _ _ _ _ _ _ _ (at-start .pre .0 .within) (at-power .before .before .two-to .ensures) (at-power .before .two-to2 .ensures) (at-power .power .ensures) (c .mul .ensures)
+    start _ _ _ _ _ _ _ _ (at-start .pre .0 .within) (at-power .before .before .two-to .ensures) (at-power .before .two-to2 .ensures) (at-power .power .ensures)
+    (c .mul .ensures)
 
 -- both halves lie within the part
-room : (c : tie.At-loop Inv-loop μ-loop) → c .before .before .before .before .two-to .result + c .before .before .before .before .two-to .result ≤ length (c .loop .part)
+room : (c : tie.At-loop Inv-loop μ-loop)
+    → c .before .before .before .before .two-to .result + c .before .before .before .before .two-to .result ≤ length (c .loop .part)
 room c =
     let s = c .before .before .before .before .before .before in
     let e : 2 ^ suc (s .args .st .level) ≤ length (s .args .part .now) = s .pre .1 in
@@ -127,19 +129,22 @@ two-more f half i l₀ l x y e b ex ey =
     (ap (λ (r : List ℕ). set r (half + i) (f (half + i))) (set-stored half (λ n. f (half + n)) i (stored 0 f i l₀) i (f i) (λ n t q. omega arith)))
 
 -- both halves stored
-all-points : (f : ℕ → ℕ) (half n : ℕ) (l : List ℕ) → half + half ≡ n → n ≤ length l → stored half (λ i. f (half + i)) half (stored 0 f half l) ≡ table n f ++ drop n l
+all-points : (f : ℕ → ℕ) (half n : ℕ) (l : List ℕ) → half + half ≡ n → n ≤ length l
+    → stored half (λ i. f (half + i)) half (stored 0 f half l) ≡ table n f ++ drop n l
 all-points f half n l e b =
     let z : 0 + half ≡ half = zero-add half in
     rw z at (stored-more 0 f (λ i. f (half + i)) half half l (λ i t. refl)) ∙ rw e (stored-front f n l b)
 
 -- a turn stores a point of X and one of Y
-next : {part₀ : List ℕ} {level k root half u v : ℕ} {part : List ℕ} {x i y x′ : ℕ} → Inv part₀ level k root half u v part x i → i < half → y ≡ times 65537 u x → x′ ≡ times 65537 v x
+next : {part₀ : List ℕ} {level k root half u v : ℕ} {part : List ℕ} {x i y x′ : ℕ} → Inv part₀ level k root half u v part x i → i < half → y ≡ times 65537 u x
+    → x′ ≡ times 65537 v x
     → Inv part₀ level k root half u v (set (set part i x) (half + i) y) x′ (i + 1)
 next {part₀} {level} {k} {root} {half} {u} {v} {part} {x} {i} {y} {x′} h b ey ex =
     let i-lt : i < 2 ^ level = omega (arith, h .half-is) in
     let eu : power 65537 root (2 ^ k / 2 ^ level) ≡ u = sym (h .u-is) in
     let ex′ : x ≡ pointAt 65537 root k level i = h .x-is ∙ sym (rw (eu, ← h .v-is) at (point-low-square 65537 root k level (lit< tt) i i-lt)) in
-    let ey′ : y ≡ pointAt 65537 root k level (half + i) = ey ∙ ap (times 65537 u) (h .x-is) ∙ sym (rw (eu, ← h .v-is, ← h .half-is) at (point-high-square 65537 root k level (lit< tt) i)) in
+    let ey′ : y ≡ pointAt 65537 root k level (half + i) =
+    ey ∙ ap (times 65537 u) (h .x-is) ∙ sym (rw (eu, ← h .v-is, ← h .half-is) at (point-high-square 65537 root k level (lit< tt) i)) in
     record {
       turns = omega arith;
       half-is = h .half-is;
@@ -153,7 +158,8 @@ next {part₀} {level} {k} {root} {half} {u} {v} {part} {x} {i} {y} {x′} h b e
       now = two-more (pointAt 65537 root k level) half i part₀ part x y (h .now) b ex′ ey′;
     }
 
-done : {part₀ : List ℕ} {level k root half u v : ℕ} {part : List ℕ} {x i : ℕ} → Inv part₀ level k root half u v part x i → half ≤ i → 2 ^ suc level ≤ length part₀
+done : {part₀ : List ℕ} {level k root half u v : ℕ} {part : List ℕ} {x i : ℕ} → Inv part₀ level k root half u v part x i → half ≤ i
+    → 2 ^ suc level ≤ length part₀
     → part ≡ table (2 ^ suc level) (pointAt 65537 root k level) ++ drop (2 ^ suc level) part₀
 done {part₀} {level} {k} {root} {half} {i = i} h b r =
     let q : i ≡ half = omega arith in

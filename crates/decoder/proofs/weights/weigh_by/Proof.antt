@@ -12,7 +12,8 @@ use Rattle.field.specs.Residue.{minus, times}
 use Rattle.field.specs.Words.{Words, table}
 use Rattle.code.specs.steps.Storing.{stored, weighedBy}
 use Rattle.field.proofs.Laws.{minus-lt}
-use Rattle.code.proofs.RowLaws.{length-stored, stored-at, stored-before, stored-after, is-stored, stored-last, weighedBy-own, weighedBy-other, Storing, storing-start, storing-turn, storing-done, storing-rest, storing-front}
+use Rattle.code.proofs.RowLaws.{length-stored, stored-at, stored-before, stored-after, is-stored, stored-last, weighedBy-own, weighedBy-other, Storing}
+use Rattle.code.proofs.RowLaws.{storing-start, storing-turn, storing-done, storing-rest, storing-front}
 use Rattle.decoder.proofs.weights.weigh_by.Statement.{statement}
 use Rattle.decoder.proofs.weights.weigh_by.Tie as tie
 
@@ -71,8 +72,10 @@ sub-requires c κs =
     let at-test = c .before .before in
     let at-loop = at-test .before in
     let at-start = at-loop .before .before .before .before in
-    let w = at-start .pre .1 .1 .0 in
-    (rw (storing-front (at-loop .loop .inv) (at-loop .loop .i) (omega arith)) (word-front (at-start .args .count) _ _ w (at-test .loop-test .taken)), word-front (at-start .args .count) _ _ w (omega arith))
+    let w = at-start .pre .1 .1 .0 in (
+      rw (storing-front (at-loop .loop .inv) (at-loop .loop .i) (omega arith)) (word-front (at-start .args .count) _ _ w (at-test .loop-test .taken)),
+      word-front (at-start .args .count) _ _ w (omega arith),
+    )
 
 mul-requires : tie.Need-mul-requires Inv-loop μ-loop
 mul-requires c κs =
@@ -136,9 +139,11 @@ put-back base count j l e b =
     inside : (i : ℕ) → i < count → (t : Bool) → eqb j i ≡ t → getD (set s (base + j) (getD l (base + j) 0)) (base + i) 0 ≡ weighedBy 65537 base j l i
     inside i h true q =
         let same : base + i ≡ base + j = ap (λ (n : ℕ). base + n) (sym (eqb-true j i q)) in
-        ap (λ (n : ℕ). getD (set s (base + j) (getD l (base + j) 0)) n 0) same ∙ getD-set-same s (base + j) (getD l (base + j) 0) 0 (omega (arith, long)) ∙ ap (λ (n : ℕ). getD l n 0) (sym same) ∙ sym (weighedBy-own 65537 base j l i q)
+        ap (λ (n : ℕ). getD (set s (base + j) (getD l (base + j) 0)) n 0) same ∙ getD-set-same s (base + j) (getD l (base + j) 0) 0 (omega (arith, long))
+        ∙ ap (λ (n : ℕ). getD l n 0) (sym same) ∙ sym (weighedBy-own 65537 base j l i q)
     inside i h false q =
-        getD-set-other s (base + j) (base + i) _ 0 (λ z. eqb-false j i q (omega arith)) ∙ stored-at base (weighed base (getD l j 0) l) count l i (omega arith) h ∙ sym (weighedBy-other 65537 base j l i q)
+        getD-set-other s (base + j) (base + i) _ 0 (λ z. eqb-false j i q (omega arith)) ∙ stored-at base (weighed base (getD l j 0) l) count l i (omega arith) h
+        ∙ sym (weighedBy-other 65537 base j l i q)
 
 returns : tie.Need-returns Inv-loop μ-loop
 returns c =

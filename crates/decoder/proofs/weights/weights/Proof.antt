@@ -81,7 +81,8 @@ module _ (root k level : ℕ) (marks : List Bool) (n base : ℕ) (l l₁ l₂ : 
   }
 
 -- one position more: j is erased, and each weight but j's is multiplied, or it is not
-module _ {front : List ℕ} {marks : List Bool} {level k root count base : ℕ} {part : List ℕ} {j : ℕ} (h : Inv front marks level k root count base part j) (b : j < count) where
+module _ {front : List ℕ} {marks : List Bool} {level k root count base : ℕ} {part : List ℕ} {j : ℕ} (h : Inv front marks level k root count base part j)
+    (b : j < count) where
   abbrev P : ℕ → ℕ
   P i = pointAt 65537 root k level i
 
@@ -116,20 +117,24 @@ module _ {front : List ℕ} {marks : List Bool} {level k root count base : ℕ} 
     now = rw add-one e;
   }
 
-  erased : {l : List ℕ} → getD marks j false ≡ true → l ≡ take base part ++ table count (weighedBy 65537 base j part) → Inv front marks level k root count base l (j + 1)
+  erased : {l : List ℕ} → getD marks j false ≡ true → l ≡ take base part ++ table count (weighedBy 65537 base j part)
+      → Inv front marks level k root count base l (j + 1)
   erased {l} m e =
       keeps l
-      (e ∙ ap₂ _++_ (ap (take base) (h .now) ∙ take-at front (table count W) base (h .long)) (same-table count (weighedBy 65537 base j part) (λ i. weightTo 65537 root k level marks i (suc j)) (multiplied m)))
+      (e ∙ ap₂ _++_ (ap (take base) (h .now) ∙ take-at front (table count W) base (h .long))
+      (same-table count (weighedBy 65537 base j part) (λ i. weightTo 65537 root k level marks i (suc j)) (multiplied m)))
 
   not-erased : {l : List ℕ} → getD marks j false ≡ false → l ≡ part → Inv front marks level k root count base l (j + 1)
   not-erased {l} m e =
       keeps l
-      (e ∙ h .now ∙ ap (λ (r : List ℕ). front ++ r) (same-table count W (λ i. weightTo 65537 root k level marks i (suc j)) (λ i t. sym (weight-survivor 65537 root k level marks i j m))))
+      (e ∙ h .now ∙ ap (λ (r : List ℕ). front ++ r)
+      (same-table count W (λ i. weightTo 65537 root k level marks i (suc j)) (λ i t. sym (weight-survivor 65537 root k level marks i j m))))
 
   -- the points and the weights are words
   points-words : Words 65537 (take count part)
   points-words =
-      let e : take count part ≡ table count P = ap (take count) (h .now) ∙ take-append-le count front (table count W) (omega (arith, h .long, h .low)) ∙ h .starts in
+      let e : take count part ≡ table count P =
+      ap (take count) (h .now) ∙ take-append-le count front (table count W) (omega (arith, h .long, h .low)) ∙ h .starts in
       rw e (words-points 65537 root k level (lit< tt) count)
 
   weights-words : Words 65537 (drop base part)
@@ -184,7 +189,8 @@ loop-holds c =
     let at-two = at-points .before .before in
     let a = at-two .before .before .before .args in
     let st = a .st in
-    start (st .root) (st .k) (st .level) (a .marks .now) (at-two .two-to .result) _ (a .part .now) _ _ (room at-two) refl (pointed at-points) (at-ones .ones .ensures)
+    start (st .root) (st .k) (st .level) (a .marks .now) (at-two .two-to .result) _ (a .part .now) _ _ (room at-two) refl (pointed at-points)
+    (at-ones .ones .ensures)
 
 shared-slice-read-if1 : tie.Need-shared-slice-read-if1 Inv-loop μ-loop
 shared-slice-read-if1 c =
@@ -229,7 +235,8 @@ returns c =
     inv .now
     ∙ ap₂ (λ (l : List ℕ) (j : ℕ). l ++ weightsTo (st .root) (st .k) (st .level) (a .marks .now) n j)
     (front-is (st .root) (st .k) (st .level) (a .marks .now) n _ (a .part .now) _ _ (room at-two) refl (pointed at-points) (at-ones .ones .ensures)) e
-    ∙ ap (λ (m : ℕ). table m (pointAt 65537 (st .root) (st .k) (st .level)) ++ take (length (a .part .now) - (m + m)) (drop m (a .part .now)) ++ weightsTo (st .root) (st .k) (st .level) (a .marks .now) m m) (count-is at-two)
+    ∙ ap (λ (m : ℕ). table m (pointAt 65537 (st .root) (st .k) (st .level)) ++ take (length (a .part .now) - (m + m)) (drop m (a .part .now)) ++ weightsTo
+    (st .root) (st .k) (st .level) (a .marks .now) m m) (count-is at-two)
 
 pub weights-spec : {M : Type 1} → statement M
 weights-spec =

@@ -43,19 +43,22 @@ returns-2 : tie.Need-returns-2 Inv-loop μ-loop
 returns-2 c =
     let t = c .before in
     let l = t .before .before in
-    refused (l .before .before .before .before .args .erasures .now) (rise-low (l .before .loop .inv) (l .loop-test .taken) (t .before .number-at .ensures) (t .number-at2 .ensures) (c .if2 .taken))
+    refused (l .before .before .before .before .args .erasures .now)
+    (rise-low (l .before .loop .inv) (l .loop-test .taken) (t .before .number-at .ensures) (t .number-at2 .ensures) (c .if2 .taken))
 
 returns-3 : tie.Need-returns-3 Inv-loop μ-loop
 returns-3 c =
     let t = c .before .before in
     let l = t .before .before in
-    refused (l .before .before .before .before .args .erasures .now) (rise-empty (l .before .loop .inv) (l .loop-test .taken) (t .before .number-at .ensures) (t .number-at2 .ensures) (c .if3 .taken))
+    refused (l .before .before .before .before .args .erasures .now)
+    (rise-empty (l .before .loop .inv) (l .loop-test .taken) (t .before .number-at .ensures) (t .number-at2 .ensures) (c .if3 .taken))
 
 returns-4 : tie.Need-returns-4 Inv-loop μ-loop
 returns-4 c =
     let t = c .before .before .before in
     let l = t .before .before in
-    refused (l .before .before .before .before .args .erasures .now) (rise-over (l .before .loop .inv) (l .loop-test .taken) (t .before .number-at .ensures) (t .number-at2 .ensures) (c .if4 .taken))
+    refused (l .before .before .before .before .args .erasures .now)
+    (rise-over (l .before .loop .inv) (l .loop-test .taken) (t .before .number-at .ensures) (t .number-at2 .ensures) (c .if4 .taken))
 
 add-least : tie.Need-add-least Inv-loop μ-loop
 add-least c = omega arith
@@ -70,7 +73,8 @@ loop-again : tie.Need-loop-again Inv-loop μ-loop
 loop-again c =
     let t = c .before .before .before in
     let l = t .before .before in
-    rise-turn (l .before .loop .inv) (l .loop-test .taken) (t .before .number-at .ensures) (t .number-at2 .ensures) (c .before .before .if2 .left) (c .before .if3 .left) (c .if4 .left)
+    rise-turn (l .before .loop .inv) (l .loop-test .taken) (t .before .number-at .ensures) (t .number-at2 .ensures) (c .before .before .if2 .left)
+    (c .before .if3 .left) (c .if4 .left)
 
 returns-5 : tie.Need-returns-5 Inv-loop μ-loop
 returns-5 c = rw (eq-eqb _ 0 (c .before .before .if1 .left)) (rise-end (c .before .loop .inv) (c .loop-test .left))

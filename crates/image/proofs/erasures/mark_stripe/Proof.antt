@@ -34,7 +34,11 @@ add-two-to : tie.Need-add-two-to
 add-two-to c = search needs
 
 two-to-requires : tie.Need-two-to-requires
-two-to-requires c κs = omega (arith, c .before .before .before .before .before .pre .0 .1, fits (c .before .before .before .before .before .args .header) (c .before .before .before .before .before .pre .0 .0) .k-high)
+two-to-requires c κs = omega (
+  arith,
+  c .before .before .before .before .before .pre .0 .1,
+  fits (c .before .before .before .before .before .args .header) (c .before .before .before .before .before .pre .0 .0) .k-high,
+)
 
 mark-requires : tie.Need-mark-requires
 mark-requires c κs =
@@ -57,7 +61,12 @@ returns c =
     let h = s .args .header in
     let l = s .args .level in
     c .before .before .mark .ensures
-    ∙ rw (at-two-to .two-to .ensures, add-one l, at-two-to .before .before .stripe-at .ensures, add-one (h .s)) (marksFor-is h (erasuresIn (s .args .erasures .now)) l)
+    ∙ rw (
+      at-two-to .two-to .ensures,
+      add-one l,
+      at-two-to .before .before .stripe-at .ensures,
+      add-one (h .s),
+    ) (marksFor-is h (erasuresIn (s .args .erasures .now)) l)
 
 pub mark-stripe-spec : {M : Type 1} → statement M
 mark-stripe-spec =

@@ -3,7 +3,8 @@ use mathlib.Core.Logic.{⊎-elim}
 use Prim.Native.Nat.{_+_, _-_}
 use native.Mathlib.Nat.{div-le-self}
 use native.Mathlib.Omega.{arith}
-use Rattle.image.proofs.Marking.{Lowest, Highest, lowest-start, lowest-at, highest-all, highest-at, touched-between, marked-same, erased-before, erased-behind}
+use Rattle.image.proofs.Marking.{Lowest, Highest, lowest-start, lowest-at, highest-all, highest-at, touched-between, marked-same, erased-before}
+use Rattle.image.proofs.Marking.{erased-behind}
 use borrow.Author.Needs.{needs}
 use Rattle.image.proofs.erasures.mark_touched.Statement.{statement}
 use Rattle.image.proofs.erasures.mark_touched.Tie as tie
@@ -16,10 +17,12 @@ low-is c =
     let g = lowest-at (s .args .base) (s .args .step) (s .pre .1 .1 .0) (s .args .offset) in
     ⊎-elim (λ w. rw (w .1) (l (w .0 .taken))) (λ w. rw (w .1) (g (w .0 .left))) (c .if3 .came)
 
-high-is : (c : tie.Joined4) → let a = c .before .before .before .before .before .args in Highest (a .base) (a .step) (a .positions) (a .offset + a .size) (c .if4 .high)
+high-is : (c : tie.Joined4) → let a = c .before .before .before .before .before .args in Highest (a .base) (a .step) (a .positions) (a .offset + a .size)
+    (c .if4 .high)
 high-is c =
     let s = c .before .before .before .before .before in
-    let l = highest-at (s .args .base) (s .args .step) (s .pre .1 .1 .0) (s .args .positions) (s .args .offset + s .args .size) (c .before .before .before .if1 .left) in
+    let l = highest-at (s .args .base) (s .args .step) (s .pre .1 .1 .0) (s .args .positions) (s .args .offset + s .args .size)
+    (c .before .before .before .if1 .left) in
     let g = highest-all (s .args .base) (s .args .step) (s .pre .1 .1 .0) (s .args .positions) (s .args .offset + s .args .size) in
     ⊎-elim (λ w. rw (w .1) (l (w .0 .taken))) (λ w. rw (w .1) (g (w .0 .left))) (c .if4 .came)
 

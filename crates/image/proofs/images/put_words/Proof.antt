@@ -30,7 +30,8 @@ next l words to i h =
     ∙ rw (length-little 4 w, add-one i)
 
 module _ {bytes₀ : List ℕ} {at : ℕ} {words bytes : List ℕ} {to i : ℕ} where
-  turn : {bytes′ : List ℕ} → Inv bytes₀ at words bytes to i → i < length words → length bytes′ ≡ length bytes → bytes′ ≡ sets bytes to (little 4 (getD words i 0))
+  turn : {bytes′ : List ℕ} → Inv bytes₀ at words bytes to i → i < length words → length bytes′ ≡ length bytes
+      → bytes′ ≡ sets bytes to (little 4 (getD words i 0))
       → Inv bytes₀ at words bytes′ (to + 4) (i + 1)
   turn {bytes′} h l el e = record {
     turns = omega arith;

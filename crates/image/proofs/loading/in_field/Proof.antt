@@ -33,16 +33,24 @@ start-at-two-to c = c .before .before .before .before
 pos : (d : tie.In-loop Inv-loop μ-loop) → d .before .before .two-to .result ≡ positionCount (d .before .before .before .before .before .before .args .st)
 pos d = positions (d .before .before .before .before .before .before .args .st .level) (d .before .before .two-to .ensures)
 
-sized : (d : tie.In-loop Inv-loop μ-loop) → length (d .before .before .before .before .before .before .args .bytes .now) ≡ 4 * (d .before .before .two-to .result * d .before .before .before .before .before .before .args .st .width)
+sized : (d : tie.In-loop Inv-loop μ-loop)
+    → length (d .before .before .before .before .before .before .args .bytes .now)
+    ≡ 4 * (d .before .before .two-to .result * d .before .before .before .before .before .before .args .st .width)
 sized d = rw (pos d) (d .before .before .before .before .before .before .pre .1)
 
-fit : (d : tie.In-loop Inv-loop μ-loop) → d .before .loop .i * d .before .before .before .before .before .before .args .st .width + d .before .before .before .before .before .before .args .st .width ≤ d .before .before .two-to .result * d .before .before .before .before .before .before .args .st .width
+fit : (d : tie.In-loop Inv-loop μ-loop)
+    → d .before .loop .i * d .before .before .before .before .before .before .args .st .width
+    + d .before .before .before .before .before .before .args .st .width
+    ≤ d .before .before .two-to .result * d .before .before .before .before .before .before .args .st .width
 fit d = row-in (d .before .before .before .before .before .before .args .st .width) (d .loop-test .taken)
 
 -- a row that is kept is the words that row_in_field tests
-kept : (d : tie.In-loop Inv-loop μ-loop) → let a = d .before .before .before .before .before .before .args in getD (a .marks .now) (d .before .loop .i) false ≡ false → (j : ℕ) → j < a .st .width
-    → survivingAt (a .st .width) (a .marks .now) (wordsOf (a .bytes .now)) (d .before .loop .i * a .st .width + j) ≡ rowWord (a .bytes .now) (4 * (d .before .loop .i * a .st .width)) j
-kept d m j b = let a = d .before .before .before .before .before .before .args in kept-word (a .st .width) (d .before .before .two-to .result) (a .marks .now) (a .bytes .now) (d .before .loop .i) j _ b m refl
+kept : (d : tie.In-loop Inv-loop μ-loop) → let a = d .before .before .before .before .before .before .args in
+    getD (a .marks .now) (d .before .loop .i) false ≡ false → (j : ℕ) → j < a .st .width
+    → survivingAt (a .st .width) (a .marks .now) (wordsOf (a .bytes .now)) (d .before .loop .i * a .st .width + j) ≡ rowWord (a .bytes .now)
+    (4 * (d .before .loop .i * a .st .width)) j
+kept d m j b = let a = d .before .before .before .before .before .before .args in kept-word (a .st .width) (d .before .before .two-to .result) (a .marks .now)
+    (a .bytes .now) (d .before .loop .i) j _ b m refl
 
 add-two-to : tie.Need-add-two-to Inv-loop μ-loop
 add-two-to c = search needs
@@ -69,8 +77,12 @@ returns : tie.Need-returns Inv-loop μ-loop
 returns c =
     let t = c .before .before in
     let l = t .before .before in
-    rows-over (l .before .loop .inv) (l .loop-test .taken) _ (kept l (not-true _ (t .if1 .taken))) (sym (c .before .row-in-field .ensures) ∙ not-true _ (c .if2 .taken))
-    ∙ ap (λ (n : ℕ). areBelow 65537 (table (n * l .before .before .before .before .before .before .args .st .width) (survivingAt (l .before .before .before .before .before .before .args .st .width) (l .before .before .before .before .before .before .args .marks .now) (wordsOf (l .before .before .before .before .before .before .args .bytes .now))))) (pos l)
+    rows-over (l .before .loop .inv) (l .loop-test .taken) _ (kept l (not-true _ (t .if1 .taken))) (sym (c .before .row-in-field .ensures)
+    ∙ not-true _ (c .if2 .taken))
+    ∙ ap (λ (n : ℕ). areBelow 65537
+    (table (n * l .before .before .before .before .before .before .args .st .width)
+    (survivingAt (l .before .before .before .before .before .before .args .st .width) (l .before .before .before .before .before .before .args .marks .now)
+    (wordsOf (l .before .before .before .before .before .before .args .bytes .now))))) (pos l)
 
 add-i : tie.Need-add-i Inv-loop μ-loop
 add-i c = omega arith
@@ -84,14 +96,17 @@ loop-again c =
     let a = l .before .before .before .before .before .before .args in
     ⊎-elim
     (λ w. rows-turn (l .before .loop .inv) (l .loop-test .taken) _ (kept l (not-true _ (w .0 .taken))) (sym (w .1 .ensures) ∙ not-false _ (w .2 .left)))
-    (λ w. rows-turn (l .before .loop .inv) (l .loop-test .taken) (λ k. 0) (λ j b. surviving-marked (a .st .width) (a .marks .now) (wordsOf (a .bytes .now)) (l .before .loop .i) j b (not-false _ (w .left))) (below-zeros 65537 _ (lit< tt)))
+    (λ w. rows-turn (l .before .loop .inv) (l .loop-test .taken) (λ k. 0)
+    (λ j b. surviving-marked (a .st .width) (a .marks .now) (wordsOf (a .bytes .now)) (l .before .loop .i) j b (not-false _ (w .left)))
+    (below-zeros 65537 _ (lit< tt)))
     (c .if1 .came)
 
 returns-2 : tie.Need-returns-2 Inv-loop μ-loop
 returns-2 c =
     let a = c .before .before .before .before .before .before .args in
     rows-end (c .before .loop .inv) (c .loop-test .left)
-    ∙ ap (λ (n : ℕ). areBelow 65537 (table (n * a .st .width) (survivingAt (a .st .width) (a .marks .now) (wordsOf (a .bytes .now))))) (positions (a .st .level) (c .before .before .two-to .ensures))
+    ∙ ap (λ (n : ℕ). areBelow 65537 (table (n * a .st .width) (survivingAt (a .st .width) (a .marks .now) (wordsOf (a .bytes .now)))))
+    (positions (a .st .level) (c .before .before .two-to .ensures))
 
 pub in-field-spec : {M : Type 1} → statement M
 in-field-spec =

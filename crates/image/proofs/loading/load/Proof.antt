@@ -20,7 +20,8 @@ use Rattle.image.proofs.loading.load.Statement.{statement}
 use Rattle.image.proofs.loading.load.Tie as tie
 
 abbrev Inv-loop : tie.InvT-loop
-Inv-loop part₀ bytes marks from cols rows width i₀ part i = StoringRows 0 (columnsWord width from cols (surviving width rows marks (wordsOf bytes))) rows cols part₀ part (i * cols) i
+Inv-loop part₀ bytes marks from cols rows width i₀ part i =
+    StoringRows 0 (columnsWord width from cols (surviving width rows marks (wordsOf bytes))) rows cols part₀ part (i * cols) i
 
 abbrev μ-loop : tie.MeasureT-loop
 μ-loop part₀ bytes marks from cols rows width i₀ part i = rows - i
@@ -33,20 +34,26 @@ start-at-loop c = c .before .before .before .before .before .before
 pos : (d : tie.In-loop Inv-loop μ-loop) → d .before .before .two-to .result ≡ positionCount (start-at-loop (d .before) .args .st)
 pos d = positions (start-at-loop (d .before) .args .st .level) (d .before .before .two-to .ensures)
 
-sized : (d : tie.In-loop Inv-loop μ-loop) → length (start-at-loop (d .before) .args .bytes .now) ≡ 4 * (d .before .before .two-to .result * start-at-loop (d .before) .args .st .width)
+sized : (d : tie.In-loop Inv-loop μ-loop)
+    → length (start-at-loop (d .before) .args .bytes .now) ≡ 4 * (d .before .before .two-to .result * start-at-loop (d .before) .args .st .width)
 sized d =
     let s = start-at-loop (d .before) in
     s .pre .0 .1 ∙ ap (λ (n : ℕ). 4 * (n * s .args .st .width)) (sym (pos d))
 
-room : (d : tie.In-loop Inv-loop μ-loop) → d .before .before .two-to .result * start-at-loop (d .before) .args .cols ≤ length (start-at-loop (d .before) .args .part .now)
+room : (d : tie.In-loop Inv-loop μ-loop)
+    → d .before .before .two-to .result * start-at-loop (d .before) .args .cols ≤ length (start-at-loop (d .before) .args .part .now)
 room d =
     let s = start-at-loop (d .before) in
     subst (λ (n : ℕ). n * s .args .cols ≤ length (s .args .part .now)) (sym (pos d)) (s .pre .1 .1)
 
-fit : (d : tie.In-loop Inv-loop μ-loop) → d .before .loop .i * start-at-loop (d .before) .args .st .width + start-at-loop (d .before) .args .st .width ≤ d .before .before .two-to .result * start-at-loop (d .before) .args .st .width
+fit : (d : tie.In-loop Inv-loop μ-loop)
+    → d .before .loop .i * start-at-loop (d .before) .args .st .width + start-at-loop (d .before) .args .st .width
+    ≤ d .before .before .two-to .result * start-at-loop (d .before) .args .st .width
 fit d = row-in (start-at-loop (d .before) .args .st .width) (d .loop-test .taken)
 
-fit-part : (d : tie.In-loop Inv-loop μ-loop) → d .before .loop .i * start-at-loop (d .before) .args .cols + start-at-loop (d .before) .args .cols ≤ d .before .before .two-to .result * start-at-loop (d .before) .args .cols
+fit-part : (d : tie.In-loop Inv-loop μ-loop)
+    → d .before .loop .i * start-at-loop (d .before) .args .cols + start-at-loop (d .before) .args .cols ≤ d .before .before .two-to .result * start-at-loop
+    (d .before) .args .cols
 fit-part d = row-in (start-at-loop (d .before) .args .cols) (d .loop-test .taken)
 
 add-two-to : tie.Need-add-two-to Inv-loop μ-loop
@@ -65,7 +72,8 @@ shared-slice-read-if1 : tie.Need-shared-slice-read-if1 Inv-loop μ-loop
 shared-slice-read-if1 c = omega (arith, c .before .loop-test .taken, pos (c .before), start-at-loop (c .before .before) .pre .0 .2)
 
 clear-row-requires : tie.Need-clear-row-requires Inv-loop μ-loop
-clear-row-requires c κs = omega (arith, fit-part (c .before .before .before), room (c .before .before .before), c .before .before .before .before .loop .inv .same)
+clear-row-requires c κs =
+    omega (arith, fit-part (c .before .before .before), room (c .before .before .before), c .before .before .before .before .loop .inv .same)
 
 mul-load-row : tie.Need-mul-load-row Inv-loop μ-loop
 mul-load-row c = omega (arith, fit (c .before .before .before), sized (c .before .before .before), start-at-loop (c .before .before .before .before) .pre .1 .0)
@@ -74,10 +82,14 @@ add-load-row : tie.Need-add-load-row Inv-loop μ-loop
 add-load-row c = omega (arith, fit (c .before .before .before), sized (c .before .before .before), start-at-loop (c .before .before .before .before) .pre .1 .0)
 
 mul-load-row-2 : tie.Need-mul-load-row-2 Inv-loop μ-loop
-mul-load-row-2 c = omega (arith, fit (c .before .before .before), sized (c .before .before .before), start-at-loop (c .before .before .before .before) .pre .1 .0)
+mul-load-row-2 c =
+    omega (arith, fit (c .before .before .before), sized (c .before .before .before), start-at-loop (c .before .before .before .before) .pre .1 .0)
 
 load-row-requires : tie.Need-load-row-requires Inv-loop μ-loop
-load-row-requires c κs = (omega (arith, fit-part (c .before .before .before), room (c .before .before .before), c .before .before .before .before .loop .inv .same), omega (arith, fit (c .before .before .before), sized (c .before .before .before), start-at-loop (c .before .before .before .before) .pre .1 .0))
+load-row-requires c κs = (
+  omega (arith, fit-part (c .before .before .before), room (c .before .before .before), c .before .before .before .before .loop .inv .same),
+  omega (arith, fit (c .before .before .before), sized (c .before .before .before), start-at-loop (c .before .before .before .before) .pre .1 .0),
+)
 
 add-i : tie.Need-add-i Inv-loop μ-loop
 add-i c = omega arith
@@ -95,9 +107,11 @@ loop-again c =
     rw (row-next (l .before .loop .i) (a .cols))
     (⊎-elim
     (λ w. storing-rows-turn inv (λ k. 0) b (w .5 ∙ w .2 .ensures)
-    (λ j t. sym (range-marked (a .st .width) (l .before .before .two-to .result) (a .marks .now) (a .bytes .now) (a .from) (a .cols) (s .pre .1 .0) (l .before .loop .i) j b t (w .0 .taken))))
+    (λ j t. sym (range-marked (a .st .width) (l .before .before .two-to .result) (a .marks .now) (a .bytes .now) (a .from) (a .cols) (s .pre .1 .0)
+    (l .before .loop .i) j b t (w .0 .taken))))
     (λ w. storing-rows-turn inv _ b (w .5 ∙ w .2 .ensures)
-    (λ j t. sym (range-kept (a .st .width) (l .before .before .two-to .result) (a .marks .now) (a .bytes .now) (a .from) (a .cols) (s .pre .1 .0) (l .before .loop .i) j b t (w .0 .left) _ refl)))
+    (λ j t. sym (range-kept (a .st .width) (l .before .before .two-to .result) (a .marks .now) (a .bytes .now) (a .from) (a .cols) (s .pre .1 .0)
+    (l .before .loop .i) j b t (w .0 .left) _ refl)))
     (c .if1 .came))
 
 same-length : tie.Need-same-length Inv-loop μ-loop

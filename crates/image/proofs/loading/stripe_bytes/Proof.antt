@@ -22,7 +22,8 @@ ends c = let s = c .before .before in rw (c .stripe-at .ensures) (inside (s .arg
 small : (c : tie.After-stripe-at) → imageSize (c .before .before .args .header) ≤ 2113536
 small c = let s = c .before .before in fits (s .args .header) (s .pre .0) .image-low
 
-size : (c : tie.After-struct-known) → let a = c .before .before .before .before .args in c .before .two-to .result * (a .header .s + 1) ≡ stripeSize (a .header) (a .level)
+size : (c : tie.After-struct-known) → let a = c .before .before .before .before .args in c .before .two-to .result * (a .header .s + 1) ≡ stripeSize (a .header)
+    (a .level)
 size c = let a = c .before .before .before .before .args in rw (positions (a .level) (c .before .two-to .ensures), add-one (a .header .s))
 
 mul-start : tie.Need-mul-start
@@ -64,7 +65,8 @@ returns c =
     let a = s .args in
     let n = 4 * c .before .before .before .stripe-at .result in
     let e : n + 4 * (c .before .before .two-to .result * (a .header .s + 1)) - n ≡ 4 * stripeSize (a .header) (a .level) = omega (arith, size (c .before)) in
-    ap (λ (m : ℕ). take m (drop n (a .image .now))) e ∙ ap (λ (m : ℕ). take (4 * stripeSize (a .header) (a .level)) (drop (4 * m) (a .image .now))) (c .before .before .before .stripe-at .ensures)
+    ap (λ (m : ℕ). take m (drop n (a .image .now))) e
+    ∙ ap (λ (m : ℕ). take (4 * stripeSize (a .header) (a .level)) (drop (4 * m) (a .image .now))) (c .before .before .before .stripe-at .ensures)
 
 pub stripe-bytes-spec : {M : Type 1} → statement M
 stripe-bytes-spec =

@@ -1,4 +1,5 @@
--- `layout::places::first_empty` meets its contract. The invariant: the levels passed are filled, and the search goes on at `level` with the bits left. Assumes nothing.
+-- `layout::places::first_empty` meets its contract. The invariant: the levels passed are filled, and the search goes on at `level` with the bits left. Assumes
+-- nothing.
 use mathlib.Core.Path.{_≡_, refl, sym, _∙_}
 use Prim.Native.Nat.{ℕ, zero, suc, _+_, _/_, _%_, _^_, _≤_, _<_}
 use native.Mathlib.Numerals.{add-one}

@@ -15,7 +15,8 @@ abbrev entry : tie.After-struct-known2 → tie.Start
 entry c = c .before .before .before .before .before
 
 -- where the level begins in the log
-rows-are : (c : tie.After-struct-known2) → (c .before .before .two-to .result - 2) * (entry c .args .header .s + 1) ≡ levelAt (entry c .args .header) (entry c .args .level)
+rows-are : (c : tie.After-struct-known2)
+    → (c .before .before .two-to .result - 2) * (entry c .args .header .s + 1) ≡ levelAt (entry c .args .header) (entry c .args .level)
 rows-are c = ap₂ (λ (x y : ℕ). (x - 2) * y) (c .before .before .two-to .ensures ∙ ap (λ (n : ℕ). 2 ^ n) (add-one _)) (add-one _)
 
 cast-if1 : tie.Need-cast-if1
@@ -52,7 +53,8 @@ add-result-2 c =
     omega (arith, rows-are c, c .before .full-size .ensures, level-low (s .args .header) (s .args .level) f (s .pre .1), f .full-low)
 
 returns-2 : tie.Need-returns-2
-returns-2 c = rw (c .before .full-size .ensures, rows-are c) (sym (at-level (entry c .args .header) (entry c .args .level) (c .before .before .before .if1 .left)))
+returns-2 c =
+    rw (c .before .full-size .ensures, rows-are c) (sym (at-level (entry c .args .header) (entry c .args .level) (c .before .before .before .if1 .left)))
 
 pub stripe-at-spec : {M : Type 1} → statement M
 stripe-at-spec =

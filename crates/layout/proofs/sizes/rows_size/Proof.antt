@@ -14,7 +14,8 @@ two-to-requires : tie.Need-two-to-requires
 two-to-requires c κs = let s = c .before in omega (arith, fits (s .args .header) (s .pre .0) .k-high)
 
 mul-result : tie.Need-mul-result
-mul-result c = let s = c .before .before in let h = s .args .header in rw (c .two-to .ensures) (omega (arith, mul-le-mul-left (count h) (s .pre .1), fits h (s .pre .0) .out-low))
+mul-result c = let s = c .before .before in let h = s .args .header in
+    rw (c .two-to .ensures) (omega (arith, mul-le-mul-left (count h) (s .pre .1), fits h (s .pre .0) .out-low))
 
 returns : tie.Need-returns
 returns c = rw (c .two-to .ensures)

@@ -18,7 +18,8 @@ mul-result : tie.Need-mul-result
 mul-result c = omega (arith, c .two-to .ensures, fits (c .before .before .before .args .header) (c .before .before .before .pre))
 
 add-result : tie.Need-add-result
-add-result c = omega (arith, c .two-to .ensures, c .before .before .out-size .ensures, fits (c .before .before .before .args .header) (c .before .before .before .pre))
+add-result c =
+    omega (arith, c .two-to .ensures, c .before .before .out-size .ensures, fits (c .before .before .before .args .header) (c .before .before .before .pre))
 
 returns : tie.Need-returns
 returns c = search needs

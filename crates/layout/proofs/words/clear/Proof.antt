@@ -32,8 +32,12 @@ loop-less c = omega arith
 
 loop-again : tie.Need-loop-again Inv-loop μ-loop
 loop-again c =
-    let l = c .before .loop in
-    (omega arith, length-set (l .part) (l .i) 0 ∙ l .inv .1, ap (λ (p : List ℕ). set p (l .i) 0) (l .inv .2) ∙ fill-more (l .i) 0 (c .before .before .args .part .now) (omega arith))
+    let l = c .before .loop in (
+      omega arith,
+      length-set (l .part) (l .i) 0 ∙ l .inv .1,
+      ap (λ (p : List ℕ). set p (l .i) 0) (l .inv .2)
+          ∙ fill-more (l .i) 0 (c .before .before .args .part .now) (omega arith),
+    )
 
 same-length : tie.Need-same-length Inv-loop μ-loop
 same-length c = c .before .loop .inv .1
@@ -43,7 +47,8 @@ returns c =
     let l = c .before .loop in
     let d = c .before .before .args .part .now in
     let e : l .i ≡ length d = omega arith in
-    l .inv .2 ∙ ap (λ (n : ℕ). replicate n 0 ++ drop n d) e ∙ ap (λ (t : List ℕ). replicate (length d) 0 ++ t) (drop-length d) ∙ append-nil (replicate (length d) 0)
+    l .inv .2 ∙ ap (λ (n : ℕ). replicate n 0 ++ drop n d) e ∙ ap (λ (t : List ℕ). replicate (length d) 0 ++ t) (drop-length d)
+    ∙ append-nil (replicate (length d) 0)
 
 pub clear-spec : {M : Type 1} → statement M
 clear-spec =

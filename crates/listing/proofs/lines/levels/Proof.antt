@@ -7,7 +7,8 @@ use Rattle.listing.proofs.lines.levels.Statement.{statement}
 use Rattle.listing.proofs.lines.levels.Tie as tie
 
 abbrev Inv-loop : tie.InvT-loop
-Inv-loop out₀ at log k c width to₀ bits₀ from₀ size₀ l₀ out to bits from size l = (l ≤ k) × (to ≤ length out₀) × (length out ≡ length out₀) × (from ≤ length log) × (size ≤ 131072)
+Inv-loop out₀ at log k c width to₀ bits₀ from₀ size₀ l₀ out to bits from size l =
+    (l ≤ k) × (to ≤ length out₀) × (length out ≡ length out₀) × (from ≤ length log) × (size ≤ 131072)
 
 abbrev μ-loop : tie.MeasureT-loop
 μ-loop out₀ at log k c width to₀ bits₀ from₀ size₀ l₀ out to bits from size l = k - l

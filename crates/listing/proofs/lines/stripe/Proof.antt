@@ -7,7 +7,8 @@ use Rattle.listing.proofs.lines.stripe.Statement.{statement}
 use Rattle.listing.proofs.lines.stripe.Tie as tie
 
 abbrev Inv-loop : tie.InvT-loop
-Inv-loop out₀ at name words width to₀ from₀ position₀ out to from position = (to ≤ length out₀) × (length out ≡ length out₀) × (from ≤ length words) × (position ≤ from) × (0 < width)
+Inv-loop out₀ at name words width to₀ from₀ position₀ out to from position =
+    (to ≤ length out₀) × (length out ≡ length out₀) × (from ≤ length words) × (position ≤ from) × (0 < width)
 
 abbrev μ-loop : tie.MeasureT-loop
 μ-loop out₀ at name words width to₀ from₀ position₀ out to from position = length words - from

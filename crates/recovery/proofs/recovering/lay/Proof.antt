@@ -24,14 +24,17 @@ loop-holds : tie.Need-loop-holds Inv-loop μ-loop
 loop-holds c = laying-start _ _ _ _
 
 -- the next block, and the record that it is laid over
-reads : (d : tie.In-loop Inv-loop μ-loop) → d .before .loop .at + 1 + d .before .before .before .before .args .s ≤ length (d .before .before .before .before .args .blocks .now)
+reads : (d : tie.In-loop Inv-loop μ-loop)
+    → d .before .loop .at + 1 + d .before .before .before .before .args .s ≤ length (d .before .before .before .before .args .blocks .now)
 reads d = laying-reads (d .before .loop .inv) (d .loop-test .taken) (rw (d .before .before .before .before .pre .0) (omega arith))
 
-fits-at : (d : tie.In-loop Inv-loop μ-loop) → let s = d .before .before .before .before .args .s in getD (d .before .before .before .before .args .blocks .now) (d .before .loop .at) 0 * s + s ≤ length (d .before .loop .out)
+fits-at : (d : tie.In-loop Inv-loop μ-loop) → let s = d .before .before .before .before .args .s in getD (d .before .before .before .before .args .blocks .now)
+    (d .before .loop .at) 0 * s + s ≤ length (d .before .loop .out)
 fits-at d =
     let a = d .before .before .before .before .args in
     let i = d .before .loop .inv in
-    let n : suc (getD (a .blocks .now) (d .before .loop .at) 0) * a .s ≤ length (a .out .now) = rw (i .stands) (d .before .before .before .before .pre .1 (d .before .loop .j) (d .loop-test .taken)) in
+    let n : suc (getD (a .blocks .now) (d .before .loop .at) 0) * a .s ≤ length (a .out .now) =
+    rw (i .stands) (d .before .before .before .before .pre .1 (d .before .loop .j) (d .loop-test .taken)) in
     omega (arith, n, i .same)
 
 mul-to : tie.Need-mul-to Inv-loop μ-loop
@@ -62,7 +65,9 @@ loop-less : tie.Need-loop-less Inv-loop μ-loop
 loop-less c = omega arith
 
 loop-again : tie.Need-loop-again Inv-loop μ-loop
-loop-again c = laying-turn (c .before .before .before .before .before .before .loop .inv) (c .before .before .before .before .before .loop-test .taken) _ refl (fits-at (c .before .before .before .before .before)) (rw (start-at-copy-row (c .before .before) .pre .0) (omega arith)) (c .before .before .copy-row .ensures)
+loop-again c = laying-turn (c .before .before .before .before .before .before .loop .inv) (c .before .before .before .before .before .loop-test .taken) _ refl
+    (fits-at (c .before .before .before .before .before)) (rw (start-at-copy-row (c .before .before) .pre .0) (omega arith))
+    (c .before .before .copy-row .ensures)
 
 same-length : tie.Need-same-length Inv-loop μ-loop
 same-length c = c .before .loop .inv .same

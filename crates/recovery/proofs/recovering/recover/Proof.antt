@@ -62,7 +62,8 @@ returns c =
 -- the sizes, where no test applies
 sizes : (c : tie.After-image-number) → c .image-number .result ≡ 0 → let a = c .before .before .before .before .before .before .args in
     Lent (a .header) (a .image .now) (a .erasures .now) (a .header .s) (length (a .out .now)) (length (a .scratch .now))
-sizes c z = let a = c .before .before .before .before .before .before .args in lent (a .header) (a .image .now) (a .erasures .now) (a .header .s) (length (a .out .now)) (length (a .scratch .now)) (sym (c .image-number .ensures) ∙ z)
+sizes c z = let a = c .before .before .before .before .before .before .args in lent (a .header) (a .image .now) (a .erasures .now) (a .header .s)
+    (length (a .out .now)) (length (a .scratch .now)) (sym (c .image-number .ensures) ∙ z)
 
 recover-all-requires : tie.Need-recover-all-requires
 recover-all-requires c κs =
@@ -86,7 +87,10 @@ returns-2 c =
     let a = start-at-clear2 (c .before .before) .args in
     let L = sizes (image-number-at-clear2 (c .before .before)) (else1-at-clear2 (c .before .before) .if1 .left) in
     let r = recover-all-at-clear2 (c .before .before) .recover-all in
-    answers-stopped (a .header) (a .image .now) (a .erasures .now) (a .out .now) (a .scratch .now) (sym (image-number-at-clear2 (c .before .before) .image-number .ensures) ∙ else1-at-clear2 (c .before .before) .if1 .left) (r .ensures .0) (clear-at-clear2 (c .before .before) .clear .ensures ∙ ap (λ (n : ℕ). replicate n 0) (r .kept .1 .1 .1 .1 .0 ∙ L .room)) (c .before .before .before .before .if2 .taken) (c .before .before .clear2 .ensures ∙ ap (λ (n : ℕ). replicate n 0) (r .kept .1 .1 .1 .0 ∙ L .output))
+    answers-stopped (a .header) (a .image .now) (a .erasures .now) (a .out .now) (a .scratch .now)
+    (sym (image-number-at-clear2 (c .before .before) .image-number .ensures) ∙ else1-at-clear2 (c .before .before) .if1 .left) (r .ensures .0)
+    (clear-at-clear2 (c .before .before) .clear .ensures ∙ ap (λ (n : ℕ). replicate n 0) (r .kept .1 .1 .1 .1 .0 ∙ L .room))
+    (c .before .before .before .before .if2 .taken) (c .before .before .clear2 .ensures ∙ ap (λ (n : ℕ). replicate n 0) (r .kept .1 .1 .1 .0 ∙ L .output))
 
 same-length-3 : tie.Need-same-length-3
 same-length-3 c = search needs
@@ -99,7 +103,10 @@ returns-3 c =
     let a = start-at-clear (c .before .before .before .before) .args in
     let L = sizes (image-number-at-clear (c .before .before .before .before)) (else1-at-clear (c .before .before .before .before) .if1 .left) in
     let r = recover-all-at-clear (c .before .before .before .before) .recover-all in
-    answers-recovered (a .header) (a .image .now) (a .erasures .now) (a .out .now) (a .scratch .now) (sym (image-number-at-clear (c .before .before .before .before) .image-number .ensures) ∙ else1-at-clear (c .before .before .before .before) .if1 .left) (r .ensures .0) (c .before .before .before .before .clear .ensures ∙ ap (λ (n : ℕ). replicate n 0) (r .kept .1 .1 .1 .1 .0 ∙ L .room)) (c .if2 .left) (r .ensures .1)
+    answers-recovered (a .header) (a .image .now) (a .erasures .now) (a .out .now) (a .scratch .now)
+    (sym (image-number-at-clear (c .before .before .before .before) .image-number .ensures) ∙ else1-at-clear (c .before .before .before .before) .if1 .left)
+    (r .ensures .0) (c .before .before .before .before .clear .ensures ∙ ap (λ (n : ℕ). replicate n 0) (r .kept .1 .1 .1 .1 .0 ∙ L .room)) (c .if2 .left)
+    (r .ensures .1)
 
 pub recover-spec : {M : Type 1} → statement M
 recover-spec =

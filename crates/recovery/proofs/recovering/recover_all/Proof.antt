@@ -44,8 +44,11 @@ same-length-2 c = search needs
 
 returns : tie.Need-returns
 returns c =
-    let a = start-at-out (c .before .before .before .before) .args in
-    (sym (ap answerOf (full-stops (a .header) (decodeStripe (a .header) (a .image .now) (erasuresIn (a .erasures .now))) (c .before .before .before .before .before .recover-full .ensures .0) (c .if1 .taken))), λ z. absurd (c .if1 .taken z))
+    let a = start-at-out (c .before .before .before .before) .args in (
+      sym (ap answerOf (full-stops (a .header) (decodeStripe (a .header) (a .image .now) (erasuresIn (a .erasures .now)))
+          (c .before .before .before .before .before .recover-full .ensures .0) (c .if1 .taken))),
+      λ z. absurd (c .if1 .taken z),
+    )
 
 recover-levels-requires : tie.Need-recover-levels-requires
 recover-levels-requires c κs = search needs
@@ -61,7 +64,10 @@ returns-2 c =
     let a = start-at-recover-levels (c .before .before .before .before) .args in
     let f = recover-full-at-recover-levels (c .before .before .before .before) .recover-full .ensures in
     let l = c .before .before .before .before .recover-levels .ensures in
-    let e = full-goes (a .header) (decodeStripe (a .header) (a .image .now) (erasuresIn (a .erasures .now))) (f .0) (sound (a .header) (a .image .now) (erasuresIn (a .erasures .now)) (a .header .k)) (else1-at-recover-levels (c .before .before .before .before) .if1 .left) (f .1 (else1-at-recover-levels (c .before .before .before .before) .if1 .left)) in
+    let e = full-goes (a .header) (decodeStripe (a .header) (a .image .now) (erasuresIn (a .erasures .now))) (f .0)
+    (sound (a .header) (a .image .now) (erasuresIn (a .erasures .now)) (a .header .k))
+    (else1-at-recover-levels (c .before .before .before .before) .if1 .left)
+    (f .1 (else1-at-recover-levels (c .before .before .before .before) .if1 .left)) in
     (l .0 ∙ sym (ap answerOf e), λ z. l .1 z ∙ sym (ap (λ (x : Recovered). recoveredWords x (rawSize (a .header))) e))
 
 pub recover-all-spec : {M : Type 1} → statement M

@@ -15,7 +15,8 @@ use Rattle.recovery.proofs.recovering.recover_levels.Statement.{stateme
 use Rattle.recovery.proofs.recovering.recover_levels.Tie as tie
 
 abbrev Inv-loop : tie.InvT-loop
-Inv-loop header image erasures out₀ scratch₀ level₀ out scratch level = (length out ≡ length out₀) × (length scratch ≡ length scratch₀) × Levels header (decodeStripe header image (erasuresIn erasures)) out₀ out level
+Inv-loop header image erasures out₀ scratch₀ level₀ out scratch level =
+    (length out ≡ length out₀) × (length scratch ≡ length scratch₀) × Levels header (decodeStripe header image (erasuresIn erasures)) out₀ out level
 
 abbrev μ-loop : tie.MeasureT-loop
 μ-loop header image erasures out₀ scratch₀ level₀ out scratch level = level
@@ -49,7 +50,8 @@ cast-level : tie.Need-cast-level Inv-loop μ-loop
 cast-level c = search needs
 
 loop-holds : tie.Need-loop-holds Inv-loop μ-loop
-loop-holds c = let a = c .before .before .before .before .before .args in (refl, refl, levels-start (a .header) (decodeStripe (a .header) (a .image .now) (erasuresIn (a .erasures .now))) (a .out .now))
+loop-holds c = let a = c .before .before .before .before .before .args in
+    (refl, refl, levels-start (a .header) (decodeStripe (a .header) (a .image .now) (erasuresIn (a .erasures .now))) (a .out .now))
 
 sub-level : tie.Need-sub-level Inv-loop μ-loop
 sub-level c = omega arith
@@ -78,11 +80,14 @@ same-length : tie.Need-same-length Inv-loop μ-loop
 same-length c = c .before .before .before .before .before .recover-level .kept .1 .1 .1 .1 .0 ∙ loop-at-out (c .before .before .before .before) .loop .inv .0
 
 same-length-2 : tie.Need-same-length-2 Inv-loop μ-loop
-same-length-2 c = c .before .before .before .before .before .recover-level .kept .1 .1 .1 .1 .1 .0 ∙ loop-at-out (c .before .before .before .before) .loop .inv .1
+same-length-2 c =
+    c .before .before .before .before .before .recover-level .kept .1 .1 .1 .1 .1 .0 ∙ loop-at-out (c .before .before .before .before) .loop .inv .1
 
 returns : tie.Need-returns Inv-loop μ-loop
 returns c =
-    let e = levels-stop (loop-at-out (c .before .before .before .before) .loop .inv .2) (in-loop-at-out (c .before .before .before .before) .loop-test .taken) (sym (is-filled-at-out (c .before .before .before .before) .is-filled .ensures) ∙ then1-at-out (c .before .before .before .before) .if1 .taken) (c .before .before .before .before .before .recover-level .ensures .0) (c .if2 .taken) in
+    let e = levels-stop (loop-at-out (c .before .before .before .before) .loop .inv .2) (in-loop-at-out (c .before .before .before .before) .loop-test .taken)
+    (sym (is-filled-at-out (c .before .before .before .before) .is-filled .ensures) ∙ then1-at-out (c .before .before .before .before) .if1 .taken)
+    (c .before .before .before .before .before .recover-level .ensures .0) (c .if2 .taken) in
     (sym (ap answerOf e), λ z. absurd (c .if2 .taken z))
 
 loop-less : tie.Need-loop-less Inv-loop μ-loop
@@ -95,7 +100,9 @@ loop-again c =
     let d = c .before .before .before .before .before .recover-level in (
       d .kept .1 .1 .1 .1 .0 ∙ i .0,
       d .kept .1 .1 .1 .1 .1 .0 ∙ i .1,
-      levels-lay (i .2) (in-loop-at-out (c .before .before .before .before) .loop-test .taken) (sym (is-filled-at-out (c .before .before .before .before) .is-filled .ensures) ∙ then1-at-out (c .before .before .before .before) .if1 .taken) (d .ensures .0) (sound (a .header) (a .image .now) (erasuresIn (a .erasures .now)) _) (c .if2 .left) (d .ensures .1),
+      levels-lay (i .2) (in-loop-at-out (c .before .before .before .before) .loop-test .taken)
+          (sym (is-filled-at-out (c .before .before .before .before) .is-filled .ensures) ∙ then1-at-out (c .before .before .before .before) .if1 .taken)
+          (d .ensures .0) (sound (a .header) (a .image .now) (erasuresIn (a .erasures .now)) _) (c .if2 .left) (d .ensures .1),
     )
 
 loop-less-2 : tie.Need-loop-less-2 Inv-loop μ-loop

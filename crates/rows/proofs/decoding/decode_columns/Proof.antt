@@ -22,21 +22,33 @@ start-at-slice-known2 c = start-at-load (c .before .before)
 
 load-requires : tie.Need-load-requires
 load-requires c κs =
-    let s = c .before .before .before .before in
-    ((omega (arith, s .pre .0 .fits .low, s .pre .0 .fits .numbers .within), s .pre .1 .0 .0, s .pre .0 .long), (s .pre .1 .0 .1, omega (arith, s .pre .1 .1 .0)))
+    let s = c .before .before .before .before in (
+      (omega (arith, s .pre .0 .fits .low, s .pre .0 .fits .numbers .within), s .pre .1 .0 .0, s .pre .0 .long),
+      (s .pre .1 .0 .1, omega (arith, s .pre .1 .1 .0)),
+    )
 
 -- the part once the words are loaded
-loaded : (c : tie.After-load) → let a = c .before .before .before .before .before .args in c .load .last .0 ≡ columns (a .st) (a .marks .now) (rowsIn (a .st) (a .marks .now) (a .bytes .now)) (a .from) (a .cols) ++ weightsIn (a .st) (a .marks .now)
+loaded : (c : tie.After-load) → let a = c .before .before .before .before .before .args in
+    c .load .last .0 ≡ columns (a .st) (a .marks .now) (rowsIn (a .st) (a .marks .now) (a .bytes .now)) (a .from) (a .cols) ++ weightsIn (a .st) (a .marks .now)
 loaded c = let s = c .before .before .before .before .before in let a = s .args in
-    c .load .ensures ∙ ap (λ (y : List ℕ). columns (a .st) (a .marks .now) (rowsIn (a .st) (a .marks .now) (a .bytes .now)) (a .from) (a .cols) ++ y) (s .pre .1 .1 .1)
+    c .load .ensures ∙ ap (λ (y : List ℕ). columns (a .st) (a .marks .now) (rowsIn (a .st) (a .marks .now) (a .bytes .now)) (a .from) (a .cols) ++ y)
+    (s .pre .1 .1 .1)
 
 decode-requires : tie.Need-decode-requires
 decode-requires c κs =
     let s = start-at-slice-known2 (c .before) in
     let a = s .args in
     let r = rowsIn (a .st) (a .marks .now) (a .bytes .now) in
-    let L = loaded (c .before .before .before) in
-    (narrow-numbers (a .cols) (s .pre .0 .fits .numbers), ((s .pre .0 .long, s .pre .0 .enough), (loaded-long (a .st) (a .marks .now) r (a .from) (a .cols) L, (loaded-words (a .st) (a .marks .now) r (a .from) (a .cols) L (s .pre .0 .below), loaded-weights (a .st) (a .marks .now) r (a .from) (a .cols) L))))
+    let L = loaded (c .before .before .before) in (
+      narrow-numbers (a .cols) (s .pre .0 .fits .numbers),
+      (
+        (s .pre .0 .long, s .pre .0 .enough),
+        (
+          loaded-long (a .st) (a .marks .now) r (a .from) (a .cols) L,
+          (loaded-words (a .st) (a .marks .now) r (a .from) (a .cols) L (s .pre .0 .below), loaded-weights (a .st) (a .marks .now) r (a .from) (a .cols) L),
+        ),
+      ),
+    )
 
 same-length : tie.Need-same-length
 same-length c = search needs
@@ -44,9 +56,12 @@ same-length c = search needs
 returns : tie.Need-returns
 returns c =
     let a = start-at-slice-known2 (c .before .before .before .before) .args in
-    let e = loaded-front (a .st) (a .marks .now) (rowsIn (a .st) (a .marks .now) (a .bytes .now)) (a .from) (a .cols) (loaded (c .before .before .before .before .before .before)) in
-    let d = c .before .before .decode .ensures in
-    (d .0 ∙ ap (isConsistent (narrow (a .st) (a .cols)) (a .marks .now)) e, d .1 ∙ ap (λ (x : List ℕ). leftOf (narrow (a .st) (a .cols)) (a .marks .now) x ++ weightsIn (a .st) (a .marks .now)) e)
+    let e = loaded-front (a .st) (a .marks .now) (rowsIn (a .st) (a .marks .now) (a .bytes .now)) (a .from) (a .cols)
+    (loaded (c .before .before .before .before .before .before)) in
+    let d = c .before .before .decode .ensures in (
+      d .0 ∙ ap (isConsistent (narrow (a .st) (a .cols)) (a .marks .now)) e,
+      d .1 ∙ ap (λ (x : List ℕ). leftOf (narrow (a .st) (a .cols)) (a .marks .now) x ++ weightsIn (a .st) (a .marks .now)) e,
+    )
 
 pub decode-columns-spec : {M : Type 1} → statement M
 decode-columns-spec =

@@ -28,8 +28,10 @@ weights-requires c κs =
 
 load-requires : tie.Need-load-requires
 load-requires c κs =
-    let s = start-at-weights (c .before .before .before) in
-    ((omega (arith, s .pre .0 .fits .low, s .pre .0 .fits .numbers .within), s .pre .1 .0, s .pre .0 .long), (omega arith, omega (arith, c .before .before .before .weights .kept .0, s .pre .1 .1)))
+    let s = start-at-weights (c .before .before .before) in (
+      (omega (arith, s .pre .0 .fits .low, s .pre .0 .fits .numbers .within), s .pre .1 .0, s .pre .0 .long),
+      (omega arith, omega (arith, c .before .before .before .weights .kept .0, s .pre .1 .1)),
+    )
 
 -- the part once the rows are loaded
 abbrev start : tie.After-load → tie.Start
@@ -38,25 +40,33 @@ start c = start-at-weights (c .before .before .before .before)
 abbrev words : tie.After-load → List ℕ
 words c = rowsIn (start c .args .st) (start c .args .marks .now) (start c .args .bytes .now)
 
-loaded : (c : tie.After-load) → let a = start c .args in c .load .last .0 ≡ columns (a .st) (a .marks .now) (words c) 0 (a .st .width) ++ weightsIn (a .st) (a .marks .now)
+loaded : (c : tie.After-load) → let a = start c .args in c .load .last .0 ≡ columns (a .st) (a .marks .now) (words c) 0 (a .st .width) ++ weightsIn (a .st)
+    (a .marks .now)
 loaded c =
     let s = start c in
     let a = s .args in
     c .load .ensures
     ∙ ap (λ (y : List ℕ). columns (a .st) (a .marks .now) (words c) 0 (a .st .width) ++ y)
-    (weights-last (a .st) (a .marks .now) (a .part .now) (a .st .width) (omega (arith, s .pre .0 .fits .thick)) (s .pre .1 .1) (c .before .before .before .before .weights .ensures))
+    (weights-last (a .st) (a .marks .now) (a .part .now) (a .st .width) (omega (arith, s .pre .0 .fits .thick)) (s .pre .1 .1)
+    (c .before .before .before .before .weights .ensures))
 
 front : (c : tie.After-load) → take (stripeWords (start c .args .st)) (c .load .last .0) ≡ words c
 front c =
     let a = start c .args in
     loaded-front (a .st) (a .marks .now) (words c) 0 (a .st .width) (loaded c)
-    ∙ columns-all (a .st .width) (positionCount (a .st)) (words c) (length-table (stripeWords (a .st)) (survivingAt (a .st .width) (a .marks .now) (wordsOf (a .bytes .now))))
+    ∙ columns-all (a .st .width) (positionCount (a .st)) (words c)
+    (length-table (stripeWords (a .st)) (survivingAt (a .st .width) (a .marks .now) (wordsOf (a .bytes .now))))
 
 solve-requires : tie.Need-solve-requires
 solve-requires c κs =
     let l = c .before .before .before in
-    let a = start l .args in
-    (rw (front l) (start l .pre .0), (loaded-long (a .st) (a .marks .now) (words l) 0 (a .st .width) (loaded l), loaded-weights (a .st) (a .marks .now) (words l) 0 (a .st .width) (loaded l)))
+    let a = start l .args in (
+      rw (front l) (start l .pre .0),
+      (
+        loaded-long (a .st) (a .marks .now) (words l) 0 (a .st .width) (loaded l),
+        loaded-weights (a .st) (a .marks .now) (words l) 0 (a .st .width) (loaded l),
+      ),
+    )
 
 same-length : tie.Need-same-length
 same-length c = search needs

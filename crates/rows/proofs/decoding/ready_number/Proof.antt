@@ -20,7 +20,8 @@ count-erased-requires c κs = search needs
 returns : tie.Need-returns
 returns c =
     let a = c .before .before .before .before .before .args in
-    sym (too-few (a .st) (a .marks .now) (rowsIn (a .st) (a .marks .now) (a .bytes .now)) (rw (← c .before .count-erased .ensures, ← c .before .before .two-to .ensures) (c .if1 .taken)))
+    sym (too-few (a .st) (a .marks .now) (rowsIn (a .st) (a .marks .now) (a .bytes .now))
+    (rw (← c .before .count-erased .ensures, ← c .before .before .two-to .ensures) (c .if1 .taken)))
 
 in-field-requires : tie.Need-in-field-requires
 in-field-requires c κs = search needs
@@ -30,7 +31,8 @@ by-words : (c : tie.After-in-field) (b : Bool) → c .in-field .result ≡ b →
     elim b [ true ↦ 0 | false ↦ 8 ] ≡ readyNumber (a .st) (a .marks .now) (rowsIn (a .st) (a .marks .now) (a .bytes .now))
 by-words c b e =
     let a = c .before .before .before .before .before .before .args in
-    let n : erasedCount (a .st .level) (a .marks .now) ≤ blockCount (a .st) = rw (← c .before .before .count-erased .ensures, ← c .before .before .before .two-to .ensures) (c .before .if1 .left) in
+    let n : erasedCount (a .st .level) (a .marks .now) ≤ blockCount (a .st) =
+    rw (← c .before .before .count-erased .ensures, ← c .before .before .before .two-to .ensures) (c .before .if1 .left) in
     sym (ready-when (a .st) (a .marks .now) (rowsIn (a .st) (a .marks .now) (a .bytes .now)) n (sym (c .in-field .ensures) ∙ e))
 
 returns-2 : tie.Need-returns-2

@@ -70,8 +70,13 @@ add-rows c = omega (arith, all (c .before), few (c .before))
 decode-requires : tie.Need-decode-requires
 decode-requires c κs =
     let s = start (c .before .before) in
-    let R = s .pre .0 in
-    (R .fits .numbers, ((R .long, R .enough), (s .pre .1 .0, (part-words (s .args .st) (s .args .marks .now) (s .args .part .now) (R .below) (s .pre .1 .1), s .pre .1 .1))))
+    let R = s .pre .0 in (
+      R .fits .numbers,
+      (
+        (R .long, R .enough),
+        (s .pre .1 .0, (part-words (s .args .st) (s .args .marks .now) (s .args .part .now) (R .below) (s .pre .1 .1), s .pre .1 .1)),
+      ),
+    )
 
 -- the part once it is decoded, and once the weights are cleared
 long : (c : tie.After-decode) → let st = stripe (decode-two c) in length (c .decode .last .0) ≡ stripeWords st + positionCount st
@@ -90,7 +95,8 @@ half-in : (c : tie.After-clear) → half (decode-two (to-decode c)) ≤ length (
 half-in c = let t = decode-two (to-decode c) in omega (arith, ap length (cleared c) ∙ length-cleared (stripe t) (marks t) (rows t), all t)
 
 -- the blocks stand in front
-front : (c : tie.After-clear) → let t = decode-two (to-decode c) in isConsistent (stripe t) (marks t) (rows t) ≡ true → take (half t) (left c) ≡ blocksIn (stripe t) (marks t) (rows t)
+front : (c : tie.After-clear) → let t = decode-two (to-decode c) in isConsistent (stripe t) (marks t) (rows t) ≡ true → take (half t) (left c) ≡ blocksIn
+    (stripe t) (marks t) (rows t)
 front c e = let t = decode-two (to-decode c) in ap₂ take (size t) (cleared c) ∙ left-front (stripe t) (marks t) (rows t) e
 
 mul-clear : tie.Need-mul-clear
@@ -119,7 +125,8 @@ returns c =
     let e = sym (d .decode .ensures .0) ∙ not-true _ (c .if1 .taken) in
     let q = solved-nine (stripe t) (marks t) (rows t) e in (
       sym (ap decodedNumber q),
-      cleared (c .before .before .before) ∙ left-zeros (stripe t) (marks t) (rows t) e ∙ sym (ap (λ (x : Decoded). decodedWords x (stripeWords (stripe t) + positionCount (stripe t))) q),
+      cleared (c .before .before .before) ∙ left-zeros (stripe t) (marks t) (rows t) e
+          ∙ sym (ap (λ (x : Decoded). decodedWords x (stripeWords (stripe t) + positionCount (stripe t))) q),
     )
 
 slice-reshare-prefix-are-records : tie.Need-slice-reshare-prefix-are-records
@@ -152,7 +159,8 @@ returns-2 c =
     let e = agrees (c .before) in
     let q = solved-blocks (stripe t) (marks t) (rows t) e (tested (c .before) true (c .if2 .taken)) in (
       sym (ap decodedNumber q),
-      cleared (to-clear (c .before)) ∙ left-blocks (stripe t) (marks t) (rows t) e ∙ sym (ap (λ (x : Decoded). decodedWords x (stripeWords (stripe t) + positionCount (stripe t))) q),
+      cleared (to-clear (c .before)) ∙ left-blocks (stripe t) (marks t) (rows t) e
+          ∙ sym (ap (λ (x : Decoded). decodedWords x (stripeWords (stripe t) + positionCount (stripe t))) q),
     )
 
 clear-requires-2 : tie.Need-clear-requires-2

@@ -41,8 +41,10 @@ loop-holds : tie.Need-loop-holds Inv-loop μ-loop
 loop-holds c = testing-start _ _ _ _ _ _
 
 -- the next block lies inside
-reads : (d : tie.In-loop Inv-loop μ-loop) → d .before .loop .at + d .before .before .before .before .before .args .st .width ≤ length (d .before .before .before .before .before .args .blocks .now)
-reads d = testing-reads (d .before .loop .inv) (d .loop-test .taken) (rw (d .before .before .two-to2 .ensures, d .before .before .before .before .before .pre .1) (omega arith))
+reads : (d : tie.In-loop Inv-loop μ-loop)
+    → d .before .loop .at + d .before .before .before .before .before .args .st .width ≤ length (d .before .before .before .before .before .args .blocks .now)
+reads d = testing-reads (d .before .loop .inv) (d .loop-test .taken)
+    (rw (d .before .before .two-to2 .ensures, d .before .before .before .before .before .pre .1) (omega arith))
 
 mul-number-fits : tie.Need-mul-number-fits Inv-loop μ-loop
 mul-number-fits c = omega (arith, reads c)
@@ -59,7 +61,9 @@ number-fits-requires c κs = search needs
 returns : tie.Need-returns Inv-loop μ-loop
 returns c =
     sym (rw (← c .before .before .before .before .before .two-to2 .ensures)
-    (testing-number (c .before .before .before .before .loop .inv) (start-at-number-fits (c .before) .args .st) refl refl (sym (c .before .before .before .before .before .before .two-to .ensures)) refl (c .before .before .before .loop-test .taken) (sym (c .before .number-fits .ensures) ∙ not-true _ (c .if1 .taken))))
+    (testing-number (c .before .before .before .before .loop .inv) (start-at-number-fits (c .before) .args .st) refl refl
+    (sym (c .before .before .before .before .before .before .two-to .ensures)) refl (c .before .before .before .loop-test .taken)
+    (sym (c .before .number-fits .ensures) ∙ not-true _ (c .if1 .taken))))
 
 add-next : tie.Need-add-next Inv-loop μ-loop
 add-next c = omega (arith, reads (c .before .before .before))
@@ -85,7 +89,10 @@ all-data-requires c κs = search needs
 returns-2 : tie.Need-returns-2 Inv-loop μ-loop
 returns-2 c =
     sym (rw (← two-to2-at-number-fits (c .before .before .before .before) .two-to2 .ensures)
-    (testing-data (loop-at-number-fits (c .before .before .before .before) .loop .inv) (start-at-number-fits (c .before .before .before .before) .args .st) refl refl (sym (two-to-at-number-fits (c .before .before .before .before) .two-to .ensures)) refl (c .before .before .before .before .before .before .loop-test .taken) (sym (c .before .all-data .ensures) ∙ not-true _ (c .if2 .taken))))
+    (testing-data (loop-at-number-fits (c .before .before .before .before) .loop .inv)
+    (start-at-number-fits (c .before .before .before .before) .args .st) refl refl
+    (sym (two-to-at-number-fits (c .before .before .before .before) .two-to .ensures)) refl
+    (c .before .before .before .before .before .before .loop-test .taken) (sym (c .before .all-data .ensures) ∙ not-true _ (c .if2 .taken))))
 
 add-j : tie.Need-add-j Inv-loop μ-loop
 add-j c = omega arith
@@ -95,11 +102,14 @@ loop-less c = omega arith
 
 loop-again : tie.Need-loop-again Inv-loop μ-loop
 loop-again c =
-    testing-turn (loop-at-number-fits (c .before .before .before .before) .loop .inv) (c .before .before .before .before .before .before .loop-test .taken) (sym (c .before .before .before .before .number-fits .ensures) ∙ not-false _ (c .before .before .before .if1 .left)) (sym (c .before .all-data .ensures) ∙ not-false _ (c .if2 .left))
+    testing-turn (loop-at-number-fits (c .before .before .before .before) .loop .inv) (c .before .before .before .before .before .before .loop-test .taken)
+    (sym (c .before .before .before .before .number-fits .ensures) ∙ not-false _ (c .before .before .before .if1 .left)) (sym (c .before .all-data .ensures)
+    ∙ not-false _ (c .if2 .left))
 
 returns-3 : tie.Need-returns-3 Inv-loop μ-loop
 returns-3 c =
-    sym (rw (← c .before .before .two-to2 .ensures) (testing-done (c .before .loop .inv) (c .before .before .before .before .before .args .st) refl refl (sym (c .before .before .before .two-to .ensures)) refl (c .loop-test .left)))
+    sym (rw (← c .before .before .two-to2 .ensures) (testing-done (c .before .loop .inv) (c .before .before .before .before .before .args .st) refl refl
+    (sym (c .before .before .before .two-to .ensures)) refl (c .loop-test .left)))
 
 pub are-records-spec : {M : Type 1} → statement M
 are-records-spec =

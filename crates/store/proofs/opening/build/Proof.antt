@@ -33,7 +33,8 @@ record Inv (raw full₀ : List ℕ) (k s n width : ℕ) (full : List ℕ) (at i 
   same : length full ≡ length full₀
   whole : sets full at (blocksFrom 65537 s raw i (n - i)) ≡ sets full₀ 0 (blocksFrom 65537 s raw 0 n)
 
-start : {raw full₀ : List ℕ} {k s n : ℕ} → k ≤ 10 → n ≡ 2 ^ k → length raw ≡ 2 ^ k * s → length full₀ ≡ 2 ^ suc k * suc s → Inv raw full₀ k s n (s + 1) full₀ 0 0
+start : {raw full₀ : List ℕ} {k s n : ℕ} → k ≤ 10 → n ≡ 2 ^ k → length raw ≡ 2 ^ k * s → length full₀ ≡ 2 ^ suc k * suc s
+    → Inv raw full₀ k s n (s + 1) full₀ 0 0
 start {raw} {full₀} {k} {s} {n} b e r f = record {
   turns = omega arith;
   few = omega (arith, pow-mono {i = k} {j = 10} b);
@@ -62,7 +63,8 @@ module _ {raw full₀ : List ℕ} {k s n width : ℕ} {full : List ℕ} {at i : 
   record-inside : Inv raw full₀ k s n width full at i → i < n → i * s + s ≤ length raw
   record-inside h l = omega (arith, record-end n s i l)
 
-  turn : {full′ : List ℕ} → Inv raw full₀ k s n width full at i → i < n → length full′ ≡ length full → full′ ≡ sets full at (i ∷ reduced 65537 (recordIn s raw i))
+  turn : {full′ : List ℕ} → Inv raw full₀ k s n width full at i → i < n → length full′ ≡ length full
+      → full′ ≡ sets full at (i ∷ reduced 65537 (recordIn s raw i))
       → Inv raw full₀ k s n width full′ (at + width) (i + 1)
   turn {full′} h l el e =
       let d : n - i ≡ suc (n - (i + 1)) = omega arith in
@@ -75,7 +77,8 @@ module _ {raw full₀ : List ℕ} {k s n width : ℕ} {full : List ℕ} {at i : 
         long = h .long;
         at-is = omega arith;
         same = el ∙ h .same;
-        whole = ap (λ (f : List ℕ). sets f (at + width) (blocksFrom 65537 s raw (i + 1) (n - (i + 1)))) e ∙ sym (next 65537 s i (n - (i + 1)) at width raw full (length-record n s raw i (h .raw-long) l) (h .width-is)) ∙ (rw d at (h .whole));
+        whole = ap (λ (f : List ℕ). sets f (at + width) (blocksFrom 65537 s raw (i + 1) (n - (i + 1)))) e
+            ∙ sym (next 65537 s i (n - (i + 1)) at width raw full (length-record n s raw i (h .raw-long) l) (h .width-is)) ∙ (rw d at (h .whole));
       }
 
   done : Inv raw full₀ k s n width full at i → n ≤ i → full ≡ sets full₀ 0 (blocksFrom 65537 s raw 0 n)
@@ -163,7 +166,8 @@ returns c =
     let at-test = at-root .before in
     let a = at-test .before .before .before .before .before .args in
     let h = at-test .before .loop .inv in
-    built (a .raw .now) (at-test .before .loop .full) (a .k) (a .s) _ _ (h .n-is) (filled h (at-test .loop-test .left)) (at-root .root .ensures) (at-code .code .ensures)
+    built (a .raw .now) (at-test .before .loop .full) (a .k) (a .s) _ _ (h .n-is) (filled h (at-test .loop-test .left)) (at-root .root .ensures)
+    (at-code .code .ensures)
 
 pub build-spec : {M : Type 1} → statement M
 build-spec =

@@ -50,7 +50,8 @@ abbrev else1-at-clear : tie.After-clear → tie.Else1
 else1-at-clear c = c .before .before .before .before .before .before
 
 number-zero : (c : tie.Else1)
-    → openNumber (start-at-open-number (c .before) .args .k) (start-at-open-number (c .before) .args .s) (start-at-open-number (c .before) .args .raw .now) (start-at-open-number (c .before) .args .full .now) (start-at-open-number (c .before) .args .log .now) ≡ 0
+    → openNumber (start-at-open-number (c .before) .args .k) (start-at-open-number (c .before) .args .s) (start-at-open-number (c .before) .args .raw .now)
+    (start-at-open-number (c .before) .args .full .now) (start-at-open-number (c .before) .args .log .now) ≡ 0
 number-zero c = sym (c .before .open-number .ensures) ∙ c .if1 .left
 
 open-number-requires : tie.Need-open-number-requires
@@ -86,7 +87,8 @@ same-length-4 c = search needs
 returns-2 : tie.Need-returns-2
 returns-2 c =
     let a = start-at-clear (c .before .before) .args in
-    taken (a .k) (a .s) (a .raw .now) (a .full .now) (a .log .now) (number-zero (else1-at-clear (c .before .before))) (c .before .before .before .before .before .before .build .ensures) (c .before .before .clear .ensures)
+    taken (a .k) (a .s) (a .raw .now) (a .full .now) (a .log .now) (number-zero (else1-at-clear (c .before .before)))
+    (c .before .before .before .before .before .before .build .ensures) (c .before .before .clear .ensures)
 
 pub open-spec : {M : Type 1} → statement M
 open-spec =

@@ -44,7 +44,8 @@ gives-part : (h : Header) (r : List ℕ) (i : ℕ) → readNumber h r i ≡ 0 �
 gives-part h r i e = if-taken (recordIn (h .s) r i) [] e
 
 read-inside : (c : tie.Else1)
-    → Inside (c .before .before .before .before .args .header) (c .before .before .before .before .args .raw .now) (c .before .before .before .before .args .number)
+    → Inside (c .before .before .before .before .args .header) (c .before .before .before .before .args .raw .now)
+    (c .before .before .before .before .args .number)
 read-inside c =
     let a = c .before .before .before .before .args in
     inside (a .header) (a .raw .now) (a .number) (sym (c .before .read-number .ensures) ∙ c .if1 .left)
@@ -86,7 +87,8 @@ returns-2 c =
     let a = c .before .before .before .before .before .args in
     let n = a .number * a .header .s in
     let e : n + a .header .s - n ≡ a .header .s = omega arith in
-    ap (λ (m : ℕ). take m (drop n (a .raw .now))) e ∙ sym (gives-part (a .header) (a .raw .now) (a .number) (sym (c .before .before .read-number .ensures) ∙ c .before .if1 .left))
+    ap (λ (m : ℕ). take m (drop n (a .raw .now))) e
+    ∙ sym (gives-part (a .header) (a .raw .now) (a .number) (sym (c .before .before .read-number .ensures) ∙ c .before .if1 .left))
 
 pub read-spec : {M : Type 1} → statement M
 read-spec =

@@ -20,7 +20,8 @@ abbrev μ-loop : tie.MeasureT-loop
 row-room : (c : tie.In-loop Inv-loop μ-loop) → c .before .loop .m * c .before .before .before .before .args .width ≤ c .before .loop .from
 row-room c = room (c .before .loop .inv) (c .loop-test .taken)
 
-start-in : (c : tie.In-loop Inv-loop μ-loop) → c .before .loop .from - c .before .loop .m * c .before .before .before .before .args .width ≤ length (c .before .loop .half)
+start-in : (c : tie.In-loop Inv-loop μ-loop)
+    → c .before .loop .from - c .before .loop .m * c .before .before .before .before .args .width ≤ length (c .before .loop .half)
 start-in c = lent-in (c .before .loop .inv) (c .loop-test .taken)
 
 two-to-requires : tie.Need-two-to-requires Inv-loop μ-loop

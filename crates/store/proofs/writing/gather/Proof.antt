@@ -18,18 +18,21 @@ abbrev μ-loop : tie.MeasureT-loop
 
 -- a turn that is taken: the level that it copies
 here : (c : tie.In-loop Inv-loop μ-loop)
-    → let a = c .before .before .before .before .before .args in GatherLoop (length (a .block .now) + 1) (a .log .now) (a .level) (a .half) (c .before .loop .log) (c .before .loop .at) (suc (c .before .loop .l - 1))
+    → let a = c .before .before .before .before .before .args in GatherLoop (length (a .block .now) + 1) (a .log .now) (a .level) (a .half)
+    (c .before .loop .log) (c .before .loop .at) (suc (c .before .loop .l - 1))
 here c =
     let e : c .before .loop .l ≡ suc (c .before .loop .l - 1) = omega arith in
     subst (GatherLoop _ _ _ _ _ _) e (c .before .loop .inv)
 
 -- the words of the half that it copies
 size-is : (c : tie.After-two-to Inv-loop μ-loop)
-    → let w = length (c .before .before .before .before .before .before .args .block .now) + 1 in c .two-to .result * w ≡ 2 ^ (c .before .before .loop .l - 1) * w
+    → let w = length (c .before .before .before .before .before .before .args .block .now) + 1 in c .two-to .result * w
+    ≡ 2 ^ (c .before .before .loop .l - 1) * w
 size-is c = ap (λ (n : ℕ). n * (length (c .before .before .before .before .before .before .args .block .now) + 1)) (c .two-to .ensures)
 
 -- the block's row ends within the log
-last-row : (c : tie.After-loop Inv-loop μ-loop) → c .before .loop .at + (length (c .before .before .before .before .before .args .block .now) + 1) ≤ length (c .before .loop .log)
+last-row : (c : tie.After-loop Inv-loop μ-loop)
+    → c .before .loop .at + (length (c .before .before .before .before .before .args .block .now) + 1) ≤ length (c .before .loop .log)
 last-row c =
     let w = length (c .before .before .before .before .before .args .block .now) + 1 in
     let e : c .before .loop .l ≡ 0 = omega arith in
@@ -92,7 +95,8 @@ returns c =
     let at-row = c .before .before in
     let at-end = at-row .before .before in
     let a = at-end .before .before .before .before .before .args in
-    at-row .put-row .ensures ∙ rw add-one at (gather-done (at-end .before .loop .inv) (at-end .loop-test .left) (scaled 65537 (a .g) (a .number ∷ a .block .now)))
+    at-row .put-row .ensures
+    ∙ rw add-one at (gather-done (at-end .before .loop .inv) (at-end .loop-test .left) (scaled 65537 (a .g) (a .number ∷ a .block .now)))
 
 pub gather-spec : {M : Type 1} → statement M
 gather-spec =

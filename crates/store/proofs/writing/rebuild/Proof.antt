@@ -17,7 +17,8 @@ use Rattle.store.specs.steps.Writing.{halfStart, gathered, folded}
 use Rattle.layout.proofs.Bounds.{Fits, fits}
 use Rattle.store.proofs.Folding.{length-folded}
 use Rattle.store.proofs.Gathering.{level-within}
-use Rattle.store.proofs.RebuiltLog.{Places, places, Halves, gathered-halves, words-gathered, lent-x, put-x, lent-y, put-y, front-long, place-in, length-log, cleared, scaled-one, rebuilt-half, finished}
+use Rattle.store.proofs.RebuiltLog.{Places, places, Halves, gathered-halves, words-gathered, lent-x, put-x, lent-y, put-y, front-long, place-in}
+use Rattle.store.proofs.RebuiltLog.{length-log, cleared, scaled-one, rebuilt-half, finished}
 use borrow.Author.Needs.{needs}
 use Rattle.store.proofs.writing.rebuild.Statement.{statement}
 use Rattle.store.proofs.writing.rebuild.Tie as tie
@@ -73,13 +74,15 @@ level-at c =
 -- the log once both halves are gathered
 gathered-at : (c : tie.After-half-at3) → let t = to-power (to-gather c) in
     let a = entry t .args in
-    Halves (width (a .header)) (a .level) (c .before .before .half-at .result) (c .before .half-at2 .result) (c .half-at3 .result) (a .log .now) (to-gather c .gather2 .last .0) (half (entry t) 0 1) (half (entry t) 1 (t .power .result))
+    Halves (width (a .header)) (a .level) (c .before .before .half-at .result) (c .before .half-at2 .result) (c .half-at3 .result) (a .log .now)
+    (to-gather c .gather2 .last .0) (half (entry t) 0 1) (half (entry t) 1 (t .power .result))
 gathered-at c =
     let c₂ = to-gather c in
     let t = to-power c₂ in
     let s = entry t in
     let e = s .pre .1 .0 .1 in
-    gathered-halves (s .args .log .now) (c₂ .before .before .before .before .gather .last .0) (c₂ .gather2 .last .0) (row s 1) (row s (t .power .result)) (level-at c) (place-in (level-at c) (room s))
+    gathered-halves (s .args .log .now) (c₂ .before .before .before .before .gather .last .0) (c₂ .gather2 .last .0) (row s 1) (row s (t .power .result))
+    (level-at c) (place-in (level-at c) (room s))
     (length-row s 1) (length-row s (t .power .result)) (rw e at (c₂ .before .before .before .before .gather .ensures)) (rw e at (c₂ .gather2 .ensures))
 
 -- the log once X is folded, and once Y is
@@ -93,7 +96,8 @@ x-at : (c : tie.After-fold) → let c₃ = to-half c in
     let a = entry t .args in
     let from = c₃ .before .before .half-at .result in
     let to = c₃ .before .half-at2 .result in
-    Halves (width (a .header)) (a .level) from to (c₃ .half-at3 .result) (a .log .now) (putMid from (to - from) (to-gather c₃ .gather2 .last .0) (c .fold .last .0)) (c .fold .last .0)
+    Halves (width (a .header)) (a .level) from to (c₃ .half-at3 .result) (a .log .now)
+    (putMid from (to - from) (to-gather c₃ .gather2 .last .0) (c .fold .last .0)) (c .fold .last .0)
     (half (entry t) 1 (t .power .result))
 x-at c =
     let h = gathered-at (to-half c) in
@@ -101,7 +105,8 @@ x-at c =
 
 folded-y : (c : tie.After-fold2) → let t = to-power (to-gather (to-half (to-fold c))) in
     let a = entry t .args in
-    c .fold2 .last .0 ≡ folded 65537 (t .before .before .before .root .result) (a .header .k) (width (a .header)) (a .level) (half (entry t) 1 (t .power .result))
+    c .fold2 .last .0 ≡ folded 65537 (t .before .before .before .root .result) (a .header .k) (width (a .header)) (a .level)
+    (half (entry t) 1 (t .power .result))
 folded-y c = (rw add-one at (c .fold2 .ensures)) ∙ ap (folded 65537 _ _ _ _) (lent-y (x-at (to-fold c)))
 
 y-at : (c : tie.After-fold2) → let c₃ = to-half (to-fold c) in
@@ -110,7 +115,8 @@ y-at : (c : tie.After-fold2) → let c₃ = to-half (to-fold c) in
     let middle = c₃ .before .half-at2 .result in
     let to = c₃ .half-at3 .result in
     let x = to-fold c .fold .last .0 in
-    Halves (width (a .header)) (a .level) from middle to (a .log .now) (putMid middle (to - middle) (putMid from (middle - from) (to-gather c₃ .gather2 .last .0) x) (c .fold2 .last .0)) x (c .fold2 .last .0)
+    Halves (width (a .header)) (a .level) from middle to (a .log .now)
+    (putMid middle (to - middle) (putMid from (middle - from) (to-gather c₃ .gather2 .last .0) x) (c .fold2 .last .0)) x (c .fold2 .last .0)
 y-at c =
     let h = x-at (to-fold c) in
     put-y h (ap length (folded-y c) ∙ length-folded 65537 _ _ _ _ _ (h .long-y))
@@ -238,7 +244,8 @@ returns c =
     cleared h (c₆ .clear .ensures)
     ∙ finished (a .header) (a .log .now) b (a .level) (h .at)
     (rebuilt-half (a .header) (a .log .now) b (a .level) (omega arith) f r (scaled-one 65537 (lit< tt) b (s .pre .1 .1)) (folded-x (to-fold c₅)))
-    (rebuilt-half (a .header) (a .log .now) b (a .level) (omega arith) f r (ap (λ (g : ℕ). scaled 65537 g b) (t .power .ensures ∙ ap₂ (power 65537) r (t .before .reversed .ensures))) (folded-y c₅))
+    (rebuilt-half (a .header) (a .log .now) b (a .level) (omega arith) f r
+    (ap (λ (g : ℕ). scaled 65537 g b) (t .power .ensures ∙ ap₂ (power 65537) r (t .before .reversed .ensures))) (folded-y c₅))
 
 pub rebuild-spec : {M : Type 1} → statement M
 rebuild-spec =

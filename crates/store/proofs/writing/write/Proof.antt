@@ -35,7 +35,8 @@ module _ (h : Header) (r f g : List ℕ) (i : ℕ) (b : List ℕ) where
       let u = writeLeaves h (buffers r f g) i b in
       (a ≡ writeAnswer h (buffers r f g) i b) × ((x ≡ u .raw) × ((y ≡ u .full) × (z ≡ u .log)))
 
-  left : {a : Written} {x y z : List ℕ} {u : Buffers} → a ≡ writeAnswer h (buffers r f g) i b → u ≡ writeLeaves h (buffers r f g) i b → x ≡ u .raw → y ≡ u .full → z ≡ u .log
+  left : {a : Written} {x y z : List ℕ} {u : Buffers} → a ≡ writeAnswer h (buffers r f g) i b → u ≡ writeLeaves h (buffers r f g) i b → x ≡ u .raw → y ≡ u .full
+      → z ≡ u .log
       → Answered a x y z
   left e q ex ey ez = (e, (ex ∙ ap (λ (v : Buffers). v .raw) q, (ey ∙ ap (λ (v : Buffers). v .full) q, ez ∙ ap (λ (v : Buffers). v .log) q)))
 
@@ -44,7 +45,8 @@ module _ (h : Header) (r f g : List ℕ) (i : ℕ) (b : List ℕ) where
       let d′ : writeNumber h (buffers r f g) i b ≡ 0 → ⊥ = λ z. d (e ∙ z) in
       left (ap₂ answer e (sym (if-refused (nextHeader h) h d′))) (sym (if-refused (written h (buffers r f g) i b) (buffers r f g) d′)) refl refl refl
 
-  made : {a : Written} {n : Header} {x y z : List ℕ} {u : Buffers} → writeNumber h (buffers r f g) i b ≡ 0 → (a .number ≡ 0) × (a .header ≡ n) → n ≡ nextHeader h
+  made : {a : Written} {n : Header} {x y z : List ℕ} {u : Buffers} → writeNumber h (buffers r f g) i b ≡ 0 → (a .number ≡ 0) × (a .header ≡ n)
+      → n ≡ nextHeader h
       → u ≡ written h (buffers r f g) i b → x ≡ u .raw → y ≡ u .full → z ≡ u .log → Answered a x y z
   made e t en eu =
       left (ap₂ answer (t .0 ∙ sym e) (t .1 ∙ en ∙ sym (if-taken (nextHeader h) h e))) (eu ∙ sym (if-taken (written h (buffers r f g) i b) (buffers r f g) e))
@@ -56,7 +58,8 @@ module _ (h : Header) (r f g : List ℕ) (i : ℕ) (b : List ℕ) where
       (rw (p, nextHeader), rw (p, written))
 
   other : (suc (h .c) ≡ count h → ⊥)
-      → (headerOf (h .k) (h .s) (suc (h .c)) ≡ nextHeader h) × (buffers (replaced (h .s) r i b) f (logWith h g (i ∷ b) (levelFor h)) ≡ written h (buffers r f g) i b)
+      → (headerOf (h .k) (h .s) (suc (h .c)) ≡ nextHeader h) ×
+      (buffers (replaced (h .s) r i b) f (logWith h g (i ∷ b) (levelFor h)) ≡ written h (buffers r f g) i b)
   other l =
       let p : lastOfRound h ≡ false = ne-eqb (suc (h .c)) (count h) l in
       (rw (p, nextHeader), rw (p, written))
@@ -78,7 +81,8 @@ entry c = start-at-write-number c
 abbrev to-else : tie.After-slice-known4 → tie.Else1
 to-else c = c .before .before .before .before .before .before
 
-number-zero : (c : tie.Else1) → let a = entry (c .before) .args in writeNumber (a .header) (buffers (a .raw .now) (a .full .now) (a .log .now)) (a .number) (a .block .now) ≡ 0
+number-zero : (c : tie.Else1) → let a = entry (c .before) .args in writeNumber (a .header) (buffers (a .raw .now) (a .full .now) (a .log .now)) (a .number)
+    (a .block .now) ≡ 0
 number-zero c = sym (c .before .write-number .ensures) ∙ c .if1 .left
 
 told : (c : tie.Else1) → let a = entry (c .before) .args in WriteTaken (a .header) (a .raw .now) (a .full .now) (a .log .now) (a .number) (a .block .now)
@@ -110,7 +114,8 @@ same-length-3 : tie.Need-same-length-3
 same-length-3 c = search needs
 
 returns : tie.Need-returns
-returns c = let a = entry (c .before) .args in refused (a .header) (a .raw .now) (a .full .now) (a .log .now) (a .number) (a .block .now) _ (c .before .write-number .ensures) (c .if1 .taken)
+returns c = let a = entry (c .before) .args in refused (a .header) (a .raw .now) (a .full .now) (a .log .now) (a .number) (a .block .now) _
+    (c .before .write-number .ensures) (c .if1 .taken)
 
 cast-k : tie.Need-cast-k
 cast-k c = search needs
@@ -162,7 +167,8 @@ returns-2 c =
     let e = to-else (c₂ .before .before) in
     let a = entry (e .before) .args in
     let k = c₂ .before .before .before .before .put-record .ensures in
-    let l = last (a .header) (a .raw .now) (a .full .now) (a .log .now) (a .number) (a .block .now) (sym (add-one (a .header .c)) ∙ c₂ .if2 .taken ∙ c₂ .before .two-to .ensures) in
+    let l = last (a .header) (a .raw .now) (a .full .now) (a .log .now) (a .number) (a .block .now) (sym (add-one (a .header .c)) ∙ c₂ .if2 .taken
+    ∙ c₂ .before .two-to .ensures) in
     made (a .header) (a .raw .now) (a .full .now) (a .log .now) (a .number) (a .block .now) (number-zero e) (c .taken .ensures) (l .0) (l .1) k
     (c₃ .build .ensures ∙ ap (fullStripe (a .header)) k) (c₄ .clear .ensures ∙ ap (λ (n : ℕ). replicate n 0) (told e .log-long))
 

@@ -48,7 +48,8 @@ returns c =
     let p = c .before in
     let a = entry p .args in
     p .buffers-number .ensures
-    ∙ held-refused (a .header) (lent p) (rest p) (λ e. first-false (eqb (length (a .block .now)) (a .header .s)) e) (λ z. c .if1 .taken (p .buffers-number .ensures ∙ z))
+    ∙ held-refused (a .header) (lent p) (rest p) (λ e. first-false (eqb (length (a .block .now)) (a .header .s)) e)
+    (λ z. c .if1 .taken (p .buffers-number .ensures ∙ z))
 
 cast-if2 : tie.Need-cast-if2
 cast-if2 c = search needs
@@ -74,13 +75,25 @@ returns-4 : tie.Need-returns-4
 unfolding refusal
 returns-4 c =
     let t = c .before .before in
-    rw (sized (t .before .before .before), ← t .before .two-to .ensures, lt-ltb _ _ (t .if3 .left), ← c .before .all-data .ensures, not-true (c .before .all-data .result) (c .if4 .taken))
+    rw (
+      sized (t .before .before .before),
+      ← t .before .two-to .ensures,
+      lt-ltb _ _ (t .if3 .left),
+      ← c .before .all-data .ensures,
+      not-true (c .before .all-data .result) (c .if4 .taken),
+    )
 
 returns-5 : tie.Need-returns-5
 unfolding refusal
 returns-5 c =
     let t = c .before .before in
-    rw (sized (t .before .before .before), ← t .before .two-to .ensures, lt-ltb _ _ (t .if3 .left), ← c .before .all-data .ensures, not-false (c .before .all-data .result) (c .if4 .left))
+    rw (
+      sized (t .before .before .before),
+      ← t .before .two-to .ensures,
+      lt-ltb _ _ (t .if3 .left),
+      ← c .before .all-data .ensures,
+      not-false (c .before .all-data .result) (c .if4 .left),
+    )
 
 pub write-number-spec : {M : Type 1} → statement M
 write-number-spec =

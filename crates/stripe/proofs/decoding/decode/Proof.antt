@@ -33,7 +33,8 @@ same-length-2 c = search needs
 returns : tie.Need-returns
 returns c =
     let a = start-at-decode-early (c .before) .args in
-    answers-refused (a .header) (a .image .now) (a .erasures .now) (a .stripe) (a .out .now) (a .scratch .now) (c .before .decode-early .ensures) (c .if1 .taken)
+    answers-refused (a .header) (a .image .now) (a .erasures .now) (a .stripe) (a .out .now) (a .scratch .now) (c .before .decode-early .ensures)
+    (c .if1 .taken)
 
 decode-stripe-requires : tie.Need-decode-stripe-requires
 decode-stripe-requires c κs =
@@ -52,7 +53,9 @@ returns-2 : tie.Need-returns-2
 returns-2 c =
     let a = start-at-decode-stripe (c .before .before .before .before) .args in
     let d = c .before .before .before .before .decode-stripe .ensures in
-    answers-taken (a .header) (a .image .now) (a .erasures .now) (a .stripe) (a .out .now) (a .scratch .now) (sym (decode-early-at-decode-stripe (c .before .before .before .before) .decode-early .ensures) ∙ else1-at-decode-stripe (c .before .before .before .before) .if1 .left) (d .0) (d .1 .0) (d .1 .1)
+    answers-taken (a .header) (a .image .now) (a .erasures .now) (a .stripe) (a .out .now) (a .scratch .now)
+    (sym (decode-early-at-decode-stripe (c .before .before .before .before) .decode-early .ensures)
+    ∙ else1-at-decode-stripe (c .before .before .before .before) .if1 .left) (d .0) (d .1 .0) (d .1 .1)
 
 pub decode-spec : {M : Type 1} → statement M
 decode-spec =

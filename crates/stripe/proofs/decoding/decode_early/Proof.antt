@@ -27,14 +27,16 @@ image-number-requires c κs = search needs
 
 -- tests 1 to 3
 number : (c : tie.After-image-number) → let a = c .before .before .before .before .before .before .args in
-    c .image-number .result ≡ refusal (imageTests (a .header) (a .image .now) (a .erasures .now) (width (a .header)) (length (a .out .now)) (length (a .scratch .now)) done)
+    c .image-number .result ≡ refusal (imageTests (a .header) (a .image .now) (a .erasures .now) (width (a .header)) (length (a .out .now))
+    (length (a .scratch .now)) done)
 number c = c .image-number .ensures ∙ rw add-one
 
 returns : tie.Need-returns
 returns c =
     let a = start-at-image-number (c .before) .args in
     let n = number (c .before) in
-    n ∙ sym (refused (a .header) (a .image .now) (a .erasures .now) (width (a .header)) (length (a .out .now)) (length (a .scratch .now)) (test (hasStripe (a .header) (a .stripe)) 6 done) (λ z. c .if1 .taken (n ∙ z)))
+    n ∙ sym (refused (a .header) (a .image .now) (a .erasures .now) (width (a .header)) (length (a .out .now)) (length (a .scratch .now))
+    (test (hasStripe (a .header) (a .stripe)) 6 done) (λ z. c .if1 .taken (n ∙ z)))
 
 has-stripe-requires : tie.Need-has-stripe-requires
 has-stripe-requires c κs =
@@ -49,7 +51,8 @@ unfolding refusal
 last c b e =
     let a = start-at-image-number (c .before .before) .args in
     let z = sym (number (c .before .before)) ∙ c .before .if1 .left in
-    sym (passed (a .header) (a .image .now) (a .erasures .now) (width (a .header)) (length (a .out .now)) (length (a .scratch .now)) (test (hasStripe (a .header) (a .stripe)) 6 done) z
+    sym (passed (a .header) (a .image .now) (a .erasures .now) (width (a .header)) (length (a .out .now)) (length (a .scratch .now))
+    (test (hasStripe (a .header) (a .stripe)) 6 done) z
     ∙ ap (λ (t : Bool). refusal (test t 6 done)) (sym (c .has-stripe .ensures) ∙ e))
 
 returns-2 : tie.Need-returns-2
