@@ -1,4 +1,4 @@
-//! `bench [--quick]`: the library beside the same algorithm in plain Rust, reference/, a copy of the image and par2. Prints tables for a README.
+//! `bench [--quick]`: the library beside the same algorithm in plain Rust, reference/, a copy of the image and par2. Prints the tables of docs/BENCHMARK.md.
 mod measure;
 mod par2;
 mod plain;

@@ -1,4 +1,4 @@
--- What the decoder's loops write, word by word, is what the steps of specs/Decoder do to each column. Assumes nothing.
+-- What the decoder's loops write, word by word, is what the steps of specs/steps/Decoder do to each column. Assumes nothing.
 use mathlib.Core.Path.{_≡_, refl, sym, ap, ap₂, _∙_}
 use mathlib.Core.Bool.{Bool, true, false}
 use mathlib.Core.List.{List, _++_}

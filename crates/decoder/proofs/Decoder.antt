@@ -1,4 +1,4 @@
--- The decoder's steps of specs/Decoder find the right column: what they find codes to all surviving words, and where a column does so they find it.
+-- The decoder's steps of specs/steps/Decoder find the right column: what they find codes to all surviving words, and where a column does so they find it.
 -- Assumes nothing.
 use mathlib.Core.Path.{_≡_, sym, ap, ap₂, _∙_}
 use mathlib.Core.Logic.{_≢_, ⊎-elim}

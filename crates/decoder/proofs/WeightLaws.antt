@@ -1,4 +1,4 @@
--- Laws of the decoder's weights (specs/Decoder): a weight by one position more, that weights are words of the field, and that none is 0. Assumes nothing.
+-- Laws of the decoder's weights (specs/steps/Decoder): a weight by one position more, that weights are words of the field, and that none is 0. Assumes nothing.
 use mathlib.Core.Path.{_≡_, refl, sym, _∙_}
 use mathlib.Core.Logic.{_≢_, ⊎-elim}
 use mathlib.Core.Bool.{Bool, true, false, _&&_, not}

@@ -1,4 +1,4 @@
-// Decoding of a range of columns of a stripe, in place, by the steps of specs/Decoder. The part holds the stripe's rows, X then Y, and then a weight
+// Decoding of a range of columns of a stripe, in place, by the steps of specs/steps/Decoder. The part holds the stripe's rows, X then Y, and then a weight
 // for each position.
 use code::Stripe;
 ghost use mathlib.Core.Path.{_≡_};
