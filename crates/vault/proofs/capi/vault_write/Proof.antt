@@ -19,7 +19,8 @@ same-length-3 c = search needs
 
 returns : tie.Need-returns
 returns c =
-    let e = c .before .before .before .before .before .before .before .write .ensures in
+    let lent = c .before .before .before in
+    let e = lent .before .before .before .before .write .ensures in
     (ap (λ (a : Written). a .number) (e .0), (ap (λ (a : Written). a .header .c) (e .0), e .1))
 
 pub vault-write-spec : {M : Type 1} → statement M
