@@ -10,7 +10,7 @@ use native.Mathlib.Numerals.{add-one}
 use native.Mathlib.Decide.{decLt}
 use native.Mathlib.Omega.{arith}
 use borrow.Rule.Slice.PartMut.{putMid}
-use lib.ListN.{length, getD, set, take, drop, replicate, take-append-drop, drop-of-length-le, length-replicate, getD-replicate, length-set, length-append}
+use lib.ListN.{length, getD, set, take, drop, replicate, drop-of-length-le, length-replicate, getD-replicate, length-set, length-append}
 use lib.ListN.{List·getD-append}
 use lib.Seq.{sets, sets-eq, length-sets, take-all, take-at, drop-at, set-comm, drop-length, getD-set-other, getD-append-add, length-take-le, ext-getD}
 use lib.Arith.{digits-div}
@@ -207,9 +207,6 @@ module _ (p base j : ℕ) (l : List ℕ) (i : ℕ) where
 pub record Parts (n : ℕ) (l a b : List ℕ) : Type 0 where
   pub is : l ≡ a ++ b
   pub long : length a ≡ n
-
-pub cut : (n : ℕ) (l : List ℕ) → n ≤ length l → Parts n l (take n l) (drop n l)
-cut n l h = record { is = sym (take-append-drop n l); long = length-take-le n l h }
 
 module _ {n : ℕ} {l a b : List ℕ} (h : Parts n l a b) where
   pub length-parts : length l ≡ n + length b
