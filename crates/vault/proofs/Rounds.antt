@@ -1,25 +1,26 @@
 -- GOOD ROUNDS: what every history keeps of a round. Laws of the entries written since, of their rows, and of putting them into the records.
 -- Assumes nothing.
 use mathlib.Core.Path.{_≡_, refl, sym, ap, _∙_}
-use mathlib.Core.Bool.{true, _&&_}
+use mathlib.Core.Bool.{true}
 use mathlib.Core.Logic.{⊎-elim}
 use mathlib.Core.List.{List, [], _∷_, _++_, append-assoc}
 use Prim.Native.Nat.{ℕ, zero, suc, _*_, _^_, _≤_, _<_, _-_, _+_}
 use native.Mathlib.Nat.{zero-mul, eq-or-lt-of-le, suc-le-suc-iff}
 use native.Mathlib.Omega.{arith}
-use lib.Dec.{lit<, ltb, leb}
+use lib.Dec.{lit<}
 use lib.ListN.{length, take, drop, length-append, length-drop, getD, List·getD-append}
 use lib.Seq.{length-take-le, getD-append-add, length-sets}
 use lib.Pow.{pow-mono}
-use borrow.Author.Tests.{leb-true, le-leb, lt-ltb}
+use borrow.Author.Tests.{le-leb, lt-ltb}
 use Rattle.field.specs.Words.{Words}
 use Rattle.field.proofs.WordLists.{words-nil, words-cons, words-append, words-sets}
 use Rattle.code.specs.Rows.{Column}
-use Rattle.field.proofs.Booleans.{both-true, first-true, second-true}
+use Rattle.field.proofs.Booleans.{both-true}
 use Rattle.layout.specs.Header.{headerOf, isIn, headerFits, isFilled, firstOf}
 use Rattle.layout.specs.Records.{replaced}
 use Rattle.store.specs.Buffers.{blocksOf}
 use Rattle.vault.specs.Round.{Entry, Round, putAll, beforeEach, rowsOf, recordsIn, roundHeader, levelEntries}
+use Rattle.layout.proofs.Bounds.{fits}
 use Rattle.layout.proofs.RecordWords.{field-words}
 use Rattle.store.proofs.StoredRecords.{length-blocks, words-blocks}
 use Rattle.vault.proofs.Levels.{filled-in}
@@ -40,15 +41,8 @@ sizes-fit k s c z b =
 
 pub fit-sizes : (k s c : ℕ) → headerFits (headerOf k s c) ≡ true → Sizes k s
 fit-sizes k s c e =
-    let e₁ : isIn 1 10 k ≡ true = first-true (isIn 1 10 k) (isIn 1 128 s && ltb c (2 ^ k)) e in
-    let e₂ : isIn 1 128 s ≡ true = first-true (isIn 1 128 s) (ltb c (2 ^ k)) (second-true (isIn 1 10 k) (isIn 1 128 s && ltb c (2 ^ k)) e) in
-    record { k-low = low 1 10 k e₁; k-high = high 1 10 k e₁; s-low = low 1 128 s e₂; s-high = high 1 128 s e₂ }
-  where
-    low : (a b x : ℕ) → isIn a b x ≡ true → a ≤ x
-    low a b x e = leb-true a x (first-true (leb a x) (leb x b) e)
-
-    high : (a b x : ℕ) → isIn a b x ≡ true → x ≤ b
-    high a b x e = leb-true x b (second-true (leb a x) (leb x b) e)
+    let f = fits (headerOf k s c) e in
+    record { k-low = f .k-low; k-high = f .k-high; s-low = f .s-low; s-high = f .s-high }
 
 -- a write that was taken: a record's number, and s data words
 pub record Taken (k s : ℕ) (x : Entry) : Type 0 where
