@@ -10,8 +10,7 @@ use native.Mathlib.Numerals.{add-one}
 use native.Mathlib.Decide.{decLt}
 use native.Mathlib.Omega.{arith}
 use borrow.Rule.Slice.PartMut.{putMid}
-use lib.ListN.{length, getD, set, take, drop, replicate, drop-of-length-le, length-replicate, getD-replicate, length-set, length-append}
-use lib.ListN.{List·getD-append}
+use lib.ListN.{length, getD, set, take, drop, replicate, drop-of-length-le, length-replicate, getD-replicate, length-set, length-append, List·getD-append}
 use lib.Seq.{sets, sets-eq, length-sets, take-all, take-at, drop-at, set-comm, drop-length, getD-set-other, getD-append-add, length-take-le, ext-getD}
 use lib.Arith.{digits-div}
 use lib.Dec.{eqb}

@@ -8,8 +8,7 @@ use lib.Seq.{take-at, drop-at}
 use Rattle.code.specs.declared.Stripe.{Stripe}
 use Rattle.code.specs.Stripe.{modulusOf, blockCount, positionCount}
 use Rattle.decoder.specs.Decoding.{blocksIn}
-use Rattle.decoder.specs.steps.Decoder.{leftOf}
-use Rattle.decoder.specs.steps.Decoder.{weightsIn}
+use Rattle.decoder.specs.steps.Decoder.{leftOf, weightsIn}
 use Rattle.decoder.proofs.DecodeRows.{leaves-blocks}
 use Rattle.image.specs.steps.Loading.{columnsOf}
 use Rattle.rows.specs.steps.Ready.{narrow}

@@ -1,11 +1,11 @@
 -- Laws of `Words` and `table` of specs/Words, over any modulus p > 0. Assumes nothing.
 use mathlib.Core.Path.{_≡_, refl, sym, ap, _∙_, subst}
 use mathlib.Core.List.{List, [], _∷_, _++_, map, append-nil}
-use Prim.Native.Nat.{ℕ, zero, suc, _+_, _-_, _<_}
+use Prim.Native.Nat.{ℕ, zero, suc, _+_, _-_, _≤_, _<_}
 use native.Mathlib.Decide.{decLt}
 use native.Mathlib.Omega.{arith}
 use lib.ListN.{length, getD, set, take, drop, replicate, length-append, List·getD-append}
-use lib.Seq.{sets, sets-eq, drop-length, getD-append-add, getD-drop, ext-getD}
+use lib.Seq.{sets, sets-eq, drop-length, getD-append-add, getD-drop, ext-getD, take-take}
 use Rattle.field.specs.Words.{Words, table}
 
 module _ (p : ℕ) (h : 0 < p) where
@@ -123,6 +123,13 @@ two-tables l n m f g long low high = ext-getD 0 l (table n f ++ table m g) (simp
         let e : n + (k - n) ≡ k = omega arith in
         let b′ : k - n < m = omega arith in
         subst (λ (j : ℕ). getD l j 0 ≡ getD (table n f ++ table m g) j 0) e (high (k - n) b′ ∙ sym (table-high n m f g (k - n) b′))
+
+-- a part that stands in the first m words
+pub part-inside : (from n m : ℕ) (l : List ℕ) → from + n ≤ m → take n (drop from (take m l)) ≡ take n (drop from l)
+part-inside zero n m l h = take-take n m l (omega arith)
+part-inside (suc from) n zero l h = absurd (omega arith)
+part-inside (suc from) n (suc m) [] h = refl
+part-inside (suc from) n (suc m) (x ∷ l) h = part-inside from n m l (omega arith)
 
 -- a table is one of its first elements and one of the rest
 pub table-append : (n m : ℕ) (f g : ℕ → ℕ) → ((i : ℕ) → i < m → g i ≡ f (n + i)) → table (n + m) f ≡ table n f ++ table m g

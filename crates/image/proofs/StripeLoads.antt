@@ -11,16 +11,15 @@ use lib.Arith.{digits-lt, digits-div, digits-mod}
 use lib.Dec.{ltb}
 use borrow.Author.Tests.{ltb-true, lt-ltb, le-ltb}
 use lib.ListN.{length, getD, take, drop, length-take, length-drop, take-append-drop, drop-of-length-le, List·getD-eq-default}
-use lib.Seq.{length-take-le, take-take, drop-drop, drop-cons, getD-take, getD-drop}
+use lib.Seq.{length-take-le, drop-drop, drop-cons, getD-take, getD-drop}
 use Rattle.field.specs.Words.{Words, table}
-use Rattle.field.proofs.WordLists.{words-nil, words-cons, words-table, length-table, getD-table, is-table}
+use Rattle.field.proofs.WordLists.{words-nil, words-cons, words-table, length-table, getD-table, is-table, part-inside}
 use Rattle.code.proofs.Lifting.{row-next, row-in}
 use Rattle.layout.specs.declared.Header.{Header}
 use Rattle.layout.specs.Header.{width, stripeSize, stripeAt}
 use Rattle.image.specs.Image.{numberOf, numberAt, wordAt, wordsOf}
 use Rattle.image.specs.Loading.{stripeIn, survivingAt, surviving, areBelow}
-use Rattle.image.specs.steps.Loading.{columnsWord, columnsOf}
-use Rattle.image.specs.steps.Loading.{rowWord}
+use Rattle.image.specs.steps.Loading.{columnsWord, columnsOf, rowWord}
 
 -- WORDS BELOW p
 below-append : (p : ℕ) (a b : List ℕ) → areBelow p (a ++ b) ≡ (areBelow p a && areBelow p b)
@@ -158,13 +157,6 @@ pub columns-words : (p width from cols n : ℕ) (r : List ℕ) → 0 < p → are
 unfolding columnsOf columnsWord
 columns-words p width from cols n r h e =
     let w = below-words p h r e in words-table p h (n * cols) (columnsWord width from cols r) (λ q b. w .word (q / cols * width + (from + q % cols)))
-
--- a part that stands in the first m words
-part-inside : (from n m : ℕ) (l : List ℕ) → from + n ≤ m → take n (drop from (take m l)) ≡ take n (drop from l)
-part-inside zero n m l h = take-take n m l (omega arith)
-part-inside (suc from) n zero l h = absurd (omega arith)
-part-inside (suc from) n (suc m) [] h = refl
-part-inside (suc from) n (suc m) (x ∷ l) h = part-inside from n m l (omega arith)
 
 pub stripe-long : (h : Header) (m : List ℕ) (l : ℕ) → 4 * stripeAt h l + 4 * stripeSize h l ≤ length m → length (stripeIn h m l) ≡ 4 * stripeSize h l
 stripe-long h m l fit = length-take-le (4 * stripeSize h l) (drop (4 * stripeAt h l) m) (rw length-drop (omega arith))

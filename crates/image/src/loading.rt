@@ -12,8 +12,7 @@ ghost use Rattle.code.specs.Stripe.{modulusOf, positionCount, stripeWords};
 ghost use Rattle.code.specs.steps.Storing.{stored};
 ghost use Rattle.layout.specs.Header.{headerFits, imageSize};
 ghost use Rattle.image.specs.Loading.{stripeIn, areBelow};
-ghost use Rattle.image.specs.steps.Loading.{rowsIn, columnsOf};
-ghost use Rattle.image.specs.steps.Loading.{rowWord};
+ghost use Rattle.image.specs.steps.Loading.{rowsIn, columnsOf, rowWord};
 
 // The bytes of a stripe, a part of the image.
 pub fn stripe_bytes<'a>(header: Header, image: &'a [u8], level: usize) -> &'a [u8]

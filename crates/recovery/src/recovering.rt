@@ -13,9 +13,8 @@ ghost use Rattle.rows.specs.Decoding.{blockNumber, decodedNumber, solved};
 ghost use Rattle.rows.specs.steps.Ready.{Ready};
 ghost use Rattle.stripe.specs.Decoding.{decodeStripe};
 ghost use Rattle.recovery.specs.Recovery.{laid, levelsOver, recover};
-ghost use Rattle.recovery.specs.steps.Laying.{laidFrom};
+ghost use Rattle.recovery.specs.steps.Laying.{laidFrom, RecoveryFits};
 ghost use Rattle.recovery.specs.RecoveryCall.{answerOf, recoveredWords, recoverAnswer, recoverLeaves, recoverScratch};
-ghost use Rattle.recovery.specs.steps.Laying.{RecoveryFits};
 
 // Lays blocks of s data words over the records, one after the other.
 fn lay(blocks: &[u32], s: usize, rows: usize, out: &mut [u32])

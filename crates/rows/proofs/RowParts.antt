@@ -15,8 +15,7 @@ use Rattle.field.proofs.WordLists.{length-table, words-append}
 use Rattle.code.specs.declared.Stripe.{Stripe}
 use Rattle.code.specs.Stripe.{modulusOf, positionCount, blockWords, stripeWords, Numbers}
 use Rattle.decoder.specs.Decoding.{pointAt, isConsistent, blocksIn}
-use Rattle.decoder.specs.steps.Decoder.{leftOf}
-use Rattle.decoder.specs.steps.Decoder.{weightAt, weightsIn}
+use Rattle.decoder.specs.steps.Decoder.{leftOf, weightAt, weightsIn}
 use Rattle.decoder.proofs.DecodeRows.{leaves-blocks, leaves-zeros}
 use Rattle.decoder.proofs.WeightLaws.{words-weights}
 use Rattle.image.specs.Loading.{areBelow}

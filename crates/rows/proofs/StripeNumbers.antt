@@ -17,9 +17,8 @@ use Rattle.layout.proofs.Bounds.{fits}
 use Rattle.layout.proofs.StripePlaces.{stripe-numbers}
 use Rattle.image.specs.Loading.{areBelow}
 use Rattle.rows.specs.Decoding.{Decoded, failed, decoded, areRecords, solved, decodeMarked}
-use Rattle.rows.specs.steps.Ready.{readyNumber}
+use Rattle.rows.specs.steps.Ready.{readyNumber, Ready}
 use Rattle.rows.specs.StripeFits.{StripeFits}
-use Rattle.rows.specs.steps.Ready.{Ready}
 
 -- 7 or 8 by its two tests
 abbrev sevenOr : (few below : Bool) → ℕ

@@ -6,13 +6,11 @@ ghost use Prim.Native.Nat.{_+_, _*_, _≤_};
 ghost use lib.ListN.{length, take, drop};
 ghost use Rattle.code.specs.Stripe.{positionCount, stripeWords};
 ghost use Rattle.decoder.specs.Decoding.{isConsistent};
-ghost use Rattle.decoder.specs.steps.Decoder.{leftOf};
-ghost use Rattle.decoder.specs.steps.Decoder.{weightsIn};
+ghost use Rattle.decoder.specs.steps.Decoder.{leftOf, weightsIn};
 ghost use Rattle.image.specs.steps.Loading.{rowsIn, columnsOf};
 ghost use Rattle.rows.specs.Decoding.{decodedNumber, decodedWords, solved};
-ghost use Rattle.rows.specs.steps.Ready.{readyNumber};
+ghost use Rattle.rows.specs.steps.Ready.{readyNumber, Ready, narrow};
 ghost use Rattle.rows.specs.StripeFits.{StripeFits};
-ghost use Rattle.rows.specs.steps.Ready.{Ready, narrow};
 
 // Tests 7 and 8.
 pub fn ready_number(st: Stripe, bytes: &[u8], marks: &[bool]) -> u32

@@ -1,10 +1,10 @@
--- Laws of stores: what stands before them, a part of a part, words copied modulo p. Assumes nothing.
+-- Laws of stores: what stands before them, words copied modulo p. Assumes nothing.
 use mathlib.Core.Path.{_≡_, refl, _∙_}
 use mathlib.Core.List.{List, [], _∷_}
 use Prim.Native.Nat.{ℕ, zero, suc, _+_, _%_, _≤_, _<_}
 use native.Mathlib.Omega.{arith}
 use lib.ListN.{length, getD, set, take, drop, length-drop}
-use lib.Seq.{sets, length-take-le, getD-take, getD-drop, take-set-le, take-take}
+use lib.Seq.{sets, length-take-le, getD-take, getD-drop, take-set-le}
 use Rattle.store.specs.Buffers.{reduced}
 use Rattle.store.proofs.StoredRecords.{length-reduced}
 
@@ -12,13 +12,6 @@ use Rattle.store.proofs.StoredRecords.{length-reduced}
 pub take-sets : (n : ℕ) (l : List ℕ) (at : ℕ) (ws : List ℕ) → n ≤ at → take n (sets l at ws) ≡ take n l
 take-sets n l at [] h = refl
 take-sets n l at (w ∷ ws) h = take-sets n (set l at w) (suc at) ws (omega arith) ∙ take-set-le n l at w h
-
--- a part that stands in the first m words
-pub part-inside : (from n m : ℕ) (l : List ℕ) → from + n ≤ m → take n (drop from (take m l)) ≡ take n (drop from l)
-part-inside zero n m l h = take-take n m l (omega arith)
-part-inside (suc from) n zero l h = absurd (omega arith)
-part-inside (suc from) n (suc m) [] h = refl
-part-inside (suc from) n (suc m) (x ∷ l) h = part-inside from n m l (omega arith)
 
 -- words that are copied modulo p
 module _ (p from n : ℕ) (l : List ℕ) (h : from + n ≤ length l) where

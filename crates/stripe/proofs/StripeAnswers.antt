@@ -19,9 +19,8 @@ use Rattle.image.specs.steps.Loading.{rowsIn}
 use Rattle.image.proofs.Marking.{length-flags}
 use Rattle.image.proofs.StripeLoads.{stripe-long}
 use Rattle.rows.specs.Decoding.{Decoded, failed, decodedNumber, decodedWords, solved}
-use Rattle.rows.specs.steps.Ready.{readyNumber}
+use Rattle.rows.specs.steps.Ready.{readyNumber, Ready}
 use Rattle.rows.specs.StripeFits.{StripeFits}
-use Rattle.rows.specs.steps.Ready.{Ready}
 use Rattle.rows.proofs.StripeNumbers.{ready, decoded-unready, is-solved, stripe-fits}
 use Rattle.columns.specs.steps.Ranges.{scratchWords}
 use Rattle.stripe.specs.Decoding.{decodeStripe}

@@ -5,8 +5,7 @@ use Prim.Native.Nat.{ℕ}
 use native.Mathlib.Omega.{arith}
 use borrow.Author.Needs.{needs}
 use Rattle.decoder.specs.Decoding.{isConsistent}
-use Rattle.decoder.specs.steps.Decoder.{leftOf}
-use Rattle.decoder.specs.steps.Decoder.{weightsIn}
+use Rattle.decoder.specs.steps.Decoder.{leftOf, weightsIn}
 use Rattle.image.specs.steps.Loading.{rowsIn}
 use Rattle.rows.specs.steps.Ready.{narrow}
 use Rattle.rows.proofs.RowParts.{columns, narrow-numbers, loaded-front, loaded-weights, loaded-long, loaded-words}
