@@ -1,0 +1,131 @@
+//! Calls made of the library and of reference/ side by side, which have to give and leave the same.
+use reference::header::Header as ReferenceHeader;
+use reference::{image, opening, recovery, writing};
+use vault_library::{calls, sizes, Header, Refusal, Vault};
+
+/// The same header for reference/, which has its own type so as to stand alone.
+pub fn reference_header(header: Header) -> ReferenceHeader {
+    let Header { k, s, c } = header;
+    ReferenceHeader { k, s, c }
+}
+
+/// A vault of the library's, and the buffers of one of reference/ that is given the same.
+pub struct Both {
+    library: Vault,
+    header: ReferenceHeader,
+    raw: Vec<u32>,
+    full: Vec<u32>,
+    log: Vec<u32>,
+}
+
+impl Both {
+    /// An opening, which both accept.
+    pub fn open(k: u32, s: u32, raw: Vec<u32>) -> Both {
+        let library = Vault::open(k, s, raw.clone()).expect("an opening");
+        let mut full = vec![0; sizes::full(k, s)];
+        let mut log = vec![0; sizes::log(k, s)];
+        let (refusal, header) = opening::open(k, s, &raw, &mut full, &mut log);
+        assert_eq!(refusal, 0);
+        Both {
+            library,
+            header,
+            raw,
+            full,
+            log,
+        }
+    }
+
+    /// An opening of zero records.
+    pub fn zeros(k: u32, s: u32) -> Both {
+        Both::open(k, s, vec![0; sizes::raw(k, s)])
+    }
+
+    /// A write, which both accept.
+    pub fn write(&mut self, record: u32, block: &[u32]) {
+        assert_eq!(self.library.write(record, block), Ok(()));
+        let (raw, full, log) = (&mut self.raw, &mut self.full, &mut self.log);
+        let (refusal, header) = writing::write(self.header, raw, full, log, record, block);
+        assert_eq!(refusal, 0);
+        self.header = header;
+    }
+
+    /// The header and the image that both have.
+    pub fn image(&self) -> (Header, Vec<u8>) {
+        let header = self.library.header();
+        assert_eq!(reference_header(header), self.header);
+        let ours = self.library.image().expect("an image");
+        let mut theirs = vec![0; self.header.image_len()];
+        let refusal = image::image(self.header, &self.full, &self.log, &mut theirs);
+        assert_eq!((refusal, &theirs), (0, &ours));
+        (header, ours)
+    }
+}
+
+/// What buffers hold before a call that stores to them: not zero, so that zeros afterwards are the call's.
+const BEFORE: u32 = 9;
+
+/// What a call gave and left.
+#[derive(Debug, PartialEq)]
+pub struct Left {
+    pub number: u32,
+    pub stripe: Option<u32>,
+    pub out: Vec<u32>,
+    scratch: Vec<u32>,
+}
+
+impl Left {
+    /// Makes a call over an output of this length and a scratch buffer; it gives its number, and the stripe that it names.
+    fn by<C>(header: Header, out: usize, call: C) -> Left
+    where
+        C: FnOnce(&mut [u32], &mut [u32]) -> (u32, Option<u32>),
+    {
+        let mut out = vec![BEFORE; out];
+        let mut scratch = vec![BEFORE; sizes::scratch(header.k, header.s)];
+        let (number, stripe) = call(&mut out, &mut scratch);
+        Left {
+            number,
+            stripe,
+            out,
+            scratch,
+        }
+    }
+
+    /// What both left, with the buffers as section 10 has them.
+    fn of_both(ours: Left, theirs: Left) -> Left {
+        assert_eq!(ours, theirs, "the library's, and that of reference/");
+        let unchanged = (1..=6).contains(&ours.number);
+        let word = if unchanged { BEFORE } else { 0 };
+        assert!(ours.scratch.iter().all(|&x| x == word));
+        assert!(ours.number == 0 || ours.out.iter().all(|&x| x == word));
+        ours
+    }
+}
+
+/// Recovery.
+pub fn recover(header: Header, image: &[u8], list: &[u8]) -> Left {
+    let (length, plain) = (sizes::raw(header.k, header.s), reference_header(header));
+    let ours = Left::by(header, length, |out, scratch| {
+        match calls::recover(header, image, list, out, scratch) {
+            Ok(()) => (0, None),
+            Err(fault) => (fault.refusal.number(), fault.stripe),
+        }
+    });
+    let theirs = Left::by(header, length, |out, scratch| {
+        recovery::recover(plain, image, list, out, scratch)
+    });
+    Left::of_both(ours, theirs)
+}
+
+/// Decoding of one stripe.
+pub fn decode_stripe(header: Header, image: &[u8], list: &[u8], stripe: u32) -> Left {
+    let (length, plain) = (sizes::blocks(header.k, header.s), reference_header(header));
+    let ours = Left::by(header, length, |out, scratch| {
+        let answer = calls::decode(header, image, list, stripe, out, scratch);
+        (answer.map_or_else(Refusal::number, |()| 0), None)
+    });
+    let theirs = Left::by(header, length, |out, scratch| {
+        let number = recovery::decode_stripe(plain, image, list, stripe, out, scratch);
+        (number, None)
+    });
+    Left::of_both(ours, theirs)
+}
