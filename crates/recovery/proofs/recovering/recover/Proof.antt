@@ -12,38 +12,11 @@ use Rattle.recovery.proofs.recovering.recover.Tie as tie
 abbrev start-at-image-number : tie.After-image-number → tie.Start
 start-at-image-number c = c .before .before .before .before .before .before
 
-abbrev start-at-recover-all : tie.After-recover-all → tie.Start
-start-at-recover-all c = start-at-image-number (c .before .before .before .before)
-
 abbrev image-number-at-recover-all : tie.After-recover-all → tie.After-image-number
 image-number-at-recover-all c = c .before .before .before .before
 
-abbrev else1-at-recover-all : tie.After-recover-all → tie.Else1
-else1-at-recover-all c = c .before .before .before
-
-abbrev start-at-clear : tie.After-clear → tie.Start
-start-at-clear c = start-at-recover-all (c .before .before .before .before .before .before)
-
-abbrev image-number-at-clear : tie.After-clear → tie.After-image-number
-image-number-at-clear c = image-number-at-recover-all (c .before .before .before .before .before .before)
-
-abbrev else1-at-clear : tie.After-clear → tie.Else1
-else1-at-clear c = else1-at-recover-all (c .before .before .before .before .before .before)
-
 abbrev recover-all-at-clear : tie.After-clear → tie.After-recover-all
 recover-all-at-clear c = c .before .before .before .before .before .before
-
-abbrev start-at-clear2 : tie.After-clear2 → tie.Start
-start-at-clear2 c = start-at-clear (c .before .before .before .before .before .before)
-
-abbrev image-number-at-clear2 : tie.After-clear2 → tie.After-image-number
-image-number-at-clear2 c = image-number-at-clear (c .before .before .before .before .before .before)
-
-abbrev else1-at-clear2 : tie.After-clear2 → tie.Else1
-else1-at-clear2 c = else1-at-clear (c .before .before .before .before .before .before)
-
-abbrev recover-all-at-clear2 : tie.After-clear2 → tie.After-recover-all
-recover-all-at-clear2 c = recover-all-at-clear (c .before .before .before .before .before .before)
 
 abbrev clear-at-clear2 : tie.After-clear2 → tie.After-clear
 clear-at-clear2 c = c .before .before .before .before .before .before
@@ -60,10 +33,11 @@ returns c =
     answers-refused (a .header) (a .image .now) (a .erasures .now) (a .out .now) (a .scratch .now) (c .before .image-number .ensures) (c .if1 .taken)
 
 -- the sizes, where no test applies
-sizes : (c : tie.After-image-number) → c .image-number .result ≡ 0 → let a = c .before .before .before .before .before .before .args in
+sizes : (c : tie.After-image-number) → c .image-number .result ≡ 0 → let a = start-at-image-number c .args in
     Lent (a .header) (a .image .now) (a .erasures .now) (a .header .s) (length (a .out .now)) (length (a .scratch .now))
-sizes c z = let a = c .before .before .before .before .before .before .args in lent (a .header) (a .image .now) (a .erasures .now) (a .header .s)
-    (length (a .out .now)) (length (a .scratch .now)) (sym (c .image-number .ensures) ∙ z)
+sizes c z =
+    let a = start-at-image-number c .args in
+    lent (a .header) (a .image .now) (a .erasures .now) (a .header .s) (length (a .out .now)) (length (a .scratch .now)) (sym (c .image-number .ensures) ∙ z)
 
 recover-all-requires : tie.Need-recover-all-requires
 recover-all-requires c κs =
@@ -84,13 +58,16 @@ same-length-2 c = search needs
 
 returns-2 : tie.Need-returns-2
 returns-2 c =
-    let a = start-at-clear2 (c .before .before) .args in
-    let L = sizes (image-number-at-clear2 (c .before .before)) (else1-at-clear2 (c .before .before) .if1 .left) in
-    let r = recover-all-at-clear2 (c .before .before) .recover-all in
-    answers-stopped (a .header) (a .image .now) (a .erasures .now) (a .out .now) (a .scratch .now)
-    (sym (image-number-at-clear2 (c .before .before) .image-number .ensures) ∙ else1-at-clear2 (c .before .before) .if1 .left) (r .ensures .0)
-    (clear-at-clear2 (c .before .before) .clear .ensures ∙ ap (λ (n : ℕ). replicate n 0) (r .kept .1 .1 .1 .1 .0 ∙ L .room))
-    (c .before .before .before .before .if2 .taken) (c .before .before .clear2 .ensures ∙ ap (λ (n : ℕ). replicate n 0) (r .kept .1 .1 .1 .0 ∙ L .output))
+    let cleared = clear-at-clear2 (c .before .before) in
+    let all = recover-all-at-clear cleared in
+    let number = image-number-at-recover-all all in
+    let none = all .before .before .before .if1 .left in
+    let L = sizes number none in
+    let a = start-at-image-number number .args in
+    let r = all .recover-all in
+    answers-stopped (a .header) (a .image .now) (a .erasures .now) (a .out .now) (a .scratch .now) (sym (number .image-number .ensures) ∙ none) (r .ensures .0)
+    (cleared .clear .ensures ∙ ap (λ (n : ℕ). replicate n 0) (r .kept .1 .1 .1 .1 .0 ∙ L .room)) (c .before .before .before .before .if2 .taken)
+    (c .before .before .clear2 .ensures ∙ ap (λ (n : ℕ). replicate n 0) (r .kept .1 .1 .1 .0 ∙ L .output))
 
 same-length-3 : tie.Need-same-length-3
 same-length-3 c = search needs
@@ -100,13 +77,15 @@ same-length-4 c = search needs
 
 returns-3 : tie.Need-returns-3
 returns-3 c =
-    let a = start-at-clear (c .before .before .before .before) .args in
-    let L = sizes (image-number-at-clear (c .before .before .before .before)) (else1-at-clear (c .before .before .before .before) .if1 .left) in
-    let r = recover-all-at-clear (c .before .before .before .before) .recover-all in
-    answers-recovered (a .header) (a .image .now) (a .erasures .now) (a .out .now) (a .scratch .now)
-    (sym (image-number-at-clear (c .before .before .before .before) .image-number .ensures) ∙ else1-at-clear (c .before .before .before .before) .if1 .left)
-    (r .ensures .0) (c .before .before .before .before .clear .ensures ∙ ap (λ (n : ℕ). replicate n 0) (r .kept .1 .1 .1 .1 .0 ∙ L .room)) (c .if2 .left)
-    (r .ensures .1)
+    let cleared = c .before .before .before .before in
+    let all = recover-all-at-clear cleared in
+    let number = image-number-at-recover-all all in
+    let none = all .before .before .before .if1 .left in
+    let L = sizes number none in
+    let a = start-at-image-number number .args in
+    let r = all .recover-all in
+    answers-recovered (a .header) (a .image .now) (a .erasures .now) (a .out .now) (a .scratch .now) (sym (number .image-number .ensures) ∙ none) (r .ensures .0)
+    (cleared .clear .ensures ∙ ap (λ (n : ℕ). replicate n 0) (r .kept .1 .1 .1 .1 .0 ∙ L .room)) (c .if2 .left) (r .ensures .1)
 
 pub recover-spec : {M : Type 1} → statement M
 recover-spec =
