@@ -84,8 +84,8 @@ returns-3 c =
     let L = sizes number none in
     let a = start-at-image-number number .args in
     let r = all .recover-all in
-    answers-recovered (a .header) (a .image .now) (a .erasures .now) (a .out .now) (a .scratch .now) (sym (number .image-number .ensures)
-    ∙ none) (r .ensures .0)
+    answers-recovered (a .header) (a .image .now) (a .erasures .now) (a .out .now) (a .scratch .now)
+    (sym (number .image-number .ensures) ∙ none) (r .ensures .0)
     (cleared .clear .ensures ∙ ap (λ (n : ℕ). replicate n 0) (r .kept .1 .1 .1 .1 .0 ∙ L .room)) (c .if2 .left) (r .ensures .1)
 
 pub recover-spec : {M : Type 1} → statement M
