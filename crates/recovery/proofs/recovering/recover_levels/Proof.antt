@@ -25,26 +25,11 @@ abbrev μ-loop : tie.MeasureT-loop
 abbrev start-at-loop : tie.At-loop Inv-loop μ-loop → tie.Start Inv-loop μ-loop
 start-at-loop c = c .before .before .before .before .before .before
 
-abbrev start-at-is-filled : tie.After-is-filled Inv-loop μ-loop → tie.Start Inv-loop μ-loop
-start-at-is-filled c = start-at-loop (c .before .before)
-
-abbrev loop-at-is-filled : tie.After-is-filled Inv-loop μ-loop → tie.At-loop Inv-loop μ-loop
-loop-at-is-filled c = c .before .before
-
-abbrev start-at-out : tie.After-out Inv-loop μ-loop → tie.Start Inv-loop μ-loop
-start-at-out c = start-at-is-filled (c .before .before .before .before .before)
-
-abbrev loop-at-out : tie.After-out Inv-loop μ-loop → tie.At-loop Inv-loop μ-loop
-loop-at-out c = loop-at-is-filled (c .before .before .before .before .before)
-
-abbrev in-loop-at-out : tie.After-out Inv-loop μ-loop → tie.In-loop Inv-loop μ-loop
-in-loop-at-out c = c .before .before .before .before .before .before
-
 abbrev is-filled-at-out : tie.After-out Inv-loop μ-loop → tie.After-is-filled Inv-loop μ-loop
 is-filled-at-out c = c .before .before .before .before .before
 
-abbrev then1-at-out : tie.After-out Inv-loop μ-loop → tie.Then1 Inv-loop μ-loop
-then1-at-out c = c .before .before .before .before
+abbrev loop-at-out : tie.After-out Inv-loop μ-loop → tie.At-loop Inv-loop μ-loop
+loop-at-out c = is-filled-at-out c .before .before
 
 cast-level : tie.Need-cast-level Inv-loop μ-loop
 cast-level c = search needs
@@ -63,11 +48,11 @@ is-filled-requires c κs =
 
 recover-level-requires : tie.Need-recover-level-requires Inv-loop μ-loop
 recover-level-requires c κs =
-    let s = start-at-is-filled (c .before .before .before) in
-    let i = c .before .before .before .before .before .loop .inv in
-    let t = c .before .before .before .before .loop-test .taken in (
+    let turn = c .before .before .before .before in
+    let s = start-at-loop (turn .before) in
+    let i = turn .before .loop .inv in (
       record { fits = s .pre .fits; image = s .pre .image; output = i .0 ∙ s .pre .output; room = i .1 ∙ s .pre .room },
-      omega (arith, i .2 .within, t),
+      omega (arith, i .2 .within, turn .loop-test .taken),
     )
 
 cast-t15 : tie.Need-cast-t15 Inv-loop μ-loop
@@ -85,9 +70,10 @@ same-length-2 c =
 
 returns : tie.Need-returns Inv-loop μ-loop
 returns c =
-    let e = levels-stop (loop-at-out (c .before .before .before .before) .loop .inv .2) (in-loop-at-out (c .before .before .before .before) .loop-test .taken)
-    (sym (is-filled-at-out (c .before .before .before .before) .is-filled .ensures) ∙ then1-at-out (c .before .before .before .before) .if1 .taken)
-    (c .before .before .before .before .before .recover-level .ensures .0) (c .if2 .taken) in
+    let out = c .before .before .before .before in
+    let filled = is-filled-at-out out in
+    let f = sym (filled .is-filled .ensures) ∙ out .before .before .before .before .if1 .taken in
+    let e = levels-stop (loop-at-out out .loop .inv .2) (filled .before .loop-test .taken) f (out .before .recover-level .ensures .0) (c .if2 .taken) in
     (sym (ap answerOf e), λ z. absurd (c .if2 .taken z))
 
 loop-less : tie.Need-loop-less Inv-loop μ-loop
@@ -95,14 +81,16 @@ loop-less c = omega arith
 
 loop-again : tie.Need-loop-again Inv-loop μ-loop
 loop-again c =
-    let i = loop-at-out (c .before .before .before .before) .loop .inv in
-    let a = start-at-out (c .before .before .before .before) .args in
-    let d = c .before .before .before .before .before .recover-level in (
+    let out = c .before .before .before .before in
+    let filled = is-filled-at-out out in
+    let f = sym (filled .is-filled .ensures) ∙ out .before .before .before .before .if1 .taken in
+    let i = loop-at-out out .loop .inv in
+    let a = start-at-loop (loop-at-out out) .args in
+    let d = out .before .recover-level in
+    let s = sound (a .header) (a .image .now) (erasuresIn (a .erasures .now)) _ in (
       d .kept .1 .1 .1 .1 .0 ∙ i .0,
       d .kept .1 .1 .1 .1 .1 .0 ∙ i .1,
-      levels-lay (i .2) (in-loop-at-out (c .before .before .before .before) .loop-test .taken)
-          (sym (is-filled-at-out (c .before .before .before .before) .is-filled .ensures) ∙ then1-at-out (c .before .before .before .before) .if1 .taken)
-          (d .ensures .0) (sound (a .header) (a .image .now) (erasuresIn (a .erasures .now)) _) (c .if2 .left) (d .ensures .1),
+      levels-lay (i .2) (filled .before .loop-test .taken) f (d .ensures .0) s (c .if2 .left) (d .ensures .1),
     )
 
 loop-less-2 : tie.Need-loop-less-2 Inv-loop μ-loop

@@ -6,20 +6,11 @@ use Rattle.stripe.proofs.decoding.decode.Statement.{statement}
 use Rattle.stripe.proofs.decoding.decode.Tie as tie
 
 -- PLACES: `x-at-y c` is the place x that stands before y
-abbrev start-at-shared-slice-known2 : tie.After-shared-slice-known2 → tie.Start
-start-at-shared-slice-known2 c = c .before .before
-
 abbrev start-at-decode-early : tie.After-decode-early → tie.Start
-start-at-decode-early c = start-at-shared-slice-known2 (c .before .before .before .before .before)
-
-abbrev start-at-decode-stripe : tie.After-decode-stripe → tie.Start
-start-at-decode-stripe c = start-at-decode-early (c .before .before .before .before)
+start-at-decode-early c = c .before .before .before .before .before .before .before
 
 abbrev decode-early-at-decode-stripe : tie.After-decode-stripe → tie.After-decode-early
 decode-early-at-decode-stripe c = c .before .before .before .before
-
-abbrev else1-at-decode-stripe : tie.After-decode-stripe → tie.Else1
-else1-at-decode-stripe c = c .before .before .before
 
 decode-early-requires : tie.Need-decode-early-requires
 decode-early-requires c κs = search needs
@@ -51,11 +42,12 @@ same-length-4 c = search needs
 
 returns-2 : tie.Need-returns-2
 returns-2 c =
-    let a = start-at-decode-stripe (c .before .before .before .before) .args in
-    let d = c .before .before .before .before .decode-stripe .ensures in
+    let decoded = c .before .before .before .before in
+    let early = decode-early-at-decode-stripe decoded in
+    let a = start-at-decode-early early .args in
+    let d = decoded .decode-stripe .ensures in
     answers-taken (a .header) (a .image .now) (a .erasures .now) (a .stripe) (a .out .now) (a .scratch .now)
-    (sym (decode-early-at-decode-stripe (c .before .before .before .before) .decode-early .ensures)
-    ∙ else1-at-decode-stripe (c .before .before .before .before) .if1 .left) (d .0) (d .1 .0) (d .1 .1)
+    (sym (early .decode-early .ensures) ∙ decoded .before .before .before .if1 .left) (d .0) (d .1 .0) (d .1 .1)
 
 pub decode-spec : {M : Type 1} → statement M
 decode-spec =
