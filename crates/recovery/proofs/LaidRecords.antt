@@ -27,7 +27,7 @@ use Rattle.columns.specs.steps.Full.{dataOf, decodedData}
 use Rattle.stripe.proofs.LevelParts.{lent-front, scratch-in, level-needs}
 use Rattle.columns.proofs.FullNumbers.{data-row, records-full}
 use Rattle.recovery.specs.Recovery.{laid}
-use Rattle.recovery.specs.steps.Laying.{laidFrom}
+use Rattle.recovery.specs.steps.Laying.{laidFrom, NumbersInside}
 
 -- WHAT A STRIPE THAT GIVES 0 CAME TO: blocks that are records
 pub solved-zero : (st : Stripe) (ms : List Bool) (r : List ℕ) → decodedNumber (solved st ms r) ≡ 0
@@ -53,26 +53,21 @@ module _ (st : Stripe) (ms : List Bool) (r : List ℕ) {n : ℕ} (d : n ≡ deco
         ∙ take-at bs (replicate (size - length bs) 0) (blockWords st) (length-blocks st ms r))
 
     -- each block's record lies inside
-    pub level-inside : st .level < st .k → {size : ℕ} → size ≡ 2 ^ st .k * pred (st .width) → (j : ℕ) → j < b
-        → suc (blockNumber (suc (st .width - 1)) (take (b * st .width) x) j) * (st .width - 1) ≤ size
-    level-inside w es j i =
-        let t : j < blockCount st = omega (arith, e, i) in
-        let s : suc (st .width - 1) ≡ st .width = omega (arith, f .thick) in
-        let p : pred (st .width) ≡ st .width - 1 = omega (arith, f .thick) in
-        let at = record-at st (blocksIn st ms r) (blockCount st) (solved-zero st ms r (sym d ∙ z) .1) j t in
-        rw (level-front, s, es, p) (mul-le-mul-right (st .width - 1) (number-low st (blocksIn st ms r) j w at))
+    pub level-inside : st .level < st .k → (row : ℕ) (o : List ℕ) → length o ≡ 2 ^ st .k * row → NumbersInside st row (take (b * st .width) x) o
+    level-inside w row o es = record {
+      inside = λ j i.
+          let at = record-at st (blocksIn st ms r) (blockCount st) (solved-zero st ms r (sym d ∙ z) .1) j i in
+          rw (level-front, es) (mul-le-mul-right row (number-low st (blocksIn st ms r) j w at));
+    }
 
-    pub level-laid : (o : List ℕ) {o′ : List ℕ} → o′ ≡ laid (st .width - 1) (take (b * st .width) x) b o
-        → o′ ≡ laidFrom (pred (st .width)) (solved st ms r) (blockCount st) o
-    level-laid o ql =
-        let p : st .width - 1 ≡ pred (st .width) = omega (arith, f .thick) in
-        ql ∙ rw (level-front, e, p) (sym (ap (λ (y : Decoded). laidFrom (pred (st .width)) y (blockCount st) o) (solved-zero st ms r (sym d ∙ z) .0)))
+    pub level-laid : (g : List ℕ → List ℕ → List ℕ) (o : List ℕ) {o′ : List ℕ} → o′ ≡ g (take (b * st .width) x) o → o′ ≡ laidFrom g (solved st ms r) o
+    level-laid g o ql = ql ∙ rw level-front (sym (ap (λ (y : Decoded). laidFrom g y o) (solved-zero st ms r (sym d ∙ z) .0)))
 
-  -- a level that fails leaves the records
-  pub level-kept : (o : List ℕ) → (n ≡ 0 → ⊥) → o ≡ laidFrom (pred (st .width)) (solved st ms r) (blockCount st) o
-  level-kept o z = by (solved st ms r) (λ y. z (d ∙ y))
+  -- a level that fails leaves the words
+  pub level-kept : (g : List ℕ → List ℕ → List ℕ) (o : List ℕ) → (n ≡ 0 → ⊥) → o ≡ laidFrom g (solved st ms r) o
+  level-kept g o z = by (solved st ms r) (λ y. z (d ∙ y))
     where
-      by : (x : Decoded) → (decodedNumber x ≡ 0 → ⊥) → o ≡ laidFrom (pred (st .width)) x (blockCount st) o
+      by : (x : Decoded) → (decodedNumber x ≡ 0 → ⊥) → o ≡ laidFrom g x o
       by (failed n) y = refl
       by (decoded bs) y = absurd (y refl)
 
@@ -82,8 +77,8 @@ module _ (st : Stripe) (w : st .level < st .k) {b : ℕ} (e : b ≡ blockCount s
   pub lent-is : b * st .width ≡ length (take (b * st .width) x)
   lent-is = sym (length-take-le (b * st .width) x (scratch-in st w e en k))
 
-  pub lent-long : StripeFits st → length (take (b * st .width) x) ≡ b * suc (st .width - 1)
-  lent-long f = sym lent-is ∙ ap (λ (m : ℕ). b * m) {x = st .width} {y = suc (st .width - 1)} (omega (arith, f .thick))
+  pub lent-long : length (take (b * st .width) x) ≡ blockWords st
+  lent-long = sym lent-is ∙ ap (λ (m : ℕ). m * st .width) e
 
 pub is-zero : {n m : ℕ} → n ≡ 0 → n ≡ m → 0 ≡ m
 is-zero z e = sym z ∙ e
@@ -130,9 +125,9 @@ module _ (st : Stripe) (full : st .level ≡ st .k) (thick : 0 < st .width) (bs 
       ∙ ap (λ (y : List ℕ). columnsOf w 1 s n bs ++ y) (drop-of-length-le (replicate (n * s) 0) {i = n * s} (omega arith)) ∙ append-nil (columnsOf w 1 s n bs))
 
 pub data-laid : (st : Stripe) (ms : List Bool) (r : List ℕ) → st .level ≡ st .k → 0 < st .width → {o : List ℕ} → o ≡ decodedData st (solved st ms r)
-    → decodedNumber (solved st ms r) ≡ 0
-    → o ≡ laidFrom (pred (st .width)) (solved st ms r) (blockCount st) (replicate (blockCount st * pred (st .width)) 0)
-data-laid st ms r full thick q z =
+    → decodedNumber (solved st ms r) ≡ 0 → (o₀ : List ℕ)
+    → o ≡ laidFrom (λ bs _. laid (pred (st .width)) bs (blockCount st) (replicate (blockCount st * pred (st .width)) 0)) (solved st ms r) o₀
+data-laid st ms r full thick q z o₀ =
     let e = solved-zero st ms r z in
     q ∙ ap (decodedData st) (e .0) ∙ full-laid st full thick (blocksIn st ms r) (omega (arith, length-blocks st ms r)) (e .1)
-    ∙ sym (ap (λ (x : Decoded). laidFrom (pred (st .width)) x (blockCount st) (replicate (blockCount st * pred (st .width)) 0)) (e .0))
+    ∙ sym (ap (λ (x : Decoded). laidFrom (λ bs _. laid (pred (st .width)) bs (blockCount st) (replicate (blockCount st * pred (st .width)) 0)) x o₀) (e .0))

@@ -1,52 +1,48 @@
--- The full stripe's records and a level's blocks, as the steps that work with a stripe's numbers, marks and bytes leave them. Assumes nothing.
+-- What the full stripe gives and what a level's blocks lay, as the steps that work with a stripe's numbers, marks and bytes leave them. Assumes nothing.
 use mathlib.Core.Path.{_≡_, refl, sym, ap, _∙_}
-use mathlib.Core.Bool.{Bool, true}
+use mathlib.Core.Bool.{Bool, true, false}
 use mathlib.Core.List.{List}
-use Prim.Native.Nat.{ℕ, pred, _*_, _^_, _≤_}
+use Prim.Native.Nat.{ℕ, pred, _*_, _^_}
 use native.Mathlib.Omega.{arith}
 use lib.ListN.{replicate}
 use Rattle.code.specs.declared.Stripe.{Stripe}
 use Rattle.code.specs.Stripe.{blockCount}
 use Rattle.layout.specs.declared.Header.{Header}
-use Rattle.layout.specs.Header.{headerFits, rawSize, stripeOf}
+use Rattle.layout.specs.Header.{headerFits, stripeOf}
 use Rattle.image.specs.Erasures.{Erasure, marksOf}
 use Rattle.image.specs.Loading.{stripeIn}
 use Rattle.image.specs.steps.Loading.{rowsIn}
-use Rattle.rows.specs.Decoding.{Decoded, decodedNumber, solved}
+use Rattle.rows.specs.Decoding.{Decoded, failed, decoded, decodedNumber, solved}
 use Rattle.columns.specs.steps.Full.{decodedData}
 use Rattle.stripe.specs.Decoding.{decodeStripe}
-use Rattle.stripe.proofs.StripeAnswers.{handed-needs, readyOf, unready-is, same-solved, numbers-fit, is-full}
-use Rattle.recovery.specs.steps.Laying.{laidFrom}
+use Rattle.stripe.proofs.StripeAnswers.{handed-needs, readyOf, unready-is, same-solved, solved-number, numbers-fit, is-full}
+use Rattle.recovery.specs.Recovery.{laid}
+use Rattle.recovery.specs.Explaining.{pairsTo, fullOrigins}
+use Rattle.recovery.specs.steps.Laying.{laidFrom, layerOf, layBlocks, laidSize, rowOf}
 use Rattle.decoder.specs.Decoding.{blocksIn}
 use Rattle.recovery.proofs.LaidRecords.{data-laid}
 use Rattle.recovery.proofs.LevelsRecovery.{Sound, decoded-is}
 
-module _ (h : Header) (l : ℕ) {st : Stripe} (e : st ≡ stripeOf h l) {n : ℕ} (o : n ≡ rawSize h) where
-  pub full-raw : l ≡ h .k → n ≡ blockCount st * pred (st .width)
-  full-raw f = o ∙ rw (e, f)
+-- the output's size in the stripe's words
+module _ (h : Header) (l : ℕ) {st : Stripe} (e : st ≡ stripeOf h l) {n : ℕ} (b : Bool) (o : n ≡ laidSize b h) where
+  pub full-data-size : b ≡ false → l ≡ h .k → n ≡ blockCount st * pred (st .width)
+  full-data-size t f = o ∙ ap (λ (x : Bool). laidSize x h) t ∙ rw (e, f)
 
-  pub level-raw : n ≡ 2 ^ st .k * pred (st .width)
-  level-raw = o ∙ rw e
+  pub full-origins-size : b ≡ true → l ≡ h .k → n ≡ blockCount st * 2
+  full-origins-size t f = o ∙ ap (λ (x : Bool). laidSize x h) t ∙ rw (e, f)
 
--- a stripe that is handed on, as in `StripeAnswers`, and decoded
-module _ (h : Header) (m : List ℕ) (gs : List Erasure) (l : ℕ) {st : Stripe} {marks : List Bool} {bs : List ℕ}
-    (e : st ≡ stripeOf h l) (em : marks ≡ marksOf h gs l) (eb : bs ≡ stripeIn h m l) {r : ℕ} (q : r ≡ readyOf h m gs l) (z : r ≡ 0) {x : List ℕ} where
-  pub same-laid : (o : List ℕ) → x ≡ laidFrom (pred (st .width)) (solved st marks (rowsIn st marks bs)) (blockCount st) o
-      → x ≡ laidFrom (h .s) (decodeStripe h m gs l) (2 ^ l) o
-  same-laid o ex = ex ∙ ap (λ (d : Decoded). laidFrom (pred (st .width)) d (blockCount st) o) (same-solved h m gs l e em eb q z) ∙ rw e
+  pub level-size : n ≡ 2 ^ st .k * rowOf b st
+  level-size = o ∙ by b ∙ rw e
+    where
+      by : (x : Bool) → laidSize x h ≡ 2 ^ h .k * rowOf x (stripeOf h l)
+      by true = refl
+      by false = refl
 
-  pub laid-from-zeros : headerFits h ≡ true → l ≤ h .k → l ≡ h .k → x ≡ decodedData st (solved st marks (rowsIn st marks bs))
-      → {n : ℕ} → n ≡ decodedNumber (solved st marks (rowsIn st marks bs)) → n ≡ 0
-      → x ≡ laidFrom (h .s) (decodeStripe h m gs l) (2 ^ l) (replicate (rawSize h) 0)
-  laid-from-zeros w b f ex p t =
-      same-laid (replicate (rawSize h) 0)
-      (data-laid st marks (rowsIn st marks bs) (is-full h l e f) (omega (arith, numbers-fit h l e w b .thick)) ex (sym p ∙ t)
-      ∙ ap (λ (k : ℕ). laidFrom (pred (st .width)) (solved st marks (rowsIn st marks bs)) (blockCount st) (replicate k 0)) (sym (full-raw h l e refl f)))
-
--- a level that fails leaves the records
-pub unready-laid : (h : Header) (m : List ℕ) (gs : List Erasure) (l : ℕ) {n : ℕ} → n ≡ readyOf h m gs l → (n ≡ 0 → ⊥) → (o : List ℕ)
-    → o ≡ laidFrom (h .s) (decodeStripe h m gs l) (2 ^ l) o
-unready-laid h m gs l q d o = sym (ap (λ (x : Decoded). laidFrom (h .s) x (2 ^ l) o) (unready-is h m gs l q d))
+-- what is laid by a stripe's numbers and by its layer
+over-is : (h : Header) (l : ℕ) (b : Bool) (d : Decoded) (o : List ℕ) → laidFrom (layBlocks b (stripeOf h l)) d o ≡ laidFrom (layerOf b h .over l) d o
+over-is h l b (failed n) o = refl
+over-is h l true (decoded bs) o = refl
+over-is h l false (decoded bs) o = refl
 
 -- a stripe with number 0 gives blocks
 pub sound : (h : Header) (m : List ℕ) (gs : List Erasure) (l : ℕ) → Sound (decodeStripe h m gs l)
@@ -56,5 +52,35 @@ sound h m gs l z =
     let r = rowsIn st ms (stripeIn h m l) in
     (blocksIn st ms r, decoded-is st ms r z)
 
--- what the needs of the functions that recover a stripe's records follow from
-pub ruleset records-needs = (full-raw, level-raw, same-laid, laid-from-zeros, unready-laid, handed-needs)
+-- a stripe that is handed on, as in `StripeAnswers`, and decoded
+module _ (h : Header) (m : List ℕ) (gs : List Erasure) (l : ℕ) {st : Stripe} {marks : List Bool} {bs : List ℕ}
+    (e : st ≡ stripeOf h l) (em : marks ≡ marksOf h gs l) (eb : bs ≡ stripeIn h m l) {r : ℕ} (q : r ≡ readyOf h m gs l) (z : r ≡ 0) {x : List ℕ} where
+  pub same-laid : (b : Bool) (o : List ℕ) → x ≡ laidFrom (layBlocks b st) (solved st marks (rowsIn st marks bs)) o
+      → x ≡ laidFrom (layerOf b h .over l) (decodeStripe h m gs l) o
+  same-laid b o ex =
+      ex ∙ ap (λ (d : Decoded). laidFrom (layBlocks b st) d o) (same-solved h m gs l e em eb q z)
+      ∙ ap (λ (y : Stripe). laidFrom (layBlocks b y) (decodeStripe h m gs l) o) e ∙ over-is h l b (decodeStripe h m gs l) o
+
+  -- the full stripe gives its data, or its origins, where its number is 0
+  module _ (w : headerFits h ≡ true) (f : l ≡ h .k) {b : Bool} {n : ℕ} (p : n ≡ decodedNumber (solved st marks (rowsIn st marks bs))) where
+    pub full-data : b ≡ false → x ≡ decodedData st (solved st marks (rowsIn st marks bs)) → (o : List ℕ) → n ≡ 0
+        → x ≡ laidFrom (λ cs _. layerOf b h .full cs) (decodeStripe h m gs l) o
+    full-data t ex o v =
+        data-laid st marks (rowsIn st marks bs) (is-full h l e f) (omega (arith, numbers-fit h l e w (omega arith) .thick)) ex (sym p ∙ v) o
+        ∙ ap (λ (d : Decoded). laidFrom (λ cs _. laid (pred (st .width)) cs (blockCount st) (replicate (blockCount st * pred (st .width)) 0)) d o)
+        (same-solved h m gs l e em eb q z) ∙ rw (e, f, t)
+
+    pub full-named : b ≡ true → x ≡ pairsTo (λ i. st .k) (λ i. 0) (blockCount st) → (o : List ℕ) → n ≡ 0
+        → x ≡ laidFrom (λ cs _. layerOf b h .full cs) (decodeStripe h m gs l) o
+    full-named t ex o v =
+        let u = sound h m gs l (sym (solved-number h m gs l e em eb q z p) ∙ v) in
+        let all : pairsTo (λ i. st .k) (λ i. 0) (blockCount st) ≡ fullOrigins h = rw (e, f) in
+        ex ∙ all ∙ sym (ap (λ (d : Decoded). laidFrom (λ cs _. layerOf b h .full cs) d o) (u .1) ∙ ap (λ (y : Bool). layerOf y h .full (u .0)) t)
+
+-- a stripe that fails leaves the words
+pub unready-laid : (h : Header) (m : List ℕ) (gs : List Erasure) (l : ℕ) {n : ℕ} → n ≡ readyOf h m gs l → (n ≡ 0 → ⊥)
+    → (g : List ℕ → List ℕ → List ℕ) (o : List ℕ) → o ≡ laidFrom g (decodeStripe h m gs l) o
+unready-laid h m gs l q d g o = sym (ap (λ (x : Decoded). laidFrom g x o) (unready-is h m gs l q d))
+
+-- what the needs of the functions that lay a stripe follow from
+pub ruleset records-needs = (full-data-size, full-origins-size, level-size, same-laid, full-data, full-named, unready-laid, handed-needs)

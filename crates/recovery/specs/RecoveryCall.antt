@@ -22,8 +22,11 @@ recoverEarly h m e o s =
 abbrev pub unnamed : (number : ℕ) → Recovery
 unnamed n = record { number = n; named = false; stripe = 0 }
 
+abbrev pub atFault : (number stripe : ℕ) → Recovery
+atFault n l = record { number = n; named = true; stripe = l }
+
 abbrev pub answerOf : Recovered → Recovery
-answerOf (stopped n l) = record { number = n; named = true; stripe = l }
+answerOf (stopped n l) = atFault n l
 answerOf (recovered r) = unnamed 0
 
 abbrev pub recoveredWords : Recovered → (size : ℕ) → List ℕ

@@ -1,23 +1,23 @@
--- `recovery::recovering::recover_level` meets its contract, by the laws of proofs/StripeRecords. Assumes nothing.
+-- `recovery::stripes::lay_level` meets its contract, by the laws of proofs/StripeRecords. Assumes nothing.
 use native.Mathlib.Nat.{le-of-lt}
 use Rattle.recovery.proofs.StripeRecords.{records-needs as needs}
-use Rattle.recovery.proofs.recovering.recover_level.Statement.{statement}
-use Rattle.recovery.proofs.recovering.recover_level.Tie as tie
+use Rattle.recovery.proofs.stripes.lay_level.Statement.{statement}
+use Rattle.recovery.proofs.stripes.lay_level.Tie as tie
 
 -- PLACES: `x-at-y c` is the place x that stands before y
 abbrev start-at-marks : tie.After-marks → tie.Start
-start-at-marks c = c .before .before .before .before .before
+start-at-marks c = c .before .before .before .before .before .before
 
 abbrev start-at-stripe-of : tie.After-stripe-of → tie.Start
 start-at-stripe-of c = start-at-marks (c .before .before .before .before)
 
-lay-level-requires : tie.Need-lay-level-requires
-lay-level-requires c κs =
+decode-and-lay-requires : tie.Need-decode-and-lay-requires
+decode-and-lay-requires c κs =
     let w = le-of-lt (start-at-stripe-of (c .before .before .before .before) .pre .1) in
     (search needs, ((search needs, search needs), (search needs, search needs)))
 
-pub recover-level-spec : {M : Type 1} → statement M
-recover-level-spec =
+pub lay-level-spec : {M : Type 1} → statement M
+lay-level-spec =
     tie.close
     (tie.spec
     (λ c. search needs)
@@ -26,7 +26,7 @@ recover-level-spec =
     (λ c κs. search needs)
     (λ c κs. search needs)
     (λ c. search needs)
-    lay-level-requires
+    decode-and-lay-requires
     (λ c. search needs)
     (λ c. search needs)
     (λ c. (search needs, search needs)))

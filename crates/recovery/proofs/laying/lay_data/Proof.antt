@@ -1,11 +1,11 @@
--- `recovery::recovering::lay` meets its contract. The invariant: the first j blocks are laid. Assumes nothing.
+-- `recovery::laying::lay_data` meets its contract. The invariant: the first j blocks are laid. Assumes nothing.
 use Prim.Native.Nat.{suc, _+_, _*_, _-_, _≤_}
 use mathlib.Core.Path.{refl}
 use native.Mathlib.Omega.{arith}
 use lib.ListN.{length, getD}
 use Rattle.recovery.proofs.BlockLaying.{Laying, laying-start, laying-reads, laying-turn, laying-done}
-use Rattle.recovery.proofs.recovering.lay.Statement.{statement}
-use Rattle.recovery.proofs.recovering.lay.Tie as tie
+use Rattle.recovery.proofs.laying.lay_data.Statement.{statement}
+use Rattle.recovery.proofs.laying.lay_data.Tie as tie
 
 abbrev Inv-loop : tie.InvT-loop
 Inv-loop blocks s rows out₀ at₀ j₀ out at j = Laying s blocks rows out₀ out at j
@@ -75,8 +75,8 @@ same-length c = c .before .loop .inv .same
 returns : tie.Need-returns Inv-loop μ-loop
 returns c = laying-done (c .before .loop .inv) (c .loop-test .left)
 
-pub lay-spec : {M : Type 1} → statement M
-lay-spec =
+pub lay-data-spec : {M : Type 1} → statement M
+lay-data-spec =
     tie.close
     (tie.spec
     Inv-loop
