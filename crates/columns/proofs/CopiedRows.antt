@@ -11,7 +11,7 @@ use lib.ListN.{length, getD}
 use lib.Seq.{sets}
 use Rattle.field.proofs.WordLists.{same-table}
 use Rattle.code.specs.steps.Storing.{stored, wordFrom}
-use Rattle.code.proofs.RowLaws.{length-stored, stored-at, stored-off, stored-before}
+use Rattle.code.proofs.RowLaws.{length-stored, stored-none, stored-at, stored-off, stored-before}
 use Rattle.columns.specs.steps.Ranges.{copiedRows}
 
 module _ (to width from stride count : ℕ) (l : List ℕ) where
@@ -20,6 +20,12 @@ module _ (to width from stride count : ℕ) (l : List ℕ) where
   length-copied zero o = refl
   length-copied (suc n) o =
       length-stored (to + n * width) (wordFrom l (from + n * stride)) count (copiedRows to width from stride count l n o) ∙ length-copied n o
+
+  -- no word of each row
+  pub copied-none : count ≡ 0 → (n : ℕ) (o : List ℕ) → copiedRows to width from stride count l n o ≡ o
+  unfolding copiedRows
+  copied-none e zero o = refl
+  copied-none e (suc n) o = rw (e, stored-none) (rw e at (copied-none e n o))
 
   -- THE LOOP after i of its rows
   pub record Copying (rows : ℕ) (out₀ out : List ℕ) (x y i : ℕ) : Type 0 where

@@ -1,198 +1,164 @@
--- The full stripe's columns decoded, all of them or all but the first: what their number says of the stripe, and what it decodes to. Assumes nothing.
+-- The full stripe's number: what the numbers of its columns say of it, and what it decodes to by it. Assumes nothing.
 use mathlib.Core.Path.{_≡_, refl, sym, ap, _∙_}
-use mathlib.Core.Bool.{Bool, true, false, _&&_, and-true, and-false}
+use mathlib.Core.Bool.{Bool, true, false, _&&_, and-true}
 use mathlib.Core.List.{List, _++_, append-nil}
-use Prim.Native.Nat.{ℕ, zero, suc, pred, _+_, _*_, _-_, _≤_, _<_}
-use native.Mathlib.Nat.{mul-le-mul-right}
+use Prim.Native.Nat.{ℕ, suc, pred, _*_, _-_, _≤_, _<_}
+use native.Mathlib.Nat.{mul-zero}
 use native.Mathlib.Numerals.{add-one}
 use native.Mathlib.Omega.{arith}
-use lib.Dec.{eqb}
-use lib.ListN.{length, getD, drop, replicate, length-drop, drop-of-length-le}
-use lib.Seq.{ext-getD, getD-take, getD-drop, length-take-le}
+use borrow.Author.Needs.{needs}
+use lib.ListN.{length, drop, replicate, drop-of-length-le}
 use Rattle.code.specs.declared.Stripe.{Stripe}
-use Rattle.code.specs.Stripe.{blockCount, blockWords}
+use Rattle.code.specs.Stripe.{blockCount, blockWords, stripeWords}
 use Rattle.decoder.specs.Decoding.{isConsistent, blocksIn}
-use Rattle.layout.specs.Records.{areData, recordIn, recordsFit}
 use Rattle.layout.specs.Refusals.{ifTaken}
-use Rattle.field.proofs.Booleans.{both-true, first-false, second-false}
 use Rattle.layout.proofs.Refusals.{if-taken, if-refused}
-use Rattle.layout.proofs.RecordWords.{length-record}
-use Rattle.image.specs.steps.Loading.{columnsOf}
-use Rattle.rows.specs.Decoding.{Decoded, blockNumber, blockData, areRecords, decodedNumber, decodedWords, solved}
+use Rattle.image.specs.steps.Loading.{columnsOf, rowsIn}
+use Rattle.rows.specs.Decoding.{Decoded, failed, decoded, blockNumber, blockData, isRecord, areRecords, decodedNumber, decodedWords, solved}
+use Rattle.rows.specs.steps.Ready.{Ready}
 use Rattle.rows.proofs.BlockRecords.{number-full}
-use Rattle.rows.proofs.ColumnRanges.{columns-all, columns-row, length-columns, columns-at}
+use Rattle.rows.proofs.ColumnRanges.{columns-all, columns-row}
 use Rattle.rows.proofs.RowParts.{length-blocks}
-use Rattle.rows.proofs.StripeNumbers.{solved-nine, solved-ten, solved-blocks}
-use Rattle.columns.specs.steps.Ranges.{placesTo, columnsNumber, arePlaces, allNumber, withoutFirst}
-use Rattle.columns.specs.steps.Full.{dataOf, decodedData}
-use Rattle.columns.proofs.RangeCopies.{places-kept, places-skipped}
-use Rattle.columns.proofs.RangeLoop.{columns-fail, columns-agree}
+use Rattle.columns.specs.steps.Ranges.{placesTo, dataTo, columnsFit, columnsNumber, withoutFirst, Decodable}
+use Rattle.columns.specs.steps.Full.{decodedData}
+use Rattle.columns.proofs.TestedRows.{Tested, tested-same, tested-both, places-tested, data-tested, fit-first}
 
--- the output where it had no room for more
-pub filled : (n : ℕ) (o₀ : List ℕ) {x o : List ℕ} → length o₀ ≡ n → o ≡ x ++ drop n o₀ → o ≡ x
-filled n o₀ {x} e q = q ∙ ap (λ (y : List ℕ). x ++ y) (drop-of-length-le o₀ {i = n} (omega arith)) ∙ append-nil x
+-- THE NUMBER OF SOME COLUMNS by the two tests, and what it says of them
+pub columns-nine : {c : Bool} (b : Bool) → c ≡ false → columnsNumber c b ≡ 9
+unfolding columnsNumber
+columns-nine b e = rw e
 
--- number 0 says that the stripe is consistent
-pub zero-agrees : (skip : ℕ) (c b : Bool) → columnsNumber skip c b ≡ 0 → c ≡ true
-zero-agrees skip true b e = refl
-zero-agrees skip false b e = absurd (omega (arith, columns-fail skip b refl))
+pub columns-zero : {c b : Bool} → c ≡ true → b ≡ true → columnsNumber c b ≡ 0
+unfolding columnsNumber
+columns-zero e f = rw (e, f)
 
-none-differs : (c b : Bool) → (columnsNumber 0 c b ≡ 0 → ⊥) → c ≡ false
-none-differs true b d = absurd (d (columns-agree 0 b refl ∙ places-kept 0 b refl))
-none-differs false b d = refl
+pub columns-ten : {c b : Bool} → c ≡ true → b ≡ false → columnsNumber c b ≡ 10
+unfolding columnsNumber
+columns-ten e f = rw (e, f)
 
--- THE BLOCKS: no column skipped
-module _ (st : Stripe) (ms : List Bool) (r : List ℕ) where
-  abbrev N : ℕ
-  N = allNumber st ms r 0
+pub nine-differs : (c b : Bool) → columnsNumber c b ≡ 9 → c ≡ false
+unfolding columnsNumber
+nine-differs true true e = absurd (omega (arith, e))
+nine-differs true false e = absurd (omega (arith, e))
+nine-differs false b e = refl
 
-  whole-words : blockCount st * (st .width - 0) ≡ blockWords st
-  whole-words = let z : st .width - 0 ≡ st .width = omega arith in rw z
+pub else-agrees : (c b : Bool) → (columnsNumber c b ≡ 9 → ⊥) → c ≡ true
+unfolding columnsNumber
+else-agrees true b d = refl
+else-agrees false b d = absurd (d refl)
 
-  whole : withoutFirst st ms r 0 ≡ blocksIn st ms r
-  whole = let z : st .width - 0 ≡ st .width = omega arith in rw z (columns-all (st .width) (blockCount st) (blocksIn st ms r) (length-blocks st ms r))
+-- columns of which `a` says whether they fit, and a range behind them that agrees
+pub ten-more : {n : ℕ} (a b : Bool) → n ≡ columnsNumber true b → (n ≡ 0 → ⊥) → n ≡ columnsNumber true (a && b)
+ten-more a true e d = absurd (d (e ∙ columns-zero refl refl))
+ten-more true false e d = e
+ten-more false false e d = e
 
-  pub lent-whole : {n : ℕ} → n ≡ blockWords st → n ≡ blockCount st * (st .width - 0)
-  lent-whole e = e ∙ sym whole-words
+pub zero-more : {n m : ℕ} (a b : Bool) → n ≡ columnsNumber true b → n ≡ 0 → m ≡ columnsNumber true a → m ≡ columnsNumber true (a && b)
+zero-more a true e z q = q ∙ ap (columnsNumber true) (sym (and-true a))
+zero-more a false e z q = absurd (omega (arith, sym z ∙ e ∙ columns-ten refl refl))
 
-  module _ {n : ℕ} {o : List ℕ} (e : n ≡ N) (q : o ≡ ifTaken N (withoutFirst st ms r 0) (replicate (blockCount st * (st .width - 0)) 0)) where
-    pub full-nine : (n ≡ 0 → ⊥) → (n ≡ decodedNumber (solved st ms r)) × (o ≡ decodedWords (solved st ms r) (blockWords st))
-    full-nine d =
-        let c : isConsistent st ms r ≡ false = none-differs (isConsistent st ms r) (arePlaces st ms r) (λ z. d (e ∙ z)) in
-        let s = solved-nine st ms r c in (
-          e ∙ columns-fail 0 (arePlaces st ms r) c ∙ sym (ap decodedNumber s),
-          q ∙ if-refused _ _ (λ z. d (e ∙ z)) ∙ ap (λ (m : ℕ). replicate m 0) whole-words
-              ∙ sym (ap (λ (x : Decoded). decodedWords x (blockWords st)) s),
-        )
-
-    pub full-agrees : n ≡ 0 → isConsistent st ms r ≡ true
-    full-agrees z = zero-agrees 0 (isConsistent st ms r) (arePlaces st ms r) (sym e ∙ z)
-
-    pub full-blocks : n ≡ 0 → o ≡ blocksIn st ms r
-    full-blocks z = q ∙ if-taken _ _ (sym e ∙ z) ∙ whole
-
-  pub blocks-given : isConsistent st ms r ≡ true → {o : List ℕ} → o ≡ blocksIn st ms r → areRecords st o (blockCount st) ≡ true
-      → (0 ≡ decodedNumber (solved st ms r)) × (o ≡ decodedWords (solved st ms r) (blockWords st))
-  blocks-given c q a =
-      let s = solved-blocks st ms r c (ap (λ (x : List ℕ). areRecords st x (blockCount st)) (sym q) ∙ a) in
-      let n : blockWords st - length (blocksIn st ms r) ≡ 0 = omega (arith, length-blocks st ms r) in (
-        sym (ap decodedNumber s),
-        q ∙ sym (append-nil (blocksIn st ms r)) ∙ ap (λ (m : ℕ). blocksIn st ms r ++ replicate m 0) (sym n)
-            ∙ sym (ap (λ (x : Decoded). decodedWords x (blockWords st)) s),
-      )
-
-  pub blocks-refused : isConsistent st ms r ≡ true → {o z : List ℕ} → o ≡ blocksIn st ms r → areRecords st o (blockCount st) ≡ false
-      → z ≡ replicate (length o) 0
-      → (10 ≡ decodedNumber (solved st ms r)) × (z ≡ decodedWords (solved st ms r) (blockWords st))
-  blocks-refused c q a e =
-      let s = solved-ten st ms r c (ap (λ (x : List ℕ). areRecords st x (blockCount st)) (sym q) ∙ a) in (
-        sym (ap decodedNumber s),
-        e ∙ ap (λ (m : ℕ). replicate m 0) (ap length q ∙ length-blocks st ms r)
-            ∙ sym (ap (λ (x : Decoded). decodedWords x (blockWords st)) s),
-      )
-
--- ON THE FULL STRIPE numbers are places, so that the records are what is left to test
-shuffle : (a b c d : Bool) → ((a && b) && (c && d)) ≡ ((a && c) && (d && b))
-shuffle true true c d = rw and-true
-shuffle true false c d = rw (and-false d, and-false c)
-shuffle false b c d = refl
-
-module _ (st : Stripe) (full : st .level ≡ st .k) (thick : 0 < st .width) (bs : List ℕ) where
-  pub data-row : (n : ℕ) → suc n * st .width ≤ length bs
+-- THE RECORDS of the full stripe: numbers are places, and the other columns are data
+module _ (st : Stripe) (bs : List ℕ) where
+  pub data-row : (n : ℕ) → 0 < st .width → suc n * st .width ≤ length bs
       → columnsOf (st .width) 1 (pred (st .width)) (suc n) bs ≡ columnsOf (st .width) 1 (pred (st .width)) n bs ++ blockData (st .width) bs n
-  data-row n b = rw (← add-one (n * st .width)) (columns-row (st .width) 1 (pred (st .width)) n bs (omega arith))
+  data-row n z b = rw (← add-one (n * st .width)) (columns-row (st .width) 1 (pred (st .width)) n bs (omega arith))
 
-  module _ (n : ℕ) (b : n * st .width ≤ length bs) where
-    abbrev records : List ℕ
-    records = columnsOf (st .width) 1 (pred (st .width)) n bs
+  records-tested : Tested (isRecord st bs) (areRecords st bs)
+  unfolding areRecords
+  records-tested = record { none = refl; more = λ j. refl }
 
-    -- record j is the data of block j
-    record-is : (j : ℕ) → j < n → recordIn (pred (st .width)) records j ≡ blockData (st .width) bs j
-    record-is j h =
-        let s = pred (st .width) in
-        let e : suc j * st .width ≤ length bs = omega (arith, mul-le-mul-right (st .width) h) in
-        let x : length (recordIn s records j) ≡ s = length-record n s records j (length-columns (st .width) 1 s n bs) h in
-        let y : length (blockData (st .width) bs j) ≡ s = length-take-le s (drop (suc (j * st .width)) bs) (rw length-drop (omega arith)) in
-        ext-getD 0 (recordIn s records j) (blockData (st .width) bs j) (x ∙ sym y)
-        (λ i c.
-        let c′ : i < s = omega arith in
-        getD-take s (drop (j * s) records) i 0 c′ ∙ getD-drop (j * s) records i 0 ∙ columns-at (st .width) 1 s n bs j i h c′
-        ∙ ap (λ (q : ℕ). getD bs q 0) {x = j * st .width + (1 + i)} {y = suc (j * st .width) + i} (omega arith)
-        ∙ sym (getD-take s (drop (suc (j * st .width)) bs) i 0 c′ ∙ getD-drop (suc (j * st .width)) bs i 0))
+  pub records-full : st .level ≡ st .k → (n : ℕ) → areRecords st bs n ≡ (placesTo (st .width) bs n && dataTo (st .width) 1 (pred (st .width)) bs n)
+  records-full full n =
+      tested-same records-tested (tested-both (places-tested (st .width) bs) (data-tested (st .width) 1 (pred (st .width)) bs)) n
+      (λ j _. rw (number-full st j (blockNumber (st .width) bs j) full, add-one))
 
-    pub records-full : (m : ℕ) → m ≤ n → areRecords st bs m ≡ (placesTo (st .width) bs m && recordsFit (pred (st .width)) records m)
-    unfolding areRecords placesTo recordsFit
-    records-full zero h = refl
-    records-full (suc m) h =
-        rw (number-full st m (blockNumber (st .width) bs m) full, records-full m (omega arith), record-is m (omega arith))
-        (shuffle (eqb (blockNumber (st .width) bs m) m) (areData (blockData (st .width) bs m)) (placesTo (st .width) bs m)
-        (recordsFit (pred (st .width)) records m))
-
--- THE RECORDS: the first column skipped
-module _ (st : Stripe) (ms : List Bool) (r : List ℕ) (full : st .level ≡ st .k) (thick : 0 < st .width) where
-  abbrev M : ℕ
-  M = allNumber st ms r 1
-
+-- WHAT THE STRIPE DECODES TO
+module _ (st : Stripe) (ms : List Bool) (r : List ℕ) where
   abbrev bs : List ℕ
   bs = blocksIn st ms r
 
-  less : st .width - 1 ≡ pred (st .width)
-  less = omega arith
+  abbrev by : (isConsistent areRecords : Bool) → Decoded
+  by c b = elim c [ true ↦ elim b [ true ↦ decoded bs | false ↦ failed 10 ] | false ↦ failed 9 ]
 
-  pub lent-data : {n : ℕ} → n ≡ blockCount st * pred (st .width) → n ≡ blockCount st * (st .width - 1)
-  lent-data e = e ∙ ap (λ (w : ℕ). blockCount st * w) (sym less)
+  pub solved-number : st .level ≡ st .k → 0 < st .width
+      → columnsNumber (isConsistent st ms r) (columnsFit (st .width) 0 0 (st .width) bs (blockCount st)) ≡ decodedNumber (solved st ms r)
+  solved-number full z =
+      ap (columnsNumber (isConsistent st ms r))
+      (fit-first (st .width) 0 0 (st .width) bs (blockCount st) (omega arith) z ∙ sym (records-full st bs full (blockCount st)))
+      ∙ is (isConsistent st ms r) (areRecords st bs (blockCount st))
+    where
+      is : (c b : Bool) → columnsNumber c b ≡ decodedNumber (by c b)
+      is true true = columns-zero refl refl
+      is true false = columns-ten refl refl
+      is false b = columns-nine b refl
 
-  abbrev fitting : List ℕ → Bool
-  fitting o = recordsFit (pred (st .width)) o (blockCount st)
+  zero-agrees : decodedNumber (solved st ms r) ≡ 0 → isConsistent st ms r ≡ true
+  zero-agrees z = is (isConsistent st ms r) (areRecords st bs (blockCount st)) z
+    where
+      is : (c b : Bool) → decodedNumber (by c b) ≡ 0 → c ≡ true
+      is true b e = refl
+      is false b e = absurd (omega (arith, e))
 
-  tests : areRecords st bs (blockCount st) ≡ (arePlaces st ms r && fitting (dataOf st bs))
-  tests = records-full st full thick bs (blockCount st) (omega (arith, length-blocks st ms r)) (blockCount st) (omega arith)
+  -- WHAT IS LEFT of an output that has room for all columns but the first `skip`: these if the number is 0, and zeros if it is not
+  module _ (skip : ℕ) where
+    abbrev x : List ℕ
+    x = withoutFirst st ms r skip
 
-  module _ {n : ℕ} {o : List ℕ} (e : n ≡ M) (q : o ≡ ifTaken M (withoutFirst st ms r 1) (replicate (blockCount st * (st .width - 1)) 0)) where
-    pub data-refused : (n ≡ 0 → ⊥) → (n ≡ decodedNumber (solved st ms r)) × (o ≡ decodedData st (solved st ms r))
-    data-refused d = by (isConsistent st ms r) refl (arePlaces st ms r) refl
-      where
-        zeros : o ≡ replicate (blockCount st * pred (st .width)) 0
-        zeros = q ∙ if-refused _ _ (λ z. d (e ∙ z)) ∙ ap (λ (w : ℕ). replicate (blockCount st * w) 0) less
+    abbrev size : ℕ
+    size = blockCount st * (st .width - skip)
 
-        by : (c : Bool) → isConsistent st ms r ≡ c → (b : Bool) → arePlaces st ms r ≡ b
-            → (n ≡ decodedNumber (solved st ms r)) × (o ≡ decodedData st (solved st ms r))
-        by false c b p =
-            let s = solved-nine st ms r c in (e ∙ columns-fail 1 (arePlaces st ms r) c ∙ sym (ap decodedNumber s), zeros ∙ sym (ap (decodedData st) s))
-        by true c true p = absurd (d (e ∙ columns-agree 1 (arePlaces st ms r) c ∙ places-skipped 1 (arePlaces st ms r) (λ z. omega arith)
-            ∙ ap (λ (x : Bool). elim x [ true ↦ 0 | false ↦ 10 ]) p))
-        by true c false p =
-            let s = solved-ten st ms r c (tests ∙ first-false (fitting (dataOf st bs)) p) in (
-              e ∙ columns-agree 1 (arePlaces st ms r) c ∙ places-skipped 1 (arePlaces st ms r) (λ z. omega arith)
-                  ∙ ap (λ (x : Bool). elim x [ true ↦ 0 | false ↦ 10 ]) p ∙ sym (ap decodedNumber s),
-              zeros ∙ sym (ap (decodedData st) s),
-            )
+    module _ {n : ℕ} {o : List ℕ} (e : n ≡ decodedNumber (solved st ms r)) where
+      pub left-zeros : {l : ℕ} → (n ≡ 0 → ⊥) → o ≡ replicate l 0 → l ≡ size → o ≡ ifTaken (decodedNumber (solved st ms r)) x (replicate size 0)
+      left-zeros d q l = q ∙ rw l (sym (if-refused x (replicate size 0) (λ z. d (e ∙ z))))
 
-    module _ (z : n ≡ 0) where
-      agrees : isConsistent st ms r ≡ true
-      agrees = zero-agrees 1 (isConsistent st ms r) (arePlaces st ms r) (sym e ∙ z)
+      pub left-words : (o₀ : List ℕ) → n ≡ 0 → (isConsistent st ms r ≡ true → o ≡ x ++ drop size o₀) → length o₀ ≡ size
+          → o ≡ ifTaken (decodedNumber (solved st ms r)) x (replicate size 0)
+      left-words o₀ z q l =
+          let t : decodedNumber (solved st ms r) ≡ 0 = sym e ∙ z in
+          q (zero-agrees t) ∙ ap (λ (y : List ℕ). x ++ y) (drop-of-length-le o₀ {i = size} (omega arith)) ∙ append-nil x
+          ∙ sym (if-taken x (replicate size 0) t)
 
-      places : arePlaces st ms r ≡ true
-      places = by (arePlaces st ms r) refl
-        where
-          by : (b : Bool) → arePlaces st ms r ≡ b → b ≡ true
-          by true p = refl
-          by false p = absurd (omega (
-            arith,
-            sym z ∙ e ∙ columns-agree 1 (arePlaces st ms r) agrees ∙ places-skipped 1 (arePlaces st ms r) (λ y. omega arith)
-                ∙ ap (λ (x : Bool). elim x [ true ↦ 0 | false ↦ 10 ]) p,
-          ))
+  -- which is what the decoded comes to by a function F
+  solved-leaves : (F : Decoded → List ℕ) (x z : List ℕ) → F (decoded bs) ≡ x → ((n : ℕ) → F (failed n) ≡ z)
+      → ifTaken (decodedNumber (solved st ms r)) x z ≡ F (solved st ms r)
+  solved-leaves F x z ex ez = is (isConsistent st ms r) (areRecords st bs (blockCount st))
+    where
+      is : (c b : Bool) → ifTaken (decodedNumber (by c b)) x z ≡ F (by c b)
+      is true true = sym ex
+      is true false = sym (ez 10)
+      is false b = sym (ez 9)
 
-      data-are : o ≡ dataOf st bs
-      data-are = q ∙ if-taken _ _ (sym e ∙ z) ∙ ap (λ (w : ℕ). columnsOf (st .width) 1 w (blockCount st) bs) less
+  -- no column skipped: its blocks
+  pub whole-left : {o : List ℕ} → o ≡ ifTaken (decodedNumber (solved st ms r)) (withoutFirst st ms r 0) (replicate (blockCount st * (st .width - 0)) 0)
+      → o ≡ decodedWords (solved st ms r) (blockWords st)
+  whole-left q =
+      let z : st .width - 0 ≡ st .width = omega arith in
+      let n : blockWords st - length bs ≡ 0 = omega (arith, length-blocks st ms r) in
+      q ∙ solved-leaves (λ d. decodedWords d (blockWords st)) _ _
+      (rw (n, z, columns-all (st .width) (blockCount st) bs (length-blocks st ms r)) (append-nil bs)) (λ n. rw z)
 
-      pub data-given : fitting o ≡ true → (0 ≡ decodedNumber (solved st ms r)) × (o ≡ decodedData st (solved st ms r))
-      data-given a =
-          let s = solved-blocks st ms r agrees (tests ∙ both-true places (ap fitting (sym data-are) ∙ a)) in
-          (sym (ap decodedNumber s), data-are ∙ sym (ap (decodedData st) s))
+  -- the first column skipped: its records
+  pub data-left : {o : List ℕ} → o ≡ ifTaken (decodedNumber (solved st ms r)) (withoutFirst st ms r 1) (replicate (blockCount st * (st .width - 1)) 0)
+      → o ≡ decodedData st (solved st ms r)
+  data-left q =
+      let z : st .width - 1 ≡ pred (st .width) = omega arith in
+      q ∙ solved-leaves (decodedData st) _ _ (rw z) (λ n. rw z)
 
-      pub data-wrong : fitting o ≡ false → {y : List ℕ} → y ≡ replicate (length o) 0 → length o ≡ blockCount st * pred (st .width)
-          → (10 ≡ decodedNumber (solved st ms r)) × (y ≡ decodedData st (solved st ms r))
-      data-wrong a t l =
-          let s = solved-ten st ms r agrees (tests ∙ second-false (arePlaces st ms r) (ap fitting (sym data-are) ∙ a)) in
-          (sym (ap decodedNumber s), t ∙ ap (λ (m : ℕ). replicate m 0) l ∙ sym (ap (decodedData st) s))
+-- WHAT IS LENT: the stripe, and the room for all columns, all but the first, or none
+module _ (st : Stripe) where
+  pub decodable : {skip : ℕ} {bytes : List ℕ} {ms : List Bool} → Ready st ms (rowsIn st ms bytes) → (length bytes ≡ 4 * stripeWords st) × (st .level ≡ st .k)
+      → skip ≤ st .width → Decodable st skip bytes ms
+  decodable r l few = record { ready = r; long = l .0; full = l .1; few = few }
+
+  module _ {n : ℕ} where
+    pub lent-whole : n ≡ blockWords st → n ≡ blockCount st * (st .width - 0)
+    lent-whole e = let z : st .width - 0 ≡ st .width = omega arith in e ∙ rw z
+
+    pub lent-data : n ≡ blockCount st * pred (st .width) → n ≡ blockCount st * (st .width - 1)
+    lent-data e = let z : st .width - 1 ≡ pred (st .width) = omega arith in e ∙ rw z
+
+  pub lent-none : 0 ≡ blockCount st * (st .width - st .width)
+  lent-none = let z : st .width - st .width ≡ 0 = omega arith in rw (z, mul-zero)
+
+-- what the needs of the functions that decode the full stripe follow from
+pub ruleset full-needs = (whole-left, data-left, decodable, lent-whole, lent-data, lent-none, needs)

@@ -1,73 +1,34 @@
--- Ranges of columns copied to rows that lack the first `skip` columns, and the numbers that they give. Assumes nothing.
-use mathlib.Core.Path.{_≡_, refl, sym, ap, _∙_}
-use mathlib.Core.Bool.{Bool, true, false}
+-- The words of a range of columns, which are the blocks': copied to rows that lack the first `skip` columns, and tested. Assumes nothing.
+use mathlib.Core.Path.{_≡_, sym, ap, ap₂, _∙_}
+use mathlib.Core.Bool.{Bool, _&&_}
 use mathlib.Core.List.{List}
-use Prim.Native.Nat.{ℕ, zero, suc, _+_, _*_, _-_, _≤_, _<_, max}
+use Prim.Native.Nat.{ℕ, pred, _+_, _*_, _-_, _≤_, _<_, max}
+use native.Mathlib.Nat.{mul-le-mul-right}
 use native.Mathlib.Decide.{decLt}
 use native.Mathlib.Omega.{arith}
-use borrow.Author.Tests.{eq-eqb, ne-eqb}
-use lib.ListN.{getD, take}
-use lib.Seq.{getD-take}
+use lib.Dec.{eqb}
+use lib.ListN.{length, getD, take, drop, length-drop}
+use lib.Seq.{getD-take, getD-drop, length-take-le, ext-getD}
 use lib.Arith.{digits-lt}
 use Rattle.code.specs.declared.Stripe.{Stripe}
 use Rattle.code.specs.Stripe.{blockCount}
 use Rattle.decoder.specs.Decoding.{blocksIn}
+use Rattle.layout.specs.Records.{areData}
 use Rattle.image.specs.steps.Loading.{columnsOf}
-use Rattle.columns.specs.steps.Ranges.{copiedRows, placesTo, RangeFits, isConsistentRange, placesNumber, rangeNumber}
+use Rattle.columns.specs.steps.Ranges.{copiedRows, placesTo, dataTo, columnsFit, RangeFits, fitRange, rangeTaken}
 use Rattle.rows.proofs.ColumnRanges.{columns-at}
+use Rattle.rows.proofs.RowParts.{length-blocks}
 use Rattle.columns.proofs.CopiedRows.{copied-same}
-use Rattle.columns.proofs.Places.{places-same}
+use Rattle.columns.proofs.TestedRows.{tested-same, places-tested, data-tested, fit-first, fit-later}
 
--- THE NUMBERS of a range: of the first, of a later one, of one that is not consistent
-pub range-first : (from skip : ℕ) (b : Bool) → from ≤ 0 → rangeNumber from skip true b ≡ placesNumber skip b
-unfolding rangeNumber
-range-first from skip b e = rw (eq-eqb from 0 (omega arith), rangeNumber)
-
-pub range-later : (from skip : ℕ) (b : Bool) → 0 < from → rangeNumber from skip true b ≡ 0
-unfolding rangeNumber
-range-later from skip b e = rw (ne-eqb from 0 (λ z. omega arith), rangeNumber)
-
-pub range-fails : (from skip : ℕ) {c : Bool} (b : Bool) → c ≡ false → rangeNumber from skip c b ≡ 9
-unfolding rangeNumber
-range-fails from skip b e = rw (e, rangeNumber)
-
-pub places-kept : (skip : ℕ) (b : Bool) → skip ≡ 0 → placesNumber skip b ≡ 0
-unfolding placesNumber
-places-kept skip b e = rw e
-
-pub places-skipped : (skip : ℕ) (b : Bool) → (skip ≡ 0 → ⊥) → placesNumber skip b ≡ elim b [ true ↦ 0 | false ↦ 10 ]
-unfolding placesNumber
-places-skipped zero b d = absurd (d refl)
-places-skipped (suc skip) b d = refl
-
--- WHERE A RANGE GOES: the first from column `skip` on, a later one whole
-module _ (from skip cols w : ℕ) (l : List ℕ) (n : ℕ) (o : List ℕ) where
-  pub copied-later : skip ≤ 1 → 0 < from
-      → copiedRows (from - skip) (w - skip) 0 cols cols l n o
-      ≡ copiedRows (max from skip - skip) (w - skip) (max from skip - from) cols (from + cols - max from skip) l n o
-  copied-later s b =
-      let e : max from skip ≡ from = omega arith in
-      let z : from - from ≡ 0 = omega arith in
-      let c : from + cols - from ≡ cols = omega arith in
-      rw (e, z, c)
-
-  pub copied-first : from ≤ 0
-      → copiedRows 0 (w - skip) skip cols (cols - skip) l n o
-      ≡ copiedRows (max from skip - skip) (w - skip) (max from skip - from) cols (from + cols - max from skip) l n o
-  copied-first b =
-      let e : max from skip ≡ skip = omega arith in
-      let z : skip - skip ≡ 0 = omega arith in
-      let y : skip - from ≡ skip = omega arith in
-      let c : from + cols - skip ≡ cols - skip = omega arith in
-      rw (e, z, y, c)
-
--- A RANGE OF THE BLOCKS at the start of x: its words are the blocks', and so are its numbers if it is the first
+-- A RANGE OF THE BLOCKS at the start of x
 module _ (w from cols n : ℕ) (x bs : List ℕ) (e : take (n * cols) x ≡ columnsOf w from cols n bs) where
   range-word : (i j : ℕ) → i < n → j < cols → getD x (i * cols + j) 0 ≡ getD bs (i * w + (from + j)) 0
   range-word i j a b =
       sym (getD-take (n * cols) x (i * cols + j) 0 (digits-lt a b)) ∙ ap (λ (l : List ℕ). getD l (i * cols + j) 0) e ∙ columns-at w from cols n bs i j a b
 
-  copied-range : (to cw g count : ℕ) (o : List ℕ) → from ≤ g → g + count ≤ from + cols
+  -- is copied as those columns of the blocks are
+  copied-range : (to cw g count : ℕ) (o : List ℕ) → from ≤ g → count ≤ from + cols - g
       → copiedRows to cw (g - from) cols count x n o ≡ copiedRows to cw g w count bs n o
   copied-range to cw g count o b t =
       copied-same to cw (g - from) cols g w count x bs n o
@@ -75,30 +36,57 @@ module _ (w from cols n : ℕ) (x bs : List ℕ) (e : take (n * cols) x ≡ colu
       ∙ range-word i (g - from + j) a (omega arith)
       ∙ ap (λ (q : ℕ). getD bs q 0) {x = i * w + (from + (g - from + j))} {y = g + i * w + j} (omega arith))
 
-  range-places : (skip : ℕ) → 0 < cols → rangeNumber from skip true (placesTo cols x n) ≡ rangeNumber from skip true (placesTo w bs n)
-  range-places skip z = by (decLt 0 from)
-    where
-      by : Dec (0 < from) → rangeNumber from skip true (placesTo cols x n) ≡ rangeNumber from skip true (placesTo w bs n)
-      by (yes b) = range-later from skip (placesTo cols x n) b ∙ sym (range-later from skip (placesTo w bs n) b)
-      by (no b) =
-          ap (rangeNumber from skip true)
-          (places-same cols w x bs n
-          (λ i a. ap (λ (q : ℕ). getD x q 0) {x = i * cols} {y = i * cols + 0} (omega arith) ∙ range-word i 0 a z
-          ∙ ap (λ (q : ℕ). getD bs q 0) {x = i * w + (from + 0)} {y = i * w} (omega arith)))
+  -- and passes the tests that they pass
+  module _ (long : n * cols ≤ length x) (whole : n * w ≤ length bs) (within : from + cols ≤ w) (some : 0 < cols) where
+    range-row : (a count i : ℕ) → a + count ≤ cols → i < n → take count (drop (i * cols + a) x) ≡ take count (drop (i * w + (from + a)) bs)
+    range-row a count i b h =
+        ext-getD 0 (take count (drop (i * cols + a) x)) (take count (drop (i * w + (from + a)) bs)) (size ∙ sym size′)
+        (λ j c.
+        let c′ : j < count = omega (arith, size) in
+        getD-take count (drop (i * cols + a) x) j 0 c′ ∙ getD-drop (i * cols + a) x j 0
+        ∙ ap (λ (q : ℕ). getD x q 0) {x = i * cols + a + j} {y = i * cols + (a + j)} (omega arith) ∙ range-word i (a + j) h (omega arith)
+        ∙ ap (λ (q : ℕ). getD bs q 0) {x = i * w + (from + (a + j))} {y = i * w + (from + a) + j} (omega arith)
+        ∙ sym (getD-take count (drop (i * w + (from + a)) bs) j 0 c′ ∙ getD-drop (i * w + (from + a)) bs j 0))
+      where
+        size : length (take count (drop (i * cols + a) x)) ≡ count
+        size = length-take-le count (drop (i * cols + a) x) (rw length-drop (omega (arith, mul-le-mul-right cols h)))
+
+        size′ : length (take count (drop (i * w + (from + a)) bs)) ≡ count
+        size′ = length-take-le count (drop (i * w + (from + a)) bs) (rw length-drop (omega (arith, mul-le-mul-right w h)))
+
+    range-data : (a b count : ℕ) → from + a ≡ b → a + count ≤ cols → dataTo cols a count x n ≡ dataTo w b count bs n
+    range-data a b count e h =
+        tested-same (data-tested cols a count x) (data-tested w b count bs) n (λ i c. rw (← e) (ap areData (range-row a count i h c)))
+
+    range-places : from ≤ 0 → placesTo cols x n ≡ placesTo w bs n
+    range-places z =
+        tested-same (places-tested cols x) (places-tested w bs) n
+        (λ i h. ap (λ (q : ℕ). eqb q i)
+        (ap (λ (q : ℕ). getD x q 0) {x = i * cols} {y = i * cols + 0} (omega arith) ∙ range-word i 0 h some
+        ∙ ap (λ (q : ℕ). getD bs q 0) {x = i * w + (from + 0)} {y = i * w} (omega arith)))
+
+    range-fits : columnsFit cols 0 from cols x n ≡ columnsFit w from from cols bs n
+    range-fits = by (decLt 0 from)
+      where
+        by : Dec (0 < from) → columnsFit cols 0 from cols x n ≡ columnsFit w from from cols bs n
+        by (yes b) = fit-later cols 0 from cols x n b some ∙ range-data 0 from cols (omega arith) (omega arith) ∙ sym (fit-later w from from cols bs n b some)
+        by (no b) =
+            fit-first cols 0 from cols x n (omega arith) some
+            ∙ ap₂ _&&_ (range-places (omega arith)) (range-data 1 1 (pred cols) (omega arith) (omega arith))
+            ∙ sym (fit-first w from from cols bs n (omega arith) some)
 
 -- what a range that is decoded and taken gives, in terms of the whole stripe
 module _ (st : Stripe) (ms : List Bool) (r : List ℕ) (from cols skip : ℕ) (o : List ℕ) where
   abbrev bs : List ℕ
   bs = blocksIn st ms r
 
-  pub range-taken : {x words o′ : List ℕ} {rows w n : ℕ} → rows ≡ blockCount st → w ≡ st .width → words ≡ x → RangeFits st from cols → skip ≤ 1
-      → isConsistentRange st ms r from cols ≡ true → take (blockCount st * cols) x ≡ columnsOf (st .width) from cols (blockCount st) bs
-      → n ≡ rangeNumber from skip true (placesTo cols words rows)
-      → o′ ≡ copiedRows (max from skip - skip) (w - skip) (max from skip - from) cols (from + cols - max from skip) words rows o
-      → (n ≡ rangeNumber from skip (isConsistentRange st ms r from cols) (placesTo (st .width) bs (blockCount st)))
-      × (o′ ≡ copiedRows (max from skip - skip) (st .width - skip) (max from skip) (st .width) (from + cols - max from skip) bs (blockCount st) o)
-  range-taken {x} er ew ex f s c t q p = (
-    q ∙ rw (ex, er, c) (range-places (st .width) from cols (blockCount st) x bs t skip (f .some)),
-    p ∙ rw (ex, er, ew) (copied-range (st .width) from cols (blockCount st) x bs t (max from skip - skip) (st .width - skip) (max from skip)
-        (from + cols - max from skip) o (omega arith) (omega (arith, f .some))),
+  pub range-taken : {x words o′ : List ℕ} {b : Bool} → words ≡ x → blockCount st * cols ≤ length x → RangeFits st from cols
+      → take (blockCount st * cols) x ≡ columnsOf (st .width) from cols (blockCount st) bs
+      → b ≡ columnsFit cols 0 from cols words (blockCount st)
+      → o′ ≡ copiedRows (max from skip - skip) (st .width - skip) (max from skip - from) cols (from + cols - max from skip) words (blockCount st) o
+      → (b ≡ fitRange st ms r from cols) × (o′ ≡ rangeTaken st ms r from cols skip o)
+  range-taken {x} ex l f t q p = (
+    q ∙ rw ex (range-fits (st .width) from cols (blockCount st) x bs t l (omega (arith, length-blocks st ms r)) (f .within) (f .some)),
+    p ∙ rw ex (copied-range (st .width) from cols (blockCount st) x bs t (max from skip - skip) (st .width - skip) (max from skip)
+        (from + cols - max from skip) o (omega arith) (omega arith)),
   )

@@ -1,6 +1,6 @@
 -- All columns of a stripe decoded range by range: what holds before each range, and what a range that is taken makes of it. Assumes nothing.
 use mathlib.Core.Path.{_≡_, refl, sym, ap, ap₂, _∙_}
-use mathlib.Core.Bool.{Bool, true, false}
+use mathlib.Core.Bool.{Bool, true, false, _&&_}
 use mathlib.Core.List.{List, _++_}
 use Prim.Native.Nat.{ℕ, zero, suc, _+_, _*_, _-_, _%_, _≤_, _<_, max, _^_}
 use native.Mathlib.Decide.{decLt}
@@ -14,11 +14,14 @@ use Rattle.code.specs.declared.Stripe.{Stripe}
 use Rattle.code.specs.Stripe.{modulusOf, blockCount, positionCount}
 use Rattle.image.specs.steps.Loading.{columnsOf}
 use Rattle.decoder.specs.steps.Decoder.{weightsIn}
-use Rattle.columns.specs.steps.Ranges.{copiedRows, placesTo, RangeFits, isConsistentRange, placesNumber, rangeNumber, columnsNumber, scratchWords}
+use Rattle.columns.specs.steps.Ranges.{copiedRows, columnsFit, RangeFits, isConsistentRange, columnsNumber, scratchWords}
+use Rattle.columns.specs.steps.Ranges.{fitRange, rangeTaken, withoutFirst}
 use Rattle.field.proofs.Booleans.{both-true, first-false, second-false}
+use Rattle.rows.specs.Decoding.{decodedNumber, solved}
 use Rattle.rows.proofs.ColumnRanges.{is-columns, consistent-range}
 use Rattle.columns.proofs.CopiedRows.{length-copied, copied-at, copied-off}
-use Rattle.columns.proofs.RangeCopies.{range-first, range-later, range-fails}
+use Rattle.columns.proofs.TestedRows.{fit-none, fit-more}
+use Rattle.columns.proofs.FullNumbers.{columns-zero, nine-differs, else-agrees, ten-more, zero-more, solved-number}
 
 -- THE ROWS of which the columns from `skip` up to `from` are copied
 pub record Filled (w skip from n : ℕ) (bs o₀ o : List ℕ) : Type 0 where
@@ -34,8 +37,8 @@ apart : (c i i′ j x : ℕ) → j < c → x < c → i * c + j ≡ i′ * c + x 
 apart c i i′ j x a b e = sym (digits-mod i a) ∙ ap (λ (q : ℕ). q % c) e ∙ digits-mod i′ b
 
 -- one range more
-module _ {w skip from n : ℕ} {bs o₀ o : List ℕ} (F : Filled w skip from n bs o₀ o) (cols : ℕ) (fits : from + cols ≤ w) (some : 0 < cols) (s : skip ≤ 1)
-    (z : skip < w) (room : n * (w - skip) ≤ length o₀) where
+module _ {w skip from n : ℕ} {bs o₀ o : List ℕ} (F : Filled w skip from n bs o₀ o) (cols : ℕ) (fits : from + cols ≤ w) (s : skip ≤ w)
+    (room : n * (w - skip) ≤ length o₀) where
   abbrev g : ℕ
   g = max from skip
 
@@ -63,9 +66,9 @@ module _ {w skip from n : ℕ} {bs o₀ o : List ℕ} (F : Filled w skip from n 
         (λ i j a c t. let u : i * (w - skip) + (g - skip + j) < n * (w - skip) = digits-lt a (omega (arith, inside)) in omega arith) ∙ F .rest q b;
   })
 
-filled-all : {w skip n : ℕ} {bs o₀ o : List ℕ} → Filled w skip w n bs o₀ o → skip < w → n * (w - skip) ≤ length o₀
+filled-all : {w skip n : ℕ} {bs o₀ o : List ℕ} → Filled w skip w n bs o₀ o → n * (w - skip) ≤ length o₀
     → o ≡ columnsOf w skip (w - skip) n bs ++ drop (n * (w - skip)) o₀
-filled-all {w} {skip} {n} {bs} {o₀} {o} F z room =
+filled-all {w} {skip} {n} {bs} {o₀} {o} F room =
     let m = n * (w - skip) in
     sym (take-append-drop m o)
     ∙ ap₂ _++_
@@ -86,40 +89,20 @@ less-consistent p w k l t width ms r i (suc n) b e = by (decLt n i) (less-consis
     by (yes y) rest = let z : i ≡ suc n = omega arith in rw z at e
     by (no y) rest = second-false (consistentColumn p w k l t ms (column width (2 ^ suc l) n r)) (rest (omega arith) e)
 
--- a range gives 9 only if it is not consistent
-not-ten : (skip : ℕ) (b : Bool) → placesNumber skip b ≡ 9 → ⊥
-unfolding placesNumber
-not-ten zero b e = omega arith
-not-ten (suc skip) true e = omega arith
-not-ten (suc skip) false e = omega arith
-
-range-nine : (from skip : ℕ) (c b : Bool) → rangeNumber from skip c b ≡ 9 → c ≡ false
-range-nine from skip true b e =
-    absurd (by (decLt 0 from))
-  where
-    by : Dec (0 < from) → ⊥
-    by (yes y) = omega (arith, range-later from skip b y)
-    by (no y) = not-ten skip b (sym (range-first from skip b (omega arith)) ∙ e)
-range-nine from skip false b e = refl
-
-range-some : (from skip : ℕ) (c b : Bool) → (rangeNumber from skip c b ≡ 9 → ⊥) → c ≡ true
-range-some from skip true b d = refl
-range-some from skip false b d = absurd (d (range-fails from skip b refl))
-
 -- THE LOOP before a range
 module _ (st : Stripe) (ms : List Bool) (r : List ℕ) (skip : ℕ) (o₀ : List ℕ) where
   abbrev areConsistent : (from : ℕ) → Bool
-  areConsistent from = consistentTo (modulusOf st) (st .root) (st .k) (st .level) (st .first) (st .width) ms (r) from
+  areConsistent from = consistentTo (modulusOf st) (st .root) (st .k) (st .level) (st .first) (st .width) ms r from
 
-  abbrev arePlaces : Bool
-  arePlaces = placesTo (st .width) (blocksIn st ms r) (blockCount st)
+  abbrev fitTo : (from : ℕ) → Bool
+  fitTo from = columnsFit (st .width) 0 0 from (blocksIn st ms r) (blockCount st)
 
   pub record Ranging (o s : List ℕ) (number from : ℕ) : Type 0 where
     pub turns : from ≤ st .width
     pub sized : length s ≡ scratchWords st
     pub weighed : drop (scratchWords st - positionCount st) s ≡ weightsIn st ms
     pub agreed : areConsistent from ≡ true
-    pub numbered : 0 < from → number ≡ placesNumber skip arePlaces
+    pub numbered : number ≡ columnsNumber true (fitTo from)
     pub copied : Filled (st .width) skip from (blockCount st) (blocksIn st ms r) o₀ o
 
   pub ranging-start : (s : List ℕ) → length s ≡ scratchWords st → drop (scratchWords st - positionCount st) s ≡ weightsIn st ms → Ranging o₀ s 0 0
@@ -129,66 +112,58 @@ module _ (st : Stripe) (ms : List Bool) (r : List ℕ) (skip : ℕ) (o₀ : List
     sized = e;
     weighed = d;
     agreed = refl;
-    numbered = λ b. absurd (omega arith);
+    numbered = sym (columns-zero refl (fit-none (st .width) (blocksIn st ms r) (blockCount st)));
     copied = filled-none (st .width) skip (blockCount st) (blocksIn st ms r) o₀;
   }
 
-  module _ {o s : List ℕ} {number from : ℕ} (R : Ranging o s number from) where
-    -- a range that is taken
-    module _ {cols found : ℕ} {o′ : List ℕ} (s′ : List ℕ) (f : RangeFits st from cols) (skips : skip ≤ 1) (thin : skip < st .width)
-        (room : blockCount st * (st .width - skip) ≤ length o₀)
-        (e : found ≡ rangeNumber from skip (isConsistentRange st ms r from cols) arePlaces) (d : found ≡ 9 → ⊥)
-        (q : isConsistentRange st ms r from cols ≡ true
-        → o′ ≡ copiedRows (max from skip - skip) (st .width - skip) (max from skip) (st .width) (from + cols - max from skip) (blocksIn st ms r)
-        (blockCount st) o)
-        (same : length s′ ≡ length s) (w : drop (scratchWords st - positionCount st) s′ ≡ drop (scratchWords st - positionCount st) s) where
-      fine : isConsistentRange st ms r from cols ≡ true
-      fine = range-some from skip (isConsistentRange st ms r from cols) arePlaces (λ n. d (e ∙ n))
+  module _ {o s : List ℕ} {number from : ℕ} (R : Ranging o s number from) {cols found : ℕ} (f : RangeFits st from cols)
+      (e : found ≡ columnsNumber (isConsistentRange st ms r from cols) (fitRange st ms r from cols)) where
+    -- a range that is not consistent
+    pub ranging-fails : found ≡ 9 → isConsistent st ms r ≡ false
+    ranging-fails n =
+        less-consistent (modulusOf st) (st .root) (st .k) (st .level) (st .first) (st .width) ms r (from + cols) (st .width) (f .within)
+        (consistent-range (modulusOf st) (st .root) (st .k) (st .level) (st .first) ms (st .width) r from cols
+        ∙ first-false (areConsistent from) (nine-differs (isConsistentRange st ms r from cols) (fitRange st ms r from cols) (sym e ∙ n)))
 
-      keeps : {number′ : ℕ} → (0 < from + cols → number′ ≡ placesNumber skip arePlaces) → Ranging o′ s′ number′ (from + cols)
-      keeps n = record {
+    -- a range that is taken: a number that is not 0 becomes that of all
+    module _ (d : found ≡ 9 → ⊥) where
+      fine : isConsistentRange st ms r from cols ≡ true
+      fine = else-agrees (isConsistentRange st ms r from cols) (fitRange st ms r from cols) (λ n. d (e ∙ n))
+
+      one : found ≡ columnsNumber true (fitRange st ms r from cols)
+      one = e ∙ ap (λ (c : Bool). columnsNumber c (fitRange st ms r from cols)) fine
+
+      both : fitTo (from + cols) ≡ (fitTo from && fitRange st ms r from cols)
+      both = fit-more (st .width) from cols (blocksIn st ms r) (blockCount st) (f .some)
+
+      pub number-found : {number′ : ℕ} → (found ≡ 0 → ⊥) → number′ ≡ found → number′ ≡ columnsNumber true (fitTo (from + cols))
+      number-found z q = q ∙ ten-more (fitTo from) (fitRange st ms r from cols) one z ∙ ap (columnsNumber true) (sym both)
+
+      pub number-kept : {number′ : ℕ} → found ≡ 0 → number′ ≡ number → number′ ≡ columnsNumber true (fitTo (from + cols))
+      number-kept z q = q ∙ zero-more (fitTo from) (fitRange st ms r from cols) one z (R .numbered) ∙ ap (columnsNumber true) (sym both)
+
+      pub ranging-turn : {o′ : List ℕ} (s′ : List ℕ) {number′ : ℕ} → skip ≤ st .width → blockCount st * (st .width - skip) ≤ length o₀
+          → (isConsistentRange st ms r from cols ≡ true → o′ ≡ rangeTaken st ms r from cols skip o)
+          → length s′ ≡ length s → drop (scratchWords st - positionCount st) s′ ≡ drop (scratchWords st - positionCount st) s
+          → number′ ≡ columnsNumber true (fitTo (from + cols)) → Ranging o′ s′ number′ (from + cols)
+      ranging-turn s′ few room q same w n = record {
         turns = f .within;
         sized = same ∙ R .sized;
         weighed = w ∙ R .weighed;
-        agreed = consistent-range (modulusOf st) (st .root) (st .k) (st .level) (st .first) ms (st .width) (r) from cols ∙ both-true fine (R .agreed);
+        agreed = consistent-range (modulusOf st) (st .root) (st .k) (st .level) (st .first) ms (st .width) r from cols ∙ both-true fine (R .agreed);
         numbered = n;
-        copied = filled-more (R .copied) cols (f .within) (f .some) skips (omega arith) room (q fine);
+        copied = filled-more (R .copied) cols (f .within) few room (q fine);
       }
 
-      pub ranging-first : {number′ : ℕ} → from ≡ 0 → number′ ≡ found → Ranging o′ s′ number′ (from + cols)
-      ranging-first z n = keeps (λ _. n ∙ e ∙ rw fine (range-first from skip arePlaces (omega arith)))
+  -- all ranges
+  module _ {o s : List ℕ} {number from : ℕ} (R : Ranging o s number from) (last : st .width ≤ from) where
+    all-from : from ≡ st .width
+    all-from = omega (arith, R .turns)
 
-      pub ranging-later : {number′ : ℕ} → (from ≡ 0 → ⊥) → number′ ≡ number → Ranging o′ s′ number′ (from + cols)
-      ranging-later z n = keeps (λ _. n ∙ R .numbered (omega arith))
+    pub ranging-number : st .level ≡ st .k → 0 < st .width → number ≡ decodedNumber (solved st ms r)
+    ranging-number full z =
+        R .numbered ∙ rw all-from (ap (λ (c : Bool). columnsNumber c (fitTo (st .width))) (sym (rw all-from at (R .agreed)))) ∙ solved-number st ms r full z
 
-    -- a range that is not consistent
-    pub ranging-fails : {cols found : ℕ} → RangeFits st from cols → found ≡ rangeNumber from skip (isConsistentRange st ms r from cols) arePlaces → found ≡ 9
-        → isConsistent st ms r ≡ false
-    ranging-fails {cols} f e n =
-        less-consistent (modulusOf st) (st .root) (st .k) (st .level) (st .first) (st .width) ms (r) (from + cols) (st .width) (f .within)
-        (consistent-range (modulusOf st) (st .root) (st .k) (st .level) (st .first) ms (st .width) (r) from cols
-        ∙ first-false (areConsistent from) (range-nine from skip (isConsistentRange st ms r from cols) arePlaces (sym e ∙ n)))
-
-    -- all ranges
-    module _ (last : st .width ≤ from) where
-      all-from : from ≡ st .width
-      all-from = omega (arith, R .turns)
-
-      pub ranging-agrees : isConsistent st ms r ≡ true
-      ranging-agrees = ap areConsistent (sym all-from) ∙ R .agreed
-
-      pub ranging-number : 0 < st .width → number ≡ placesNumber skip arePlaces
-      ranging-number z = R .numbered (omega arith)
-
-      pub ranging-rows : skip < st .width → blockCount st * (st .width - skip) ≤ length o₀
-          → o ≡ columnsOf (st .width) skip (st .width - skip) (blockCount st) (blocksIn st ms r) ++ drop (blockCount st * (st .width - skip)) o₀
-      ranging-rows thin room = filled-all (rw all-from at (R .copied)) (omega arith) room
-
--- the number of all columns
-pub columns-fail : (skip : ℕ) {c : Bool} (b : Bool) → c ≡ false → columnsNumber skip c b ≡ 9
-unfolding columnsNumber
-columns-fail skip b e = rw (e, columnsNumber)
-
-pub columns-agree : (skip : ℕ) {c : Bool} (b : Bool) → c ≡ true → columnsNumber skip c b ≡ placesNumber skip b
-unfolding columnsNumber
-columns-agree skip b e = rw (e, columnsNumber)
+    pub ranging-rows : blockCount st * (st .width - skip) ≤ length o₀
+        → o ≡ withoutFirst st ms r skip ++ drop (blockCount st * (st .width - skip)) o₀
+    ranging-rows room = filled-all (rw all-from at (R .copied)) room

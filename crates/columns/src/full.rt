@@ -10,7 +10,7 @@ ghost use Rattle.image.specs.steps.Loading.{rowsIn};
 ghost use Rattle.rows.specs.Decoding.{decodedNumber, decodedWords, solved};
 ghost use Rattle.rows.specs.StripeFits.{StripeFits};
 ghost use Rattle.rows.specs.steps.Ready.{Ready};
-ghost use Rattle.columns.specs.steps.Ranges.{Decodable, scratchWords, allNumber, withoutFirst};
+ghost use Rattle.columns.specs.steps.Ranges.{Decodable, scratchWords, withoutFirst};
 ghost use Rattle.columns.specs.steps.Full.{decodedData};
 
 // Stores the weights of the positions in the last words of the scratch.
@@ -35,9 +35,9 @@ fn decode_all(
 ) -> u32
     requires { ⌜ Decodable st skip (now bytes) (now marks) ⌝ }
     requires { ⌜ (length (now out) ≡ blockCount st * (st .width - skip)) × (length (now scratch) ≡ scratchWords st) ⌝ }
-    ensures { λ r. ⌜ r ≡ allNumber st (now (marks .entry)) (rowsIn st (now (marks .entry)) (now (bytes .entry))) skip ⌝ }
+    ensures { λ r. ⌜ r ≡ decodedNumber (solved st (now (marks .entry)) (rowsIn st (now (marks .entry)) (now (bytes .entry)))) ⌝ }
     ensures { λ _. ⌜ now (out .exit) ≡
-        ifTaken (allNumber st (now (marks .entry)) (rowsIn st (now (marks .entry)) (now (bytes .entry))) skip)
+        ifTaken (decodedNumber (solved st (now (marks .entry)) (rowsIn st (now (marks .entry)) (now (bytes .entry)))))
         (withoutFirst st (now (marks .entry)) (rowsIn st (now (marks .entry)) (now (bytes .entry))) skip) (replicate (blockCount st * (st .width - skip)) 0) ⌝ }
     ensures { λ _. ⌜ now (scratch .exit) ≡ replicate (scratchWords st) 0 ⌝ }
 {
@@ -59,21 +59,13 @@ pub fn decode_full(
     scratch: &mut [u32],
 ) -> u32
     requires { ⌜ Ready st (now marks) (rowsIn st (now marks) (now bytes)) ⌝ }
-    requires { ⌜ length (now bytes) ≡ 4 * stripeWords st ⌝ }
+    requires { ⌜ (length (now bytes) ≡ 4 * stripeWords st) × (st .level ≡ st .k) ⌝ }
     requires { ⌜ (length (now out) ≡ blockWords st) × (length (now scratch) ≡ scratchWords st) ⌝ }
     ensures { λ r. ⌜ r ≡ decodedNumber (solved st (now (marks .entry)) (rowsIn st (now (marks .entry)) (now (bytes .entry)))) ⌝ }
     ensures { λ _. ⌜ now (out .exit) ≡ decodedWords (solved st (now (marks .entry)) (rowsIn st (now (marks .entry)) (now (bytes .entry)))) (blockWords st) ⌝ }
     ensures { λ _. ⌜ now (scratch .exit) ≡ replicate (scratchWords st) 0 ⌝ }
 {
-    let number = decode_all(st, bytes, marks, 0, out, scratch);
-    if number != 0 {
-        return number;
-    }
-    if rows::records::are_records(st, out) {
-        return 0;
-    }
-    layout::words::clear(out);
-    10
+    decode_all(st, bytes, marks, 0, out, scratch)
 }
 
 // The records that the full stripe holds: 9 or 10, or 0 and the records; zeros where it is not 0. The scratch is zeros.
@@ -91,14 +83,16 @@ pub fn recover_full(
     ensures { λ _. ⌜ now (out .exit) ≡ decodedData st (solved st (now (marks .entry)) (rowsIn st (now (marks .entry)) (now (bytes .entry)))) ⌝ }
     ensures { λ _. ⌜ now (scratch .exit) ≡ replicate (scratchWords st) 0 ⌝ }
 {
-    let rows = code::number::two_to(st.level);
-    let number = decode_all(st, bytes, marks, 1, out, scratch);
-    if number != 0 {
-        return number;
-    }
-    if layout::words::records_fit(out, st.width - 1, rows) {
-        return 0;
-    }
-    layout::words::clear(out);
-    10
+    decode_all(st, bytes, marks, 1, out, scratch)
+}
+
+// Whether the full stripe holds records: 9 or 10, or 0. It is lent no room for them. The scratch is zeros.
+pub fn check_full(st: Stripe, bytes: &[u8], marks: &[bool], scratch: &mut [u32]) -> u32
+    requires { ⌜ Ready st (now marks) (rowsIn st (now marks) (now bytes)) ⌝ }
+    requires { ⌜ (length (now bytes) ≡ 4 * stripeWords st) × (st .level ≡ st .k) ⌝ }
+    requires { ⌜ length (now scratch) ≡ scratchWords st ⌝ }
+    ensures { λ r. ⌜ r ≡ decodedNumber (solved st (now (marks .entry)) (rowsIn st (now (marks .entry)) (now (bytes .entry)))) ⌝ }
+    ensures { λ _. ⌜ now (scratch .exit) ≡ replicate (scratchWords st) 0 ⌝ }
+{
+    decode_all(st, bytes, marks, st.width, &mut [], scratch)
 }

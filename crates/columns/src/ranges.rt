@@ -1,4 +1,4 @@
-// Ranges of columns of a stripe decoded in the scratch, and rows copied out of it.
+// Ranges of columns of a stripe decoded in the scratch and tested there, and rows copied out of it.
 use crate::Lines;
 use crate::Range;
 use code::Stripe;
@@ -11,9 +11,10 @@ ghost use Rattle.code.specs.Stripe.{blockCount, positionCount};
 ghost use Rattle.decoder.specs.Decoding.{isConsistent};
 ghost use Rattle.decoder.specs.steps.Decoder.{weightsIn};
 ghost use Rattle.image.specs.steps.Loading.{rowsIn};
+ghost use Rattle.rows.specs.Decoding.{decodedNumber, solved};
 ghost use Rattle.rows.specs.StripeFits.{StripeFits};
-ghost use Rattle.columns.specs.steps.Ranges.{placesTo, copiedRows, Decodable, scratchWords, RangeFits, isConsistentRange};
-ghost use Rattle.columns.specs.steps.Ranges.{arePlaces, rangeTaken, rangeNumber, allNumber, withoutFirst};
+ghost use Rattle.columns.specs.steps.Ranges.{placesTo, dataTo, columnsFit, copiedRows, Decodable, scratchWords, RangeFits, isConsistentRange};
+ghost use Rattle.columns.specs.steps.Ranges.{fitRange, columnsNumber, rangeTaken, withoutFirst};
 
 // Copies `count` words of each row.
 fn copy_rows(out: &mut [u32], to: Lines, words: &[u32], from: Lines, count: usize, rows: usize)
@@ -48,6 +49,36 @@ fn are_places(words: &[u32], width: usize, rows: usize) -> bool
     true
 }
 
+// Whether the words of each row from index `first` on are data.
+fn data_fit(words: &[u32], width: usize, first: usize, rows: usize) -> bool
+    requires { ⌜ (first ≤ width) × (rows * width ≤ length (now words)) ⌝ }
+    ensures { λ r. ⌜ r ≡ dataTo width first (width - first) (now (words .entry)) rows ⌝ }
+{
+    let mut at = 0;
+    for i in 0..rows {
+        let next = at + width;
+        if !layout::words::all_data(&words[at + first..next]) {
+            return false;
+        }
+        at = next;
+    }
+    true
+}
+
+// Whether rows of `cols` words may be the columns from `from` on of records.
+fn columns_fit(words: &[u32], from: usize, cols: usize, rows: usize) -> bool
+    requires { ⌜ (0 < cols) × (rows * cols ≤ length (now words)) ⌝ }
+    ensures { λ r. ⌜ r ≡ columnsFit cols 0 from cols (now (words .entry)) rows ⌝ }
+{
+    if 0 < from {
+        return data_fit(words, cols, 0, rows);
+    }
+    if are_places(words, cols, rows) {
+        return data_fit(words, cols, 1, rows);
+    }
+    false
+}
+
 // How many columns are decoded at once from column `from` on: as many as the scratch has room for, or all that are left.
 fn range_columns(st: Stripe, from: usize) -> usize
     requires { ⌜ (StripeFits st) × (from < st .width) ⌝ }
@@ -61,11 +92,11 @@ fn range_columns(st: Stripe, from: usize) -> usize
     left
 }
 
-// Copies the words of a range of columns to their columns of `out`. 10 if column 0 is skipped and holds a number that is not its place, 0 otherwise.
-fn take_range(words: &[u32], st: Stripe, range: Range, out: &mut [u32]) -> u32
-    requires { ⌜ (st .level ≤ 15) × (0 < range .cols) × (range .from + range .cols ≤ st .width) × (range .skip ≤ 1) ⌝ }
+// Copies the words of a range of columns to their columns of `out`, those from column `skip` on. Whether they may be those of records.
+fn take_range(words: &[u32], st: Stripe, range: Range, out: &mut [u32]) -> bool
+    requires { ⌜ (st .level ≤ 15) × (0 < range .cols) × (range .from + range .cols ≤ st .width) × (range .skip ≤ st .width) ⌝ }
     requires { ⌜ (blockCount st * range .cols ≤ length (now words)) × (blockCount st * (st .width - range .skip) ≤ length (now out)) ⌝ }
-    ensures { λ r. ⌜ r ≡ rangeNumber (range .from) (range .skip) true (placesTo (range .cols) (now (words .entry)) (blockCount st)) ⌝ }
+    ensures { λ r. ⌜ r ≡ columnsFit (range .cols) 0 (range .from) (range .cols) (now (words .entry)) (blockCount st) ⌝ }
     ensures { λ _. ⌜ now (out .exit) ≡
         copiedRows (max (range .from) (range .skip) - range .skip) (st .width - range .skip) (max (range .from) (range .skip) - range .from) (range .cols)
         (range .from + range .cols - max (range .from) (range .skip)) (now (words .entry)) (blockCount st) (now (out .entry)) ⌝ }
@@ -74,39 +105,24 @@ fn take_range(words: &[u32], st: Stripe, range: Range, out: &mut [u32]) -> u32
     let from = range.from;
     let cols = range.cols;
     let skip = range.skip;
-    let width = st.width - skip;
-    if 0 < from {
+    let end = from + cols;
+    let first = if from < skip { skip } else { from };
+    if first < end {
         let to = Lines {
-            first: from - skip,
-            stride: width,
+            first: first - skip,
+            stride: st.width - skip,
         };
-        let all = Lines {
-            first: 0,
+        let of = Lines {
+            first: first - from,
             stride: cols,
         };
-        copy_rows(out, to, words, all, cols, rows);
-        return 0;
+        copy_rows(out, to, words, of, end - first, rows);
     }
-    let to = Lines {
-        first: 0,
-        stride: width,
-    };
-    let some = Lines {
-        first: skip,
-        stride: cols,
-    };
-    copy_rows(out, to, words, some, cols - skip, rows);
-    if skip == 0 {
-        return 0;
-    }
-    if are_places(words, cols, rows) {
-        return 0;
-    }
-    10
+    columns_fit(words, from, cols, rows)
 }
 
 // Decodes a range of columns in the last words of the scratch and copies the blocks' words to `out`, as `take_range` does. 9 if no blocks have the surviving
-// words. The weights behind the range stay.
+// words, 10 if those are not of records, 0 otherwise. The weights behind the range stay.
 fn decode_range(
     st: Stripe,
     bytes: &[u8],
@@ -121,9 +137,8 @@ fn decode_range(
     requires { ⌜ length (now scratch) ≡ scratchWords st ⌝ }
     requires { ⌜ drop (scratchWords st - positionCount st) (now scratch) ≡ weightsIn st (now marks) ⌝ }
     ensures { λ r. ⌜ r ≡
-        rangeNumber (range .from) (range .skip)
-        (isConsistentRange st (now (marks .entry)) (rowsIn st (now (marks .entry)) (now (bytes .entry))) (range .from) (range .cols))
-        (arePlaces st (now (marks .entry)) (rowsIn st (now (marks .entry)) (now (bytes .entry)))) ⌝ }
+        columnsNumber (isConsistentRange st (now (marks .entry)) (rowsIn st (now (marks .entry)) (now (bytes .entry))) (range .from) (range .cols))
+        (fitRange st (now (marks .entry)) (rowsIn st (now (marks .entry)) (now (bytes .entry))) (range .from) (range .cols)) ⌝ }
     ensures { λ _. ⌜ (isConsistentRange st (now (marks .entry)) (rowsIn st (now (marks .entry)) (now (bytes .entry))) (range .from) (range .cols) ≡ true →
         now (out .exit) ≡
         rangeTaken st (now (marks .entry)) (rowsIn st (now (marks .entry)) (now (bytes .entry))) (range .from) (range .cols) (range .skip)
@@ -137,10 +152,14 @@ fn decode_range(
     if !rows::decoding::decode_columns(st, bytes, marks, range.from, cols, part) {
         return 9;
     }
-    take_range(&scratch[start..], st, range, out)
+    if take_range(&scratch[start..], st, range, out) {
+        return 0;
+    }
+    10
 }
 
-// Decodes all columns, range by range, to rows that lack the first `skip` columns, in a scratch that ends in the weights. The numbers are those of a range.
+// Decodes all columns, range by range, to rows that lack the first `skip` columns, in a scratch that ends in the weights: 9, 10 or 0. Only the last range
+// tells that none is 9, so that 10 waits for it.
 pub(crate) fn decode_ranges(
     st: Stripe,
     bytes: &[u8],
@@ -153,7 +172,7 @@ pub(crate) fn decode_ranges(
     requires { ⌜ blockCount st * (st .width - skip) ≤ length (now out) ⌝ }
     requires { ⌜ length (now scratch) ≡ scratchWords st ⌝ }
     requires { ⌜ drop (scratchWords st - positionCount st) (now scratch) ≡ weightsIn st (now marks) ⌝ }
-    ensures { λ r. ⌜ r ≡ allNumber st (now (marks .entry)) (rowsIn st (now (marks .entry)) (now (bytes .entry))) skip ⌝ }
+    ensures { λ r. ⌜ r ≡ decodedNumber (solved st (now (marks .entry)) (rowsIn st (now (marks .entry)) (now (bytes .entry)))) ⌝ }
     ensures { λ _. ⌜ (isConsistent st (now (marks .entry)) (rowsIn st (now (marks .entry)) (now (bytes .entry))) ≡ true →
         now (out .exit) ≡
         withoutFirst st (now (marks .entry)) (rowsIn st (now (marks .entry)) (now (bytes .entry))) skip ++
@@ -173,7 +192,7 @@ pub(crate) fn decode_ranges(
         if found == 9 {
             return 9;
         }
-        if from == 0 {
+        if found != 0 {
             number = found;
         }
         from += cols;

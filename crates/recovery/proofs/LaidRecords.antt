@@ -14,7 +14,6 @@ use Rattle.code.specs.declared.Stripe.{Stripe}
 use Rattle.code.specs.Stripe.{blockCount, positionCount, blockWords, stripeWords}
 use Rattle.decoder.specs.Decoding.{isConsistent, blocksIn}
 use Rattle.field.proofs.Booleans.{first-true, second-true}
-use Rattle.layout.specs.Records.{recordsFit}
 use Rattle.image.specs.steps.Loading.{columnsOf}
 use Rattle.rows.specs.Decoding.{Decoded, failed, decoded, blockNumber, blockData, areRecords, decodedNumber, decodedWords, solved}
 use Rattle.rows.specs.StripeFits.{StripeFits}
@@ -22,7 +21,7 @@ use Rattle.rows.proofs.BlockRecords.{record-at, number-low}
 use Rattle.rows.proofs.ColumnRanges.{columns-none, length-columns}
 use Rattle.rows.proofs.RowParts.{length-blocks}
 use Rattle.rows.proofs.StripeNumbers.{solved-nine, solved-ten, solved-blocks}
-use Rattle.columns.specs.steps.Ranges.{placesTo}
+use Rattle.columns.specs.steps.Ranges.{placesTo, dataTo}
 use Rattle.columns.specs.steps.Full.{dataOf, decodedData}
 use Rattle.stripe.proofs.LevelParts.{lent-front, scratch-in, level-needs}
 use Rattle.columns.proofs.FullNumbers.{data-row, records-full}
@@ -112,14 +111,14 @@ module _ (st : Stripe) (full : st .level ≡ st .k) (thick : 0 < st .width) (bs 
       let room : suc n * s ≤ length (x ++ drop (n * s) r) = omega (arith, length-append x (drop (n * s) r), length-drop (n * s) r) in
       rw (wide, i, p)
       (replaced-is s (x ++ drop (n * s) r) n (blockData w bs n) long room
-      ∙ rw (take-at x (drop (n * s) r) (n * s) t, d, data-row st full thick bs n b) (sym (append-assoc x (blockData w bs n) (drop (suc n * s) r))))
+      ∙ rw (take-at x (drop (n * s) r) (n * s) t, d, data-row st bs n thick b) (sym (append-assoc x (blockData w bs n) (drop (suc n * s) r))))
 
   full-laid : blockCount st * w ≤ length bs → areRecords st bs (blockCount st) ≡ true
       → dataOf st bs ≡ laid s bs (blockCount st) (replicate (blockCount st * s) 0)
   full-laid b a =
       let n = blockCount st in
       let p : placesTo w bs n ≡ true =
-      first-true (placesTo w bs n) (recordsFit s (dataOf st bs) n) (sym (records-full st full thick bs n b n (omega arith)) ∙ a) in
+      first-true (placesTo w bs n) (dataTo w 1 s bs n) (sym (records-full st bs full n) ∙ a) in
       let z : length {A = ℕ} (replicate (n * s) 0) ≡ n * s = length-replicate (n * s) 0 in
       sym (laid-full n (replicate (n * s) 0) b (omega arith) p
       ∙ ap (λ (y : List ℕ). columnsOf w 1 s n bs ++ y) (drop-of-length-le (replicate (n * s) 0) {i = n * s} (omega arith)) ∙ append-nil (columnsOf w 1 s n bs))

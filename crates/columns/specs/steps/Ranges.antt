@@ -5,11 +5,12 @@ use mathlib.Core.Bool.{Bool, true, false, _&&_}
 use mathlib.Core.List.{List}
 use Prim.Native.Nat.{ℕ, zero, suc, _+_, _*_, _-_, _≤_, _<_, max}
 use lib.Dec.{eqb}
-use lib.ListN.{length, getD}
+use lib.ListN.{length, getD, take, drop}
 use Rattle.code.specs.declared.Stripe.{Stripe}
 use Rattle.code.specs.Stripe.{blockCount, positionCount, blockWords, stripeWords}
 use Rattle.code.specs.steps.Storing.{stored, wordFrom}
 use Rattle.decoder.specs.Decoding.{isConsistent, blocksIn}
+use Rattle.layout.specs.Records.{areData}
 use Rattle.image.specs.steps.Loading.{columnsOf, rowsIn}
 use Rattle.rows.specs.steps.Ready.{Ready, narrow}
 
@@ -18,17 +19,30 @@ unfoldable pub placesTo : (width : ℕ) → (rows : List ℕ) → (n : ℕ) → 
 placesTo width r zero = true
 placesTo width r (suc j) = eqb (getD r (j * width) 0) j && placesTo width r j
 
+-- whether `count` words of each of the first n rows, from column `from` on, may be data
+unfoldable pub dataTo : (width from count : ℕ) → (rows : List ℕ) → (n : ℕ) → Bool
+dataTo width from count r zero = true
+dataTo width from count r (suc j) = areData (take count (drop (j * width + from) r)) && dataTo width from count r j
+
+-- whether the columns `from` up to `from + cols` of n blocks may be those of records: in column 0 each number is its place, the others are data. They stand
+-- from index `at` on, in rows of `width` words
+unfoldable pub columnsFit : (width at from cols : ℕ) → (rows : List ℕ) → (n : ℕ) → Bool
+columnsFit width at from zero r n = true
+columnsFit width at zero (suc cols) r n = placesTo width r n && dataTo width 1 cols r n
+columnsFit width at (suc from) (suc cols) r n = dataTo width at (suc cols) r n
+
 -- `count` words of each of n rows, from column `from` of rows of `stride` words to column `to` of rows of `width` words
 unfoldable pub copiedRows : (to width from stride count : ℕ) → (words : List ℕ) → (n : ℕ) → (out : List ℕ) → List ℕ
 copiedRows to width from stride count l zero o = o
 copiedRows to width from stride count l (suc n) o =
     stored (to + n * width) (wordFrom l (from + n * stride)) count (copiedRows to width from stride count l n o)
 
--- a stripe's bytes, of which all columns can be decoded but the first `skip`
+-- the full stripe's bytes, which can be decoded to rows that lack the first `skip` columns
 pub record Decodable (st : Stripe) (skip : ℕ) (bytes : List ℕ) (marks : List Bool) : Type 0 where
   pub ready : Ready st marks (rowsIn st marks bytes)
   pub long : length bytes ≡ 4 * stripeWords st
-  pub few : skip ≤ 1
+  pub full : st .level ≡ st .k
+  pub few : skip ≤ st .width
 
 -- the scratch that the full stripe is decoded in: the words of its blocks, and four more for each
 abbrev pub scratchWords : Stripe → ℕ
@@ -44,24 +58,13 @@ pub record RangeFits (st : Stripe) (from cols : ℕ) : Type 0 where
   pub within : from + cols ≤ st .width
   pub room : positionCount st * cols + positionCount st ≤ scratchWords st
 
--- what a range of columns gives where column 0 is skipped: 9, or 10 if its numbers are not their places
-unfoldable pub placesNumber : (skip : ℕ) → (places : Bool) → ℕ
-placesNumber zero b = 0
-placesNumber (suc skip) b = elim b [ true ↦ 0 | false ↦ 10 ]
+-- the number of some columns: 9 if no blocks have their surviving words, 10 if those are not of records
+unfoldable pub columnsNumber : (isConsistent fit : Bool) → ℕ
+columnsNumber c b = elim c [ true ↦ elim b [ true ↦ 0 | false ↦ 10 ] | false ↦ 9 ]
 
-unfoldable pub rangeNumber : (from skip : ℕ) → (isConsistent places : Bool) → ℕ
-rangeNumber from skip c b = elim c [ true ↦ elim (eqb from 0) [ true ↦ placesNumber skip b | false ↦ 0 ] | false ↦ 9 ]
-
-unfoldable pub columnsNumber : (skip : ℕ) → (isConsistent places : Bool) → ℕ
-columnsNumber skip c b = elim c [ true ↦ placesNumber skip b | false ↦ 9 ]
-
--- whether the number of each block is its place
-abbrev pub arePlaces : Stripe → (marks : List Bool) → (rows : List ℕ) → Bool
-arePlaces st ms r = placesTo (st .width) (blocksIn st ms r) (blockCount st)
-
--- what all columns but the first `skip` give
-abbrev pub allNumber : Stripe → (marks : List Bool) → (rows : List ℕ) → (skip : ℕ) → ℕ
-allNumber st ms r skip = columnsNumber skip (isConsistent st ms r) (arePlaces st ms r)
+-- whether the blocks' words of a range of columns may be those of records
+abbrev pub fitRange : Stripe → (marks : List Bool) → (rows : List ℕ) → (from cols : ℕ) → Bool
+fitRange st ms r from cols = columnsFit (st .width) from from cols (blocksIn st ms r) (blockCount st)
 
 -- the blocks' words of a range of columns in their columns of rows that lack the first `skip`
 abbrev pub rangeTaken : Stripe → (marks : List Bool) → (rows : List ℕ) → (from cols skip : ℕ) → (out : List ℕ) → List ℕ

@@ -1,13 +1,12 @@
 -- `columns::full::decode_all` meets its contract. Assumes nothing.
-use mathlib.Core.Path.{_≡_, sym, ap, _∙_}
-use Prim.Native.Nat.{ℕ, _*_, _-_}
+use mathlib.Core.Path.{_≡_, ap, _∙_}
+use Prim.Native.Nat.{ℕ}
 use native.Mathlib.Omega.{arith}
 use borrow.Author.Needs.{needs}
 use lib.ListN.{replicate}
-use Rattle.code.specs.Stripe.{blockCount}
-use Rattle.layout.proofs.Refusals.{if-taken, if-refused}
+use Rattle.image.specs.steps.Loading.{rowsIn}
 use Rattle.columns.specs.steps.Ranges.{scratchWords}
-use Rattle.columns.proofs.FullNumbers.{filled, zero-agrees}
+use Rattle.columns.proofs.FullNumbers.{left-zeros, left-words}
 use Rattle.columns.proofs.full.decode_all.Statement.{statement}
 use Rattle.columns.proofs.full.decode_all.Tie as tie
 
@@ -57,9 +56,15 @@ cleared p =
 returns : tie.Need-returns
 returns c =
     let p = clear-at-clear2 (c .before .before) in
-    let d = at-ranges p .decode-ranges in
-    let zeros = c .before .before .clear2 .ensures ∙ ap (λ (n : ℕ). replicate n 0) (d .kept .1 .1 .1 .1 .0 ∙ start p .pre .1 .0) in
-    (d .ensures .0, (zeros ∙ sym (if-refused _ _ (λ z. c .before .before .before .before .if1 .taken (d .ensures .0 ∙ z))), cleared p))
+    let a = start p .args in
+    let d = at-ranges p .decode-ranges in (
+      d .ensures .0,
+      (
+        left-zeros (a .st) (a .marks .now) (rowsIn (a .st) (a .marks .now) (a .bytes .now)) (a .skip) (d .ensures .0)
+            (c .before .before .before .before .if1 .taken) (c .before .before .clear2 .ensures) (d .kept .1 .1 .1 .1 .0 ∙ start p .pre .1 .0),
+        cleared p,
+      ),
+    )
 
 same-length-3 : tie.Need-same-length-3
 same-length-3 c = search needs
@@ -71,10 +76,14 @@ returns-2 : tie.Need-returns-2
 returns-2 c =
     let p = c .before .before .before in
     let a = start p .args in
-    let d = at-ranges p .decode-ranges in
-    let z = sym (d .ensures .0) ∙ c .if1 .left in
-    let whole = filled (blockCount (a .st) * (a .st .width - a .skip)) (a .out .now) (start p .pre .1 .0) (d .ensures .1 (zero-agrees (a .skip) _ _ z)) in
-    (d .ensures .0, (whole ∙ sym (if-taken _ _ z), cleared p))
+    let d = at-ranges p .decode-ranges in (
+      d .ensures .0,
+      (
+        left-words (a .st) (a .marks .now) (rowsIn (a .st) (a .marks .now) (a .bytes .now)) (a .skip) (d .ensures .0) (a .out .now)
+            (c .if1 .left) (d .ensures .1) (start p .pre .1 .0),
+        cleared p,
+      ),
+    )
 
 pub decode-all-spec : {M : Type 1} → statement M
 decode-all-spec =

@@ -1,17 +1,18 @@
 -- `columns::ranges::decode_range` meets its contract. Assumes nothing.
 use mathlib.Core.Path.{_≡_, refl, sym, _∙_}
-use mathlib.Core.Bool.{false≢true}
-use Prim.Native.Nat.{_+_, _*_, _-_}
+use mathlib.Core.Bool.{Bool, true, false≢true}
+use Prim.Native.Nat.{_+_, _*_, _-_, _≤_}
 use native.Mathlib.Omega.{arith}
 use borrow.Author.Needs.{needs}
 use borrow.Author.Tests.{not-true, not-false}
 use borrow.Rule.Slice.PartMut.{putMid}
 use lib.ListN.{length, take, drop}
-use Rattle.code.specs.Stripe.{positionCount}
+use Rattle.code.specs.Stripe.{blockCount, positionCount}
 use Rattle.image.specs.steps.Loading.{rowsIn}
-use Rattle.columns.specs.steps.Ranges.{scratchWords, isConsistentRange, arePlaces, rangeTaken, rangeNumber}
+use Rattle.columns.specs.steps.Ranges.{scratchWords, isConsistentRange, fitRange, rangeTaken}
 use Rattle.columns.proofs.ScratchTails.{Tail, span, half-span, scratch-low, tail-long, tail-weights, put-weights, lent-again}
-use Rattle.columns.proofs.RangeCopies.{range-fails, range-taken}
+use Rattle.columns.proofs.FullNumbers.{columns-nine, columns-zero, columns-ten}
+use Rattle.columns.proofs.RangeCopies.{range-taken}
 use Rattle.columns.proofs.RangeDecoding.{range-weights, range-blocks}
 use Rattle.columns.proofs.ranges.decode_range.Statement.{statement}
 use Rattle.columns.proofs.ranges.decode_range.Tie as tie
@@ -19,12 +20,6 @@ use Rattle.columns.proofs.ranges.decode_range.Tie as tie
 -- PLACES: `x-at-y c` is the place x that stands before y
 abbrev start-at-part : tie.After-part → tie.Start
 start-at-part c = c .before .before .before .before .before .before
-
-abbrev start-at-scratch2 : tie.After-scratch2 → tie.Start
-start-at-scratch2 c = start-at-part (c .before .before .before .before .before)
-
-abbrev two-to-at-scratch2 : tie.After-scratch2 → tie.After-two-to
-two-to-at-scratch2 c = c .before .before .before .before .before .before
 
 abbrev decode-columns-at-scratch2 : tie.After-scratch2 → tie.After-decode-columns
 decode-columns-at-scratch2 c = c .before .before .before .before
@@ -96,11 +91,15 @@ weights-stay c =
     put-weights T _ (range-weights (a .st) (a .marks .now) (rowsIn (a .st) (a .marks .now) (a .bytes .now)) (a .range .from) (a .range .cols)
     (c .decode-columns .ensures .1) ∙ sym (tail-weights T ∙ s .pre .1 .1 .1 .1))
 
+-- whether the range is consistent
+consistent : (c : tie.After-decode-columns) {b : Bool} → c .decode-columns .result ≡ b → let a = start-at-part (c .before) .args in
+    isConsistentRange (a .st) (a .marks .now) (rowsIn (a .st) (a .marks .now) (a .bytes .now)) (a .range .from) (a .range .cols) ≡ b
+consistent c e = sym (c .decode-columns .ensures .0) ∙ e
+
 returns : tie.Need-returns
 returns c =
-    let s = start-at-part (c .before .before .before .before) in
-    let e = sym (c .before .before .before .decode-columns .ensures .0) ∙ not-true _ (c .if1 .taken) in
-    (sym (range-fails (s .args .range .from) (s .args .range .skip) _ e), (λ t. absurd (false≢true (sym e ∙ t)), weights-stay (c .before .before .before)))
+    let e = consistent (c .before .before .before) (not-true _ (c .if1 .taken)) in
+    (sym (columns-nine _ e), (λ t. absurd (false≢true (sym e ∙ t)), weights-stay (c .before .before .before)))
 
 mul-take-range : tie.Need-mul-take-range
 mul-take-range c = search needs
@@ -114,7 +113,13 @@ part-take-range-start c = search needs
 part-take-range-end : tie.Need-part-take-range-end
 part-take-range-end c = search needs
 
--- the words of the range, lent again
+-- the words of the range: as many as those of the blocks, or more, and lent again
+words-long : (c : tie.After-decode-columns) → let a = start-at-part (c .before) .args in
+    blockCount (a .st) * a .range .cols ≤ length (c .decode-columns .last .1 .1 .1 .1 .1 .0)
+words-long c =
+    let a = start-at-part (c .before) .args in
+    rw (c .decode-columns .kept .1 .1 .1 .1 .1 .0, tail-long (tail (c .before .before))) (half-span (a .st .level) (a .range .cols))
+
 words-are : (c : tie.After-decode-columns) → let l = start-at-part (c .before) .args .scratch .now in
     let start = length l - 2 * c .before .before .two-to .result * (start-at-part (c .before) .args .range .cols + 1) in
     let x = c .decode-columns .last .1 .1 .1 .1 .1 .0 in
@@ -123,19 +128,11 @@ words-are c = lent-again (tail (c .before .before)) _ (c .decode-columns .kept .
 
 take-range-requires : tie.Need-take-range-requires
 take-range-requires c κs =
-    let s = start-at-scratch2 (c .before .before) in
-    let a = s .args in
+    let d = decode-columns-at-scratch2 (c .before .before) in
+    let s = start-at-part (d .before) in
     let f = s .pre .1 .0 in (
       (omega (arith, s .pre .0 .ready .fits .low, s .pre .0 .ready .fits .numbers .within), f .some, f .within, s .pre .0 .few),
-      (
-        rw (
-          words-are (c .before .before .before .before .before .before),
-          c .before .before .before .before .before .before .decode-columns .kept .1 .1 .1 .1 .1 .0,
-          tail-long (tail (two-to-at-scratch2 (c .before .before))),
-        )
-            (half-span (a .st .level) (a .range .cols)),
-        s .pre .1 .1 .0,
-      ),
+      (rw (words-are d) (words-long d), s .pre .1 .1 .0),
     )
 
 same-length-2 : tie.Need-same-length-2
@@ -145,23 +142,39 @@ same-length-3 : tie.Need-same-length-3
 same-length-3 c = search needs
 
 -- the range taken
-taken : (c : tie.After-take-range) → let a = start-at-scratch2 (c .before .before .before) .args in let r = rowsIn (a .st) (a .marks .now) (a .bytes .now) in
-    (c .take-range .result ≡ rangeNumber (a .range .from) (a .range .skip) (isConsistentRange (a .st) (a .marks .now) r (a .range .from) (a .range .cols))
-    (arePlaces (a .st) (a .marks .now) r))
+agrees : (c : tie.After-take-range) → let a = start-at-part (decode-columns-at-take-range c .before) .args in
+    isConsistentRange (a .st) (a .marks .now) (rowsIn (a .st) (a .marks .now) (a .bytes .now)) (a .range .from) (a .range .cols) ≡ true
+agrees c = consistent (decode-columns-at-take-range c) (not-false _ (c .before .before .before .before .if1 .left))
+
+taken : (c : tie.After-take-range) → let a = start-at-part (decode-columns-at-take-range c .before) .args in
+    let r = rowsIn (a .st) (a .marks .now) (a .bytes .now) in
+    (c .take-range .result ≡ fitRange (a .st) (a .marks .now) r (a .range .from) (a .range .cols))
     × (c .take-range .last .1 .1 .1 .0 ≡ rangeTaken (a .st) (a .marks .now) r (a .range .from) (a .range .cols) (a .range .skip) (a .out .now))
 taken c =
-    let s = start-at-scratch2 (c .before .before .before) in
+    let d = decode-columns-at-take-range c in
+    let s = start-at-part (d .before) in
     let a = s .args in
     let r = rowsIn (a .st) (a .marks .now) (a .bytes .now) in
-    let d = decode-columns-at-take-range c .decode-columns .ensures in
-    let e = sym (d .0) ∙ not-false _ (c .before .before .before .before .if1 .left) in
     let f = s .pre .1 .0 in
-    range-taken (a .st) (a .marks .now) r (a .range .from) (a .range .cols) (a .range .skip) (a .out .now) refl refl
-    (words-are (decode-columns-at-take-range c)) f (s .pre .0 .few) e
-    (range-blocks (a .st) (a .marks .now) r (a .range .from) (a .range .cols) (d .1) (f .within) e) (c .take-range .ensures .0) (c .take-range .ensures .1)
+    range-taken (a .st) (a .marks .now) r (a .range .from) (a .range .cols) (a .range .skip) (a .out .now) (words-are d) (words-long d) f
+    (range-blocks (a .st) (a .marks .now) r (a .range .from) (a .range .cols) (d .decode-columns .ensures .1) (f .within) (agrees c))
+    (c .take-range .ensures .0) (c .take-range .ensures .1)
 
 returns-2 : tie.Need-returns-2
-returns-2 c = (taken (c .before .before) .0, (λ _. taken (c .before .before) .1, weights-stay (decode-columns-at-take-range (c .before .before))))
+returns-2 c =
+    let t = c .before .before .before in
+    (sym (columns-zero (agrees t) (sym (taken t .0) ∙ c .if2 .taken)), (λ _. taken t .1, weights-stay (decode-columns-at-take-range t)))
+
+same-length-4 : tie.Need-same-length-4
+same-length-4 c = search needs
+
+same-length-5 : tie.Need-same-length-5
+same-length-5 c = search needs
+
+returns-3 : tie.Need-returns-3
+returns-3 c =
+    let t = c .before .before .before in
+    (sym (columns-ten (agrees t) (sym (taken t .0) ∙ c .if2 .left)), (λ _. taken t .1, weights-stay (decode-columns-at-take-range t)))
 
 pub decode-range-spec : {M : Type 1} → statement M
 decode-range-spec =
@@ -186,4 +199,7 @@ decode-range-spec =
     take-range-requires
     same-length-2
     same-length-3
-    returns-2)
+    returns-2
+    same-length-4
+    same-length-5
+    returns-3)

@@ -1,13 +1,14 @@
 -- `columns::ranges::decode_ranges` meets its contract. The invariant: the columns below `from` are decoded and copied. Assumes nothing.
-use mathlib.Core.Path.{_≡_, refl, sym, _∙_}
+use mathlib.Core.Path.{_≡_, refl, sym, ap, _∙_}
 use mathlib.Core.Bool.{false≢true}
 use mathlib.Core.Logic.{⊎-elim}
-use Prim.Native.Nat.{_-_, _<_}
+use Prim.Native.Nat.{_-_}
 use native.Mathlib.Omega.{arith}
 use lib.ListN.{length}
 use Rattle.image.specs.steps.Loading.{rowsIn}
-use Rattle.columns.proofs.RangeLoop.{Ranging, ranging-start, ranging-first, ranging-later, ranging-fails, ranging-agrees, ranging-number, ranging-rows}
-use Rattle.columns.proofs.RangeLoop.{columns-fail, columns-agree}
+use Rattle.rows.proofs.StripeNumbers.{solved-nine}
+use Rattle.rows.specs.Decoding.{decodedNumber}
+use Rattle.columns.proofs.RangeLoop.{Ranging, ranging-start, number-found, number-kept, ranging-turn, ranging-fails, ranging-number, ranging-rows}
 use Rattle.columns.proofs.ranges.decode_ranges.Statement.{statement}
 use Rattle.columns.proofs.ranges.decode_ranges.Tie as tie
 
@@ -71,7 +72,7 @@ returns c =
     let f = ranging-fails (a .st) (a .marks .now) r (a .skip) (a .out .now) (loop-at-out (c .before .before .before .before) .loop .inv .3)
     (range-columns-at-scratch (c .before .before) .range-columns .ensures) (c .before .before .before .before .before .decode-range .ensures .0)
     (c .if1 .taken) in
-    (sym (columns-fail (a .skip) _ f), λ t. absurd (false≢true (sym f ∙ t)))
+    (sym (ap decodedNumber (solved-nine (a .st) (a .marks .now) r f)), λ t. absurd (false≢true (sym f ∙ t)))
 
 add-from : tie.Need-add-from Inv-loop μ-loop
 add-from c =
@@ -96,18 +97,14 @@ loop-again c =
     let x = d .last .1 .1 .1 .1 .1 .0 in
     let kept = d .kept .1 .1 .1 .1 .1 .0 in
     let f = p .range-columns .ensures in
-    let few = s .pre .0 .few in
-    let out = s .pre .1 .0 in
     let e = d .ensures in
-    let n = c .before .if1 .left in
-    let thin : a .skip < a .st .width = omega (arith, few, s .pre .0 .ready .fits .thick) in (
+    let n = c .before .if1 .left in (
       i .0,
       d .kept .1 .1 .1 .1 .0 ∙ i .1,
       kept ∙ i .2,
-      ⊎-elim
-          (λ w. ranging-first (a .st) (a .marks .now) r (a .skip) (a .out .now) (i .3) x f few thin out (e .0) n (e .1 .0) kept (e .1 .1) (w .0 .taken) (w .1))
-          (λ w. ranging-later (a .st) (a .marks .now) r (a .skip) (a .out .now) (i .3) x f few thin out (e .0) n (e .1 .0) kept (e .1 .1) (w .0 .left) (w .1))
-          (c .if2 .came),
+      ranging-turn (a .st) (a .marks .now) r (a .skip) (a .out .now) (i .3) f (e .0) n x (s .pre .0 .few) (s .pre .1 .0) (e .1 .0) kept (e .1 .1)
+          (⊎-elim (λ w. number-found (a .st) (a .marks .now) r (a .skip) (a .out .now) (i .3) f (e .0) n (w .0 .taken) (w .1))
+          (λ w. number-kept (a .st) (a .marks .now) r (a .skip) (a .out .now) (i .3) f (e .0) n (w .0 .left) (w .1)) (c .if2 .came)),
     )
 
 same-length-3 : tie.Need-same-length-3 Inv-loop μ-loop
@@ -121,12 +118,10 @@ returns-2 c =
     let s = c .before .before .before .before .before .before in
     let a = s .args in
     let r = rowsIn (a .st) (a .marks .now) (a .bytes .now) in
-    let i = c .before .loop .inv in
-    let b = c .loop-test .left in
-    let thin : a .skip < a .st .width = omega (arith, s .pre .0 .few, s .pre .0 .ready .fits .thick) in
-    let g = ranging-agrees (a .st) (a .marks .now) r (a .skip) (a .out .now) (i .3) b in (
-      ranging-number (a .st) (a .marks .now) r (a .skip) (a .out .now) (i .3) b (omega arith) ∙ sym (columns-agree (a .skip) _ g),
-      λ t. ranging-rows (a .st) (a .marks .now) r (a .skip) (a .out .now) (i .3) b thin (s .pre .1 .0),
+    let i = c .before .loop .inv .3 in
+    let b = c .loop-test .left in (
+      ranging-number (a .st) (a .marks .now) r (a .skip) (a .out .now) i b (s .pre .0 .full) (omega (arith, s .pre .0 .ready .fits .thick)),
+      λ t. ranging-rows (a .st) (a .marks .now) r (a .skip) (a .out .now) i b (s .pre .1 .0),
     )
 
 pub decode-ranges-spec : {M : Type 1} → statement M

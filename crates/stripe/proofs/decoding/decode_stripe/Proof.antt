@@ -18,7 +18,7 @@ decode-stripe-spec =
     (λ c. search needs)
     (λ c. search needs)
     (λ c. search needs)
-    (λ c κs. (search needs, (search needs, (search needs, search needs))))
+    (λ c κs. (search needs, ((search needs, search needs), (search needs, search needs))))
     (λ c. search needs)
     (λ c. search needs)
     (λ c. (search needs, (search needs, search needs)))
