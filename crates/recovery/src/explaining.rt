@@ -71,14 +71,7 @@ fn explain_early(
     if counts.len() != (header.k as usize + 1) * 2 {
         return 2;
     }
-    image::erasures::image_number(
-        header,
-        image,
-        erasures,
-        2,
-        origins.len(),
-        scratch.len(),
-    )
+    image::erasures::image_number(header, image, erasures, 2, origins.len(), scratch.len())
 }
 
 // Explains what recovery would give. Tests 1, 2 (image, counts, origins, scratch), 3; then it counts what is left of all needed stripes, and then 7 to 10 as

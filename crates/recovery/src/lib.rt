@@ -1,5 +1,6 @@
 // The calls that are lent an image of all stripes: recovery of all records, and the explanation of what it finds. Proved for every input.
 use layout::Header;
+
 pub mod explaining;
 mod laying;
 mod pairs;

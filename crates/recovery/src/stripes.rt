@@ -19,7 +19,13 @@ ghost use Rattle.recovery.specs.RecoveryCall.{answerOf, recoveredWords};
 ghost use Rattle.recovery.specs.steps.Laying.{laidFrom, layerOf, laidSize, LayingFits};
 
 // The full stripe tested, and its origins, which it is of every record: 9 or 10, or 0.
-fn full_origins(st: Stripe, bytes: &[u8], marks: &[bool], out: &mut [u32], scratch: &mut [u32]) -> u32
+fn full_origins(
+    st: Stripe,
+    bytes: &[u8],
+    marks: &[bool],
+    out: &mut [u32],
+    scratch: &mut [u32],
+) -> u32
     requires { ⌜ Ready st (now marks) (rowsIn st (now marks) (now bytes)) ⌝ }
     requires { ⌜ (length (now bytes) ≡ 4 * stripeWords st) × (st .level ≡ st .k) ⌝ }
     requires { ⌜ (length (now out) ≡ blockCount st * 2) × (length (now scratch) ≡ scratchWords st) ⌝ }
@@ -28,17 +34,11 @@ fn full_origins(st: Stripe, bytes: &[u8], marks: &[bool], out: &mut [u32], scrat
 {
     let rows = code::number::two_to(st.level);
     crate::pairs::fill_pairs(out, rows, st.k as u32, 0);
-    0
+    columns::full::check_full(st, bytes, marks, scratch)
 }
 
 // What the full stripe gives: 7, 8, 9 or 10, or 0 and the words.
-fn lay_full(
-    task: Task,
-    image: &[u8],
-    erasures: &[u8],
-    out: &mut [u32],
-    scratch: &mut [u32],
-) -> u32
+fn lay_full(task: Task, image: &[u8], erasures: &[u8], out: &mut [u32], scratch: &mut [u32]) -> u32
     requires { ⌜ LayingFits (task .origins) (task .header) (now image) (now out) (now scratch) ⌝ }
     ensures { λ r. ⌜ r ≡ decodedNumber (decodeStripe (task .header) (now (image .entry)) (erasuresIn (now (erasures .entry))) (task .header .k)) ⌝ }
     ensures { λ r. ⌜ (r ≡ 0 →

@@ -1,31 +1,40 @@
+-- `recovery::stripes::full_origins` meets its contract. Assumes nothing.
+use mathlib.Core.Path.{_≡_, ap, _∙_}
+use mathlib.Core.List.{List, _++_}
+use Prim.Native.Nat.{ℕ, _*_}
 use borrow.Author.Needs.{needs}
+use lib.ListN.{drop}
+use Rattle.code.specs.Stripe.{blockCount}
+use Rattle.recovery.specs.Explaining.{pairsTo}
+use Rattle.recovery.proofs.PairLoops.{filled-whole}
 use Rattle.recovery.proofs.stripes.full_origins.Statement.{statement}
 use Rattle.recovery.proofs.stripes.full_origins.Tie as tie
-use Rattle.recovery.proofs.stripes.full_origins.Reads as reads
-use Rattle.recovery.proofs.stripes.full_origins.Lts as lts
-use Rattle.code.proofs.number.two_to.Reads as two-to-reads
-use Rattle.recovery.proofs.pairs.fill_pairs.Reads as fill-pairs-reads
 
--- src/stripes.rt:29:9
-two-to-requires : tie.Need-two-to-requires
-two-to-requires c κs = search needs
+-- PLACES: `x-at-y c` is the place x that stands before y
+abbrev start-at-two-to : tie.After-two-to → tie.Start
+start-at-two-to c = c .before .before .before .before .before
 
--- src/stripes.rt:30:41
-cast-fill-pairs : tie.Need-cast-fill-pairs
-cast-fill-pairs c = search needs
-
--- src/stripes.rt:30:5
-fill-pairs-requires : tie.Need-fill-pairs-requires
-fill-pairs-requires c κs = search needs
-
--- src/stripes.rt:22:1
-same-length : tie.Need-same-length
-same-length c = search needs
-
--- src/stripes.rt:22:1
 returns : tie.Need-returns
-returns c = ?
+returns c =
+    let checked = c .before .before in
+    let filled = checked .before .before .before .before in
+    let two = filled .before .before .before in
+    let s = start-at-two-to two in
+    let k = s .args .st .k in
+    let o = s .args .out .now in (
+      checked .check-full .ensures .0,
+      filled-whole (λ i. k) (λ i. 0) (blockCount (s .args .st)) o (s .pre .1 .1 .0)
+          (filled .fill-pairs .ensures ∙ ap (λ (n : ℕ). pairsTo (λ i. k) (λ i. 0) n ++ drop (n * 2) o) (two .two-to .ensures)),
+    )
 
 pub full-origins-spec : {M : Type 1} → statement M
 full-origins-spec =
-    tie.close (tie.spec two-to-requires cast-fill-pairs fill-pairs-requires same-length returns)
+    tie.close
+    (tie.spec
+    (λ c κs. search needs)
+    (λ c. search needs)
+    (λ c κs. search needs)
+    (λ c κs. search needs)
+    (λ c. search needs)
+    (λ c. search needs)
+    returns)

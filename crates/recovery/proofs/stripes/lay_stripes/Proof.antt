@@ -4,7 +4,10 @@ use Prim.Native.Nat.{ℕ}
 use borrow.Author.Needs.{needs}
 use lib.ListN.{replicate}
 use Rattle.layout.specs.Header.{scratchSize}
-use Rattle.recovery.specs.steps.Laying.{laidSize}
+use Rattle.image.specs.Erasures.{erasuresIn}
+use Rattle.stripe.specs.Decoding.{decodeStripe}
+use Rattle.recovery.specs.Recovery.{stripesOver}
+use Rattle.recovery.specs.steps.Laying.{layerOf, laidSize}
 use Rattle.recovery.proofs.LevelsRecovery.{stopped-words}
 use Rattle.recovery.proofs.stripes.lay_stripes.Statement.{statement}
 use Rattle.recovery.proofs.stripes.lay_stripes.Tie as tie
@@ -36,11 +39,12 @@ returns c =
     let all = lay-all-at-clear clear in
     let s = start-at-lay-all all in
     let t = s .args .task in
+    let found = stripesOver (t .header) (decodeStripe (t .header) (s .args .image .now) (erasuresIn (s .args .erasures .now))) (layerOf (t .origins) (t .header)) in
     let r = all .lay-all in (
       r .ensures .0,
       (
         again .clear2 .ensures ∙ ap (λ (n : ℕ). replicate n 0) (r .kept .1 .1 .1 .0 ∙ s .pre .output)
-            ∙ sym (stopped-words _ (laidSize (t .origins) (t .header)) (r .ensures .0) (again .before .before .if1 .taken)),
+            ∙ sym (stopped-words found (laidSize (t .origins) (t .header)) (r .ensures .0) (again .before .before .if1 .taken)),
         cleared clear,
       ),
     )
