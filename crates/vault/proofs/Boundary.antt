@@ -3,7 +3,7 @@
 use mathlib.Core.Path.{_≡_, refl, sym, _∙_}
 use mathlib.Core.Bool.{Bool, true, false}
 use mathlib.Core.List.{List, []}
-use Prim.Native.Nat.{ℕ, zero, suc, _*_, _^_, _≤_}
+use Prim.Native.Nat.{ℕ, zero, suc, _*_, _≤_}
 use native.Mathlib.Nat.{le-refl}
 use native.Mathlib.Omega.{arith}
 use borrow.Author.Needs.{zero≤}
@@ -13,13 +13,16 @@ use lib.ListN.{take, drop}
 use Rattle.layout.specs.declared.Header.{Header}
 use Rattle.recovery.specs.declared.Recovery.{Recovery}
 use Rattle.layout.specs.Header.{headerFits, isFilled}
+use Rattle.layout.specs.Refusals.{Tests, test, refusal, ifTaken}
 use Rattle.image.specs.Erasures.{erasuresIn}
 use Rattle.rows.specs.Decoding.{Decoded, failed, decoded}
 use Rattle.stripe.specs.Decoding.{decodeStripe}
-use Rattle.recovery.specs.Recovery.{Recovered, thenLay, levelsOver, laid, recover}
+use Rattle.recovery.specs.Recovery.{Layer, Recovered, thenLay, levelsOver, stripesOver, records}
+use Rattle.recovery.specs.Explaining.{origins}
 use Rattle.store.specs.StoreCalls.{readNumber}
-use Rattle.recovery.specs.RecoveryCall.{recoverEarly, recoverAnswer, unnamed, answerOf}
-use Rattle.vault.specs.Boundary.{PartIs, noShelf, shelfOf, NoneNamed}
+use Rattle.recovery.specs.RecoveryCall.{recoverAnswer, unnamed, answerOf}
+use Rattle.recovery.specs.ExplainCall.{explainAnswer}
+use Rattle.vault.specs.Boundary.{PartIs, noShelf, shelfOf, NoneNamed, NoneExplained}
 use Rattle.layout.proofs.Bounds.{fits}
 use Rattle.field.proofs.Booleans.{is-false, choose, chosen-first}
 use Rattle.layout.proofs.Refusals.{passes}
@@ -32,7 +35,7 @@ chosen-part false i n l = refl
 pub partIs : PartIs
 partIs h r i = chosen-part (eqb (readNumber h r i) 0) (i * h .s) (h .s) r
 
--- RECOVERY names a level or k, so no number above 10
+-- RECOVERY, AND EXPLAINING, name a level or k, so no number above 10: what is laid does not matter
 abbrev Low : ℕ → Recovered → Type 0
 Low b x = answerOf x .stripe ≤ b
 
@@ -47,28 +50,32 @@ low-laid b l (decoded bs) next p q = q bs
 less : {l b : ℕ} → suc l ≤ b → l ≤ b
 less p = omega arith
 
-low-levels : (l b : ℕ) (h : Header) (d : ℕ → Decoded) (r : List ℕ) → l ≤ b → Low b (levelsOver l h d r)
-unfolding levelsOver
-low-levels zero b h d r p = zero≤
-low-levels (suc l) b h d r p =
-    low-either b (isFilled h l) (thenLay l (d l) (λ (bs : List ℕ). levelsOver l h d (laid (h .s) bs (2 ^ l) r))) (levelsOver l h d r)
-    (low-laid b l (d l) _ (less p) (λ bs. low-levels l b h d (laid (h .s) bs (2 ^ l) r) (less p))) (low-levels l b h d r (less p))
+module _ (h : Header) (d : ℕ → Decoded) (y : Layer) where
+  low-levels : (l b : ℕ) (r : List ℕ) → l ≤ b → Low b (levelsOver l h d y r)
+  unfolding levelsOver
+  low-levels zero b r p = zero≤
+  low-levels (suc l) b r p =
+      low-either b (isFilled h l) (thenLay l (d l) (λ (bs : List ℕ). levelsOver l h d y (y .over l bs r))) (levelsOver l h d y r)
+      (low-laid b l (d l) _ (less p) (λ bs. low-levels l b (y .over l bs r) (less p))) (low-levels l b r (less p))
 
-low-recovered : (h : Header) (d : ℕ → Decoded) → Low (h .k) (recover h d)
-low-recovered h d = low-laid (h .k) (h .k) (d (h .k)) _ (le-refl (h .k)) (λ bs. low-levels (h .k) (h .k) h d _ (le-refl (h .k)))
+  low-stripes : Low (h .k) (stripesOver h d y)
+  low-stripes = low-laid (h .k) (h .k) (d (h .k)) _ (le-refl (h .k)) (λ bs. low-levels (h .k) (h .k) (y .full bs) (le-refl (h .k)))
 
-low-answer : (h : Header) (m e o s : List ℕ) → recoverAnswer h m e o s .stripe ≤ 10
-low-answer h m e o s =
-    of-early (eqb (recoverEarly h m e o s) 0)
-    (λ t. omega (arith, low-recovered h (decodeStripe h m (erasuresIn e)), fits h (passes (headerFits h) 1 _ (eqb-true _ 0 t) (omega arith) .0) .k-high))
-  where
-    of-early : (b : Bool) → (b ≡ true → Low 10 (recover h (decodeStripe h m (erasuresIn e))))
-        → choose b (answerOf (recover h (decodeStripe h m (erasuresIn e)))) (unnamed (recoverEarly h m e o s)) .stripe ≤ 10
-    of-early true p = p refl
-    of-early false p = zero≤
+  -- the answer of a call that tests the header first
+  low-answer : (ts : Tests) → let x = refusal (test (headerFits h) 1 ts) in ifTaken x (answerOf (stripesOver h d y)) (unnamed x) .stripe ≤ 10
+  low-answer ts =
+      let x = refusal (test (headerFits h) 1 ts) in
+      of-early (eqb x 0) x (λ t. omega (arith, low-stripes, fits h (passes (headerFits h) 1 ts (eqb-true x 0 t) (omega arith) .0) .k-high))
+    where
+      of-early : (b : Bool) (x : ℕ) → (b ≡ true → Low 10 (stripesOver h d y)) → choose b (answerOf (stripesOver h d y)) (unnamed x) .stripe ≤ 10
+      of-early true x p = p refl
+      of-early false x p = zero≤
 
 named-none : (a : Recovery) → a .stripe ≤ 10 → shelfOf a ≡ noShelf → a .named ≡ false
 named-none a l e = is-false (a .named) (λ t. let z : a .stripe ≡ noShelf = sym (chosen-first (a .named) (a .stripe) noShelf t) ∙ e in omega arith)
 
 pub noneNamed : NoneNamed
-noneNamed h m e o s = named-none (recoverAnswer h m e o s) (low-answer h m e o s)
+noneNamed h m e o s = named-none (recoverAnswer h m e o s) (low-answer h (decodeStripe h m (erasuresIn e)) (records h) _)
+
+pub noneExplained : NoneExplained
+noneExplained h m e n o s = named-none (explainAnswer h m e n o s) (low-answer h (decodeStripe h m (erasuresIn e)) (origins h) _)

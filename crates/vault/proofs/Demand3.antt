@@ -22,7 +22,7 @@ use Rattle.recovery.specs.RecoveryCall.{recoverEarly, recoverAnswer, recoverLea
 use Rattle.vault.specs.Event.{Opening, Event}
 use Rattle.vault.specs.History.{Vault, Opens, vaultAfter, headerAfter, imageAfter}
 use Rattle.vault.specs.Round.{Round, rowsOf, recordsIn, roundOf, roundHeader, levelEntries, logWords, modelIn}
-use Rattle.vault.specs.Promises.{LeavesHalf, SameWords, ImageLong, RecoversAll, NoOther, LevelsDecode, FullDecodes}
+use Rattle.vault.specs.Promises.{Needed, LeavesHalf, SameWords, ImageLong, RecoversAll, NoOther, LevelsDecode, FullDecodes}
 use Rattle.store.proofs.StoredRecords.{length-full}
 use Rattle.vault.proofs.Levels.{length-log}
 use Rattle.vault.proofs.Rounds.{header-fits}
@@ -64,15 +64,16 @@ levelsDecode o es e m l O =
     let h = roundHeader a in
     rw (headerAfter, imageAfter, vaultAfter, t .vault-is) (λ L S b filled.
     call-gives h m e l (rowsOf (levelEntries h (a .since) l)) (header-fits (t .good)) (L .wellFormed) (inr (b, filled))
-    (level-decodes (t .good) e m L S l b filled))
+    (level-decodes (t .good) e m S l b filled (L .keeps .half l (inr (b, filled)))))
 
 pub fullDecodes : FullDecodes
 fullDecodes o es e m O =
     let t = histories o es O in
     let a = roundOf o es in
+    let need : Needed (roundHeader a) (a .k) = inl (eq-eqb (a .k) (a .k) refl) in
     rw (headerAfter, imageAfter, vaultAfter, t .vault-is) (λ L S.
-    call-gives (roundHeader a) m e (a .k) (blocksOf (roundHeader a) (a .base)) (header-fits (t .good)) (L .wellFormed) (inl (eq-eqb (a .k) (a .k) refl))
-    (full-decodes (t .good) e m L S))
+    call-gives (roundHeader a) m e (a .k) (blocksOf (roundHeader a) (a .base)) (header-fits (t .good)) (L .wellFormed) need
+    (full-decodes (t .good) e m S (L .keeps .half (a .k) need)))
 
 pub recoversAll : RecoversAll
 recoversAll o es e m out scratch O =
@@ -80,7 +81,8 @@ recoversAll o es e m out scratch O =
     let a = roundOf o es in
     rw (headerAfter, imageAfter, vaultAfter, t .vault-is, t .model-is)
     (λ L long S outLong scratchLong.
-    found (roundHeader a) m e out scratch (header-fits (t .good)) (L .wellFormed) long outLong scratchLong (recordsIn a) (recover-round (t .good) e m L S))
+    found (roundHeader a) m e out scratch (header-fits (t .good)) (L .wellFormed) long outLong scratchLong (recordsIn a)
+    (recover-round (t .good) e m (L .keeps) S))
 
 pub imageLong : ImageLong
 imageLong o es O = rw (headerAfter, imageAfter, vaultAfter, histories o es O .vault-is) (length-image (roundOf o es))

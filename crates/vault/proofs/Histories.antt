@@ -17,10 +17,10 @@ use Rattle.store.specs.Buffers.{fullStripe, Buffers, buffers, opened}
 use Rattle.store.specs.Writing.{nextHeader, logWith, written}
 use Rattle.layout.specs.Refusals.{done, test, refusal, ifTaken}
 use Rattle.store.specs.StoreCalls.{buffersFit, writeNumber}
-use Rattle.vault.specs.Event.{Opening, Event, write}
+use Rattle.vault.specs.Event.{Entry, Opening, Event, write}
 use Rattle.vault.specs.History.{Vault, vault, numberOn, step, after, Opens, openedVault, vaultAfter}
 use Rattle.vault.specs.Model.{Model, writes, wordsFit, tableNumber, put, fed, fedAll, openedModel, modelOf}
-use Rattle.vault.specs.Round.{Entry, Round, putAll, beforeEach, recordsIn, modelIn, startOf, grown, turnRound, roundAfter, openedRound, roundOf}
+use Rattle.vault.specs.Round.{Round, putAll, beforeEach, recordsIn, modelIn, startOf, grown, turnRound, roundAfter, openedRound, roundOf}
 use Rattle.vault.specs.Round.{roundHeader, represent}
 use Rattle.vault.specs.Promises.{HeaderIs, SizesStay, RecordsLong, NumbersAre, WordsAre, RawIs, ModelIs, BeforeIs}
 use Rattle.field.proofs.Booleans.{choose, chosen-first, chosen-second}
@@ -30,7 +30,7 @@ use Rattle.store.proofs.OpenRefusals.{open-taken, open-data}
 use Rattle.store.proofs.StoredRecords.{length-full}
 use Rattle.vault.proofs.Levels.{length-log, log-empty}
 use Rattle.vault.proofs.Rounds.{fit-sizes, Taken, AllTaken, none, more, Good, taken-append, put-append, length-put, words-put, before-append}
-use Rattle.vault.proofs.Rounds.{length-before, before-at, records-long, header-fits}
+use Rattle.vault.proofs.Rounds.{before-at, records-long, header-fits}
 use Rattle.vault.proofs.Rebuilding.{log-written}
 
 -- THE INVARIANT: a vault and a model represent a round
@@ -92,8 +92,9 @@ module _ (a : Round) (good : Good a) (i : ℕ) (b : List ℕ) where
   abbrev now : List Entry
   now = a .since ++ (x ∷ [])
 
-  abbrev model : (records : List ℕ) → (before : List (List ℕ)) → Model
-  model r c = record { k = a .k; s = a .s; records = r; before = c }
+  -- the model that a taken write leaves, by its records, what it remembers of the round, and whether it ends the round
+  abbrev model : (records : List ℕ) → (before : List (List ℕ)) → (last : Bool) → Model
+  model r c z = record { k = a .k; s = a .s; records = r; written = choose z [] now; before = choose z [] c }
 
   -- its number is the table's
   pub number-is : writeNumber h u i b ≡ tableNumber (modelIn a) (write i b)
@@ -138,15 +139,9 @@ module _ (a : Round) (good : Good a) (i : ℕ) (b : List ℕ) where
     now-long : suc (length (a .since)) ≡ length now
     now-long = omega (arith, length-append (a .since) (x ∷ []))
 
-    -- whether it is the last of its round, by the round's count and by the model's; and what it leaves if it is, and if it is not
+    -- whether it is the last of its round; and what it leaves if it is, and if it is not
     abbrev last : Bool
     last = eqb (suc (length (a .since))) (2 ^ a .k)
-
-    abbrev lastOf : Bool
-    lastOf = eqb (suc (writes (modelIn a))) (2 ^ a .k)
-
-    same-last : lastOf ≡ last
-    same-last = ap (λ (n : ℕ). eqb (suc n) (2 ^ a .k)) (length-before (a .s) (a .base) (a .since))
 
     abbrev ended : Round
     ended = startOf (a .k) (a .s) (putAll (a .s) (a .base) now)
@@ -173,7 +168,7 @@ module _ (a : Round) (good : Good a) (i : ℕ) (b : List ℕ) where
         along (chosen-first last ended longer e)
         (ap₂ vault (ap (headerOf (a .k) (a .s)) (chosen-first last 0 (suc (h .c)) e))
         (chosen-first last opened-again added e ∙ ap (opened h) put-now ∙ sym (start (a .k) (a .s) (ended .base))))
-        (ap₂ model put-model (chosen-first lastOf [] remembered (same-last ∙ e)))
+        (ap₂ (λ (r : List ℕ) (z : Bool). model r remembered z) put-model e)
         (record {
           good = record {
             sizes = good .sizes;
@@ -193,7 +188,8 @@ module _ (a : Round) (good : Good a) (i : ℕ) (b : List ℕ) where
         along (chosen-second last ended longer e)
         (ap₂ vault (ap (headerOf (a .k) (a .s)) (chosen-second last 0 (suc (h .c)) e ∙ now-long))
         (chosen-second last opened-again added e ∙ ap₂ (λ (r g : List ℕ). buffers r (u .full) g) put-now (log-written good t fewer)))
-        (ap₂ model put-model (chosen-second lastOf [] remembered (same-last ∙ e) ∙ sym (before-append (a .s) (a .base) (a .since) x)))
+        (ap₂ (λ (r : List ℕ) (z : Bool). model r remembered z) put-model e
+        ∙ ap (λ (c : List (List ℕ)). model (putAll (a .s) (a .base) now) c false) (sym (before-append (a .s) (a .base) (a .since) x)))
         (record {
           good = record {
             sizes = good .sizes;
@@ -275,9 +271,7 @@ round-sizes o es O =
     (ap (λ (m : Model). m .k) is ∙ same .0, ap (λ (m : Model). m .s) is ∙ same .1)
 
 pub round-writes : (o : Opening) (es : List Event) → Opens o → writes (modelOf o es) ≡ length (roundOf o es .since)
-round-writes o es O =
-    let a = roundOf o es in
-    ap (λ (m : Model). writes m) (histories o es O .model-is) ∙ length-before (a .s) (a .base) (a .since)
+round-writes o es O = ap (λ (m : Model). writes m) (histories o es O .model-is)
 
 -- PROMISES 1 AND 2
 pub headerIs : HeaderIs

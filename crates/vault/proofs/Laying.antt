@@ -13,7 +13,8 @@ use Rattle.layout.specs.Records.{recordIn, replaced}
 use Rattle.store.specs.Buffers.{blocksFrom}
 use Rattle.rows.specs.Decoding.{blockNumber, blockData}
 use Rattle.recovery.specs.Recovery.{laid}
-use Rattle.vault.specs.Round.{Entry, putAll, rowsOf}
+use Rattle.vault.specs.Event.{Entry}
+use Rattle.vault.specs.Round.{putAll, rowsOf}
 use Rattle.vault.proofs.Rounds.{Taken, AllTaken, none, more, put-append}
 use Rattle.store.proofs.StoredRecords.{reduced-same}
 use Rattle.layout.proofs.RecordWords.{length-record, record-end, replaced-is}

@@ -16,7 +16,8 @@ use Rattle.layout.specs.declared.Header.{Header}
 use Rattle.layout.specs.Header.{primeOf, vaultRoot, width, isFilled, firstOf, levelAt, stripeSize}
 use Rattle.layout.proofs.Counting.{bit-in}
 use Rattle.code.proofs.CodedRows.{length-coded-rows}
-use Rattle.vault.specs.Round.{Entry, rowsOf, levelEntries, levelWords, logWords}
+use Rattle.vault.specs.Event.{Entry}
+use Rattle.vault.specs.Round.{rowsOf, levelEntries, levelWords, logWords}
 
 -- a level's t0
 -- a filled level's 2^l writes are among the c: t0 + 2^l ≤ c

@@ -1,9 +1,14 @@
 pub mod Boundary
 pub mod Demand3
+pub mod ExplainedRounds
+pub mod Explaining
 pub mod Histories
+pub mod LastWrites
 pub mod Laying
 pub mod Levels
 pub mod Loading
+pub mod Origins
+pub mod Pairs
 pub mod Proved
 pub mod Rebuilding
 pub mod RoundDecoding

@@ -4,7 +4,11 @@ use Rattle.vault.proofs.Histories.{headerIs, sizesStay, recordsLong, nu
 use Rattle.vault.proofs.StripeDecoding.{wordsStand, decodesIff, nineIff, tenIff, oneList}
 use Rattle.vault.proofs.StripeCall.{givesSeven, givesEight, givesNine, givesTen, givesZero, leavesBlocks, leavesZeros}
 use Rattle.vault.proofs.Demand3.{imageLong, recoversAll, noOther, levelsDecode, fullDecodes}
-use Rattle.vault.proofs.Boundary.{partIs, noneNamed}
+use Rattle.vault.proofs.Explaining.{agrees, countsAre, countsSharp, explainLeaves}
+use Rattle.vault.proofs.ExplainedRounds.{explainsWhy}
+use Rattle.vault.proofs.LastWrites.{lastIsRecord, elseAtStart}
+use Rattle.vault.proofs.Origins.{originsTrue, oneOrigin}
+use Rattle.vault.proofs.Boundary.{partIs, noneNamed, noneExplained}
 use Rattle.vault.proofs.Worked.{worked}
 
 pub proved : Promises
@@ -34,7 +38,17 @@ proved = record {
   no-other = noOther;
   levels-decode = levelsDecode;
   full-decodes = fullDecodes;
+  agrees = agrees;
+  counts-are = countsAre;
+  counts-sharp = countsSharp;
+  explain-leaves = explainLeaves;
+  explains-why = explainsWhy;
+  origins-true = originsTrue;
+  one-origin = oneOrigin;
+  last-is-record = lastIsRecord;
+  else-at-start = elseAtStart;
   part-is = partIs;
   none-named = noneNamed;
+  none-explained = noneExplained;
   worked = worked;
 }

@@ -19,7 +19,8 @@ use Rattle.layout.specs.declared.Header.{Header}
 use Rattle.layout.specs.Header.{headerOf, primeOf, vaultRoot, width, isFilled, firstOf, levelAt, stripeSize, levelFor}
 use Rattle.store.specs.Buffers.{reduced}
 use Rattle.store.specs.Writing.{halfAt, newRow, rebuiltHalf, rebuilt, logWith}
-use Rattle.vault.specs.Round.{Entry, Round, rowsOf, roundHeader, levelEntries, levelWords, logWords}
+use Rattle.vault.specs.Event.{Entry}
+use Rattle.vault.specs.Round.{Round, rowsOf, roundHeader, levelEntries, levelWords, logWords}
 use Rattle.store.proofs.StoredRecords.{reduced-same}
 use Rattle.layout.proofs.StripePlaces.{first-level}
 use Rattle.vault.proofs.Levels.{filled-in, level-filled, level-empty, level-end, length-log, level-in, level-place, log-empty}

@@ -16,6 +16,7 @@ use Rattle.field.specs.Words.{Words}
 use Rattle.field.proofs.WordLists.{words-nil, words-append, words-replicate}
 use Rattle.code.specs.Stripe.{codedRows, codedStripe}
 use Rattle.field.proofs.Booleans.{both-true}
+use Rattle.decoder.specs.Decoding.{survivors}
 use Rattle.layout.specs.declared.Header.{Header}
 use Rattle.layout.specs.Header.{vaultRoot, width, fullSize, isFull, isFilled, firstOf, levelAt, stripeSize, stripeAt, stripeOf}
 use Rattle.layout.specs.Records.{areData}
@@ -24,8 +25,9 @@ use Rattle.image.specs.Image.{imageOf, wordAt}
 use Rattle.image.specs.Erasures.{erasuresIn}
 use Rattle.rows.specs.Decoding.{decoded, numberFits, blockNumber, blockData, isRecord, areRecords}
 use Rattle.stripe.specs.Decoding.{decodeStripe}
-use Rattle.vault.specs.Round.{Entry, Round, rowsOf, roundHeader, levelEntries, levelWords, logWords}
-use Rattle.vault.specs.Promises.{marks, Needed, LeavesHalf, SameWords}
+use Rattle.vault.specs.Event.{Entry}
+use Rattle.vault.specs.Round.{Round, rowsOf, roundHeader, levelEntries, levelWords, logWords}
+use Rattle.vault.specs.Promises.{marks, Needed, SameWords}
 use Rattle.layout.proofs.RecordWords.{are-data, field-words}
 use Rattle.store.proofs.StoredRecords.{length-full}
 use Rattle.vault.proofs.Levels.{level-filled, level-empty, level-place}
@@ -109,36 +111,38 @@ module _ {a : Round} (good : Good a) where
       ∙ sym (getD-take (stripeSize h l) (drop (levelAt h l) log) q 0 b) ∙ ap (λ (x : List ℕ). getD x q 0) (level-place h (a .since) l (a .k) lt))
 
   -- an image with the words that survive
-  module _ (e m : List ℕ) (L : LeavesHalf h e) (S : SameWords h e (imageOf full log) m) where
+  module _ (e m : List ℕ) (S : SameWords h e (imageOf full log) m) where
     kept-word : (l i j : ℕ) → Needed h l → i < 2 ^ suc l → j < width h → getD (marks h e l) i false ≡ false
         → wordAt m (stripeAt h l + (i * width h + j)) ≡ getD (full ++ log) (stripeAt h l + (i * width h + j)) 0
     kept-word l i j need b c free = sym (S .same l i j need b c free) ∙ word-back 65537 (lit< tt) (full ++ log) words-all (stripeAt h l + (i * width h + j))
 
-    -- a needed stripe that codes the rows of some entries decodes to them
-    rows-decode : (l : ℕ) → l ≤ a .k → Needed h l → (xs : List Entry) → AllTaken (a .k) (a .s) xs → length xs ≡ 2 ^ l
+    -- a needed stripe that codes the rows of some entries, and keeps half, decodes to them, whatever is left of the others
+    rows-decode : (l : ℕ) → l ≤ a .k → Needed h l → 2 ^ l ≤ length (survivors l (marks h e l))
+        → (xs : List Entry) → AllTaken (a .k) (a .s) xs → length xs ≡ 2 ^ l
         → ((j : ℕ) → j < length xs → numberFits (stripeOf h l) j (getD xs j noEntry .number) ≡ true)
         → ((q : ℕ) → q < 2 ^ suc l * width h → getD (full ++ log) (stripeAt h l + q) 0 ≡ getD (codedStripe (stripeOf h l) (rowsOf xs)) q 0)
         → decodeStripe h m (erasuresIn e) l ≡ decoded (rowsOf xs)
-    rows-decode l within need xs E n fit at =
+    rows-decode l within need half xs E n fit at =
         decodes-kept h m e l (rowsOf xs) (header-fits good) within (rows-column (2 ^ l) (good .sizes .k-high) E n)
-        (λ i j b c free. kept-word l i j need b c free ∙ at (i * width h + j) (digits-lt b c)) (L .half l need) (are-records h E l fit (2 ^ l) (omega arith))
+        (λ i j b c free. kept-word l i j need b c free ∙ at (i * width h + j) (digits-lt b c)) half (are-records h E l fit (2 ^ l) (omega arith))
 
-    pub level-decodes : (l : ℕ) → l < a .k → isFilled h l ≡ true → decodeStripe h m (erasuresIn e) l ≡ decoded (rowsOf (levelEntries h (a .since) l))
-    level-decodes l lt filled =
+    pub level-decodes : (l : ℕ) → l < a .k → isFilled h l ≡ true → 2 ^ l ≤ length (survivors l (marks h e l))
+        → decodeStripe h m (erasuresIn e) l ≡ decoded (rowsOf (levelEntries h (a .since) l))
+    level-decodes l lt filled half =
         let E = level-taken good l in
-        rows-decode l (omega arith) (inr (lt, filled)) (levelEntries h (a .since) l) E (length-entries good l lt filled)
+        rows-decode l (omega arith) (inr (lt, filled)) half (levelEntries h (a .since) l) E (length-entries good l lt filled)
         (λ j b. rw (
           ne-eqb l (a .k) (λ t. omega arith),
           numberFits,
         ) (lt-ltb (getD (levelEntries h (a .since) l) j noEntry .number) (2 ^ a .k) (entry-at E j b .within)))
         (λ q b. level-at l lt q b ∙ ap (λ (x : List ℕ). getD x q 0) (level-filled h (a .since) l filled))
 
-    pub full-decodes : decodeStripe h m (erasuresIn e) (a .k) ≡ decoded (blocksOf h (a .base))
-    full-decodes =
+    pub full-decodes : 2 ^ a .k ≤ length (survivors (a .k) (marks h e (a .k))) → decodeStripe h m (erasuresIn e) (a .k) ≡ decoded (blocksOf h (a .base))
+    full-decodes half =
         let isK : isFull h (a .k) ≡ true = eq-eqb (a .k) (a .k) refl in
         let place : (j : ℕ) → j < length start → getD start j noEntry .number ≡ j =
         λ j b. number-numbered (a .s) (a .base) 0 (2 ^ a .k) j (omega (arith, length-start)) ∙ zero-add j in
-        rows-decode (a .k) (le-refl (a .k)) (inl isK) start start-taken length-start
+        rows-decode (a .k) (le-refl (a .k)) (inl isK) half start start-taken length-start
         (λ j b. rw (isK, numberFits) (eq-eqb (getD start j noEntry .number) j (place j b)))
         (λ q b. full-at q b ∙ ap₂ (λ (t : ℕ) (x : List ℕ). getD (codedRows 65537 (vaultRoot h) (a .k) (a .k) t (width h) x) q 0)
         (sym (first-full h (a .k) refl)) start-rows)

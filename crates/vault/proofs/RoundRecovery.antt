@@ -2,14 +2,15 @@
 -- those of the levels above it. Assumes nothing.
 use mathlib.Core.Path.{_≡_, refl, sym, ap, _∙_}
 use mathlib.Core.Bool.{Bool, true, false}
-use mathlib.Core.List.{List, _++_}
+use mathlib.Core.Logic.{inl, inr}
+use mathlib.Core.List.{List, [], _++_}
 use Prim.Native.Nat.{ℕ, zero, suc, _+_, _*_, _/_, _%_, _^_, _≤_, _<_}
 use native.Mathlib.Nat.{pow-succ', div-one, mul-one, zero-mul, div-eq-of-lt, le-refl}
 use native.Mathlib.Omega.{arith}
 use lib.Dec.{eqb}
 use lib.ListN.{length, take, drop, replicate, length-replicate}
 use lib.Seq.{take-all, take-add}
-use borrow.Author.Tests.{eqb-true, eqb-false}
+use borrow.Author.Tests.{eqb-true, eqb-false, eq-eqb}
 use Rattle.layout.specs.declared.Header.{Header}
 use Rattle.layout.specs.Header.{rawSize, isFilled}
 use Rattle.store.specs.Buffers.{fullStripe, blocksOf}
@@ -17,9 +18,10 @@ use Rattle.image.specs.Image.{imageOf}
 use Rattle.image.specs.Erasures.{erasuresIn}
 use Rattle.rows.specs.Decoding.{Decoded, decoded}
 use Rattle.stripe.specs.Decoding.{decodeStripe}
-use Rattle.recovery.specs.Recovery.{laid, recovered, thenLay, levelsOver, recover}
+use Rattle.recovery.specs.Recovery.{Layer, Recovered, recovered, levelsOver, stripesOver, laid, records, recover}
+use Rattle.vault.specs.Event.{Entry}
 use Rattle.vault.specs.Round.{Round, putAll, rowsOf, roundHeader, levelEntries, logWords, recordsIn}
-use Rattle.vault.specs.Promises.{LeavesHalf, SameWords}
+use Rattle.vault.specs.Promises.{KeepsHalf, SameWords}
 use Rattle.layout.proofs.Counting.{next-bit}
 use Rattle.layout.proofs.StripePlaces.{first-level}
 use Rattle.vault.proofs.Laying.{laid-put, put-all}
@@ -41,19 +43,58 @@ multiple-empty c l e =
     let z : c / 2 ^ l % 2 ≡ 0 = omega (arith, eqb-false (c / 2 ^ l % 2) 1 e) in
     omega (arith, multiple c l, ap (λ (x : ℕ). x * 2 ^ l) z)
 
--- a decoded stripe is laid, and the levels below follow
-then-laid : (h : Header) (d : ℕ → Decoded) (l j n : ℕ) (r r′ bs : List ℕ) → d l ≡ decoded bs → laid (h .s) bs n r ≡ r′
-    → thenLay l (d l) (λ (cs : List ℕ). levelsOver j h d (laid (h .s) cs n r)) ≡ levelsOver j h d r′
-then-laid h d l j n r r′ bs e f =
-    ap (λ (x : Decoded). thenLay l x (λ (cs : List ℕ). levelsOver j h d (laid (h .s) cs n r))) e ∙ ap (λ (x : List ℕ). levelsOver j h d x) f
+-- all of them at level 0, and none at k
+pub multiple-all : (c : ℕ) → c / 2 ^ 0 * 2 ^ 0 ≡ c
+multiple-all c = mul-one (c / 1) ∙ div-one c
+
+pub multiple-none : (c k : ℕ) → c < 2 ^ k → c / 2 ^ k * 2 ^ k ≡ 0
+multiple-none c k b = ap (λ (n : ℕ). n * 2 ^ k) (div-eq-of-lt b) ∙ zero-mul (2 ^ k)
+
+-- so the writes of the levels from l up are those of the levels above l, and then those that level l holds if it is filled
+abbrev pub writesFrom : Header → (since : List Entry) → (level : ℕ) → List Entry
+writesFrom h xs l = take (h .c / 2 ^ l * 2 ^ l) xs
+
+pub writes-filled : (h : Header) (xs : List Entry) (l : ℕ) → l < h .k → isFilled h l ≡ true
+    → writesFrom h xs (suc l) ++ levelEntries h xs l ≡ writesFrom h xs l
+writes-filled h xs l b f =
+    let t = h .c / 2 ^ suc l * 2 ^ suc l in
+    ap (λ (i : ℕ). take t xs ++ take (2 ^ l) (drop i xs)) (first-level h l (λ e. omega arith)) ∙ sym (take-add t (2 ^ l) xs)
+    ∙ ap (λ (n : ℕ). take n xs) (multiple-filled (h .c) l f)
+
+pub writes-empty : (h : Header) (xs : List Entry) (l : ℕ) → isFilled h l ≡ false → writesFrom h xs (suc l) ≡ writesFrom h xs l
+writes-empty h xs l f = ap (λ (n : ℕ). take n xs) (multiple-empty (h .c) l f)
+
+pub writes-all : (h : Header) (xs : List Entry) → length xs ≡ h .c → writesFrom h xs 0 ≡ xs
+writes-all h xs e = take-all (h .c / 2 ^ 0 * 2 ^ 0) xs (omega (arith, multiple-all (h .c)))
+
+pub writes-none : (h : Header) (xs : List Entry) → h .c < 2 ^ h .k → writesFrom h xs (h .k) ≡ []
+writes-none h xs b = ap (λ (n : ℕ). take n xs) (multiple-none (h .c) (h .k) b)
+
+-- WHERE THE FILLED LEVELS DECODE to some blocks: what holds of the words above them, and each level keeps as it is laid, holds of the words that they come to,
+-- for any layer
+module _ (h : Header) (d : ℕ → Decoded) (y : Layer) (blocks : ℕ → List ℕ) (P : ℕ → List ℕ → Type 0)
+    (decodes : (l : ℕ) → l < h .k → isFilled h l ≡ true → d l ≡ decoded (blocks l))
+    (over : (l : ℕ) (r : List ℕ) → l < h .k → isFilled h l ≡ true → P (suc l) r → P l (y .over l (blocks l) r))
+    (past : (l : ℕ) (r : List ℕ) → isFilled h l ≡ false → P (suc l) r → P l r) where
+  abbrev Comes : Recovered → Type 0
+  Comes x = (r : List ℕ) × (x ≡ recovered r) × P 0 r
+
+  levels-keep : (l : ℕ) (r : List ℕ) → l ≤ h .k → P l r → Comes (levelsOver l h d y r)
+  unfolding levelsOver
+  levels-keep zero r b p = (r, refl, p)
+  levels-keep (suc l) r b p = go (isFilled h l) refl (λ x. levels-keep l x (omega arith))
+    where
+      go : (f : Bool) → isFilled h l ≡ f → ((x : List ℕ) → P l x → Comes (levelsOver l h d y x)) → Comes (levelsOver (suc l) h d y r)
+      go true f rest = rw (f, levelsOver, decodes l b f) (rest (y .over l (blocks l) r) (over l r b f p))
+      go false f rest = rw (f, levelsOver) (rest r (past l r f p))
 
 module _ {a : Round} (good : Good a) where
   abbrev h : Header
   h = roundHeader a
 
-  -- the records when all levels above l are laid
-  abbrev above : ℕ → List ℕ
-  above l = putAll (a .s) (a .base) (take (h .c / 2 ^ l * 2 ^ l) (a .since))
+  -- the records when all levels from l up are laid
+  abbrev recordsFrom : ℕ → List ℕ
+  recordsFrom l = putAll (a .s) (a .base) (writesFrom h (a .since) l)
 
   pub lay-full : laid (a .s) (blocksOf h (a .base)) (2 ^ a .k) (replicate (rawSize h) 0) ≡ a .base
   lay-full =
@@ -61,38 +102,32 @@ module _ {a : Round} (good : Good a) where
       ap (λ (x : List ℕ). laid (a .s) x (2 ^ a .k) z) (start-rows good) ∙ laid-put (start-taken good) z (2 ^ a .k) (length-start good)
       ∙ put-all (a .k) (a .s) (a .base) (good .base-long) z (length-replicate (rawSize h) 0)
 
-  lay-level : (l : ℕ) → l < a .k → isFilled h l ≡ true → laid (a .s) (rowsOf (levelEntries h (a .since) l)) (2 ^ l) (above (suc l)) ≡ above l
+  lay-level : (l : ℕ) → l < a .k → isFilled h l ≡ true
+      → laid (a .s) (rowsOf (levelEntries h (a .since) l)) (2 ^ l) (recordsFrom (suc l)) ≡ recordsFrom l
   lay-level l b f =
-      let t = h .c / 2 ^ suc l * 2 ^ suc l in
-      laid-put (level-taken good l) (above (suc l)) (2 ^ l) (length-entries good l b f)
-      ∙ sym (put-append (a .s) (a .base) (take t (a .since)) (levelEntries h (a .since) l))
-      ∙ ap (putAll (a .s) (a .base))
-      (ap (λ (i : ℕ). take t (a .since) ++ take (2 ^ l) (drop i (a .since))) (first-level h l (λ e. omega arith))
-      ∙ sym (take-add t (2 ^ l) (a .since)) ∙ ap (λ (n : ℕ). take n (a .since)) (multiple-filled (h .c) l f))
+      laid-put (level-taken good l) (recordsFrom (suc l)) (2 ^ l) (length-entries good l b f)
+      ∙ sym (put-append (a .s) (a .base) (writesFrom h (a .since) (suc l)) (levelEntries h (a .since) l))
+      ∙ ap (putAll (a .s) (a .base)) (writes-filled h (a .since) l b f)
 
-  module _ (e m : List ℕ) (L : LeavesHalf h e) (S : SameWords h e (imageOf (fullStripe h (a .base)) (logWords h (a .since) (a .k))) m) where
+  module _ (e m : List ℕ) (K : KeepsHalf h e) (S : SameWords h e (imageOf (fullStripe h (a .base)) (logWords h (a .since) (a .k))) m) where
     abbrev decoding : ℕ → Decoded
     decoding = decodeStripe h m (erasuresIn e)
 
-    lay-levels : (l : ℕ) → l ≤ a .k → levelsOver l h decoding (above l) ≡ recovered (recordsIn a)
-    unfolding levelsOver
-    lay-levels zero b =
-        let all : h .c / 2 ^ 0 * 2 ^ 0 ≡ length (a .since) = mul-one (h .c / 1) ∙ div-one (h .c) in
-        ap (λ (x : List _). recovered (putAll (a .s) (a .base) x)) (take-all (h .c / 2 ^ 0 * 2 ^ 0) (a .since) (omega arith))
-    lay-levels (suc l) b = go (isFilled h l) refl (lay-levels l (omega arith))
-      where
-        go : (f : Bool) → isFilled h l ≡ f → levelsOver l h decoding (above l) ≡ recovered (recordsIn a)
-            → levelsOver (suc l) h decoding (above (suc l)) ≡ recovered (recordsIn a)
-        go true f rest =
-            rw (f, levelsOver)
-            (then-laid h decoding l l (2 ^ l) (above (suc l)) (above l) (rowsOf (levelEntries h (a .since) l)) (level-decodes good e m L S l b f)
-            (lay-level l b f) ∙ rest)
-        go false f rest = rw (f, levelsOver, multiple-empty (h .c) l f) rest
+    -- THE STRIPES OF A ROUND that keep half: what holds of the words of its start, and the writes of each filled level keep, for any layer
+    pub stripes-keep : (y : Layer) (P : ℕ → List ℕ → Type 0)
+        → ((l : ℕ) (r : List ℕ) → l < a .k → isFilled h l ≡ true → P (suc l) r → P l (y .over l (rowsOf (levelEntries h (a .since) l)) r))
+        → ((l : ℕ) (r : List ℕ) → isFilled h l ≡ false → P (suc l) r → P l r) → P (a .k) (y .full (blocksOf h (a .base)))
+        → (r : List ℕ) × (stripesOver h decoding y ≡ recovered r) × P 0 r
+    stripes-keep y P over past p =
+        rw (full-decodes good e m S (K .half (a .k) (inl (eq-eqb (a .k) (a .k) refl))))
+        (levels-keep h decoding y (λ (l : ℕ). rowsOf (levelEntries h (a .since) l)) P
+        (λ l b f. level-decodes good e m S l b f (K .half l (inr (b, f)))) over past (a .k) (y .full (blocksOf h (a .base))) (le-refl (a .k)) p)
 
     pub recover-round : recover h decoding ≡ recovered (recordsIn a)
     unfolding putAll
     recover-round =
-        let none : h .c / 2 ^ a .k * 2 ^ a .k ≡ 0 = ap (λ (n : ℕ). n * 2 ^ a .k) (div-eq-of-lt (good .few)) ∙ zero-mul (2 ^ a .k) in
-        let start : a .base ≡ above (a .k) = ap (λ (n : ℕ). putAll (a .s) (a .base) (take n (a .since))) (sym none) in
-        then-laid h decoding (a .k) (a .k) (2 ^ a .k) (replicate (rawSize h) 0) (above (a .k)) (blocksOf h (a .base)) (full-decodes good e m L S) (lay-full
-        ∙ start) ∙ lay-levels (a .k) (le-refl (a .k))
+        let puts = putAll (a .s) (a .base) in
+        let t = stripes-keep (records h) (λ (l : ℕ) (r : List ℕ). r ≡ recordsFrom l)
+        (λ l r b f p. ap (laid (a .s) (rowsOf (levelEntries h (a .since) l)) (2 ^ l)) p ∙ lay-level l b f)
+        (λ l r f p. p ∙ ap puts (writes-empty h (a .since) l f)) (lay-full ∙ ap puts (sym (writes-none h (a .since) (good .few)))) in
+        t .1 ∙ ap recovered (t .2 ∙ ap puts (writes-all h (a .since) refl))

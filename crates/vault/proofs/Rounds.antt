@@ -19,7 +19,8 @@ use Rattle.field.proofs.Booleans.{both-true}
 use Rattle.layout.specs.Header.{headerOf, isIn, headerFits, isFilled, firstOf}
 use Rattle.layout.specs.Records.{replaced}
 use Rattle.store.specs.Buffers.{blocksOf}
-use Rattle.vault.specs.Round.{Entry, Round, putAll, beforeEach, rowsOf, recordsIn, roundHeader, levelEntries}
+use Rattle.vault.specs.Event.{Entry}
+use Rattle.vault.specs.Round.{Round, putAll, beforeEach, rowsOf, recordsIn, roundHeader, levelEntries}
 use Rattle.layout.proofs.Bounds.{fits}
 use Rattle.layout.proofs.RecordWords.{field-words}
 use Rattle.store.proofs.StoredRecords.{length-blocks, words-blocks}

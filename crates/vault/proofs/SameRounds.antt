@@ -3,11 +3,10 @@
 use mathlib.Core.Path.{_≡_, refl, sym, ap, ap₂, _∙_, subst}
 use mathlib.Core.Bool.{Bool, true, false}
 use mathlib.Core.List.{List, _∷_, _++_}
-use Prim.Native.Nat.{ℕ, zero, suc, _+_, _*_, _/_, _^_, _<_}
-use native.Mathlib.Nat.{div-eq-of-lt, zero-mul, mul-one, div-one}
+use Prim.Native.Nat.{ℕ, zero, suc, _+_, _^_, _<_}
 use native.Mathlib.Omega.{arith}
 use lib.ListN.{length, getD, take, drop, replicate, length-drop}
-use lib.Seq.{take-all, take-add, take-at, drop-at, length-take-le}
+use lib.Seq.{take-at, drop-at, length-take-le}
 use Rattle.layout.specs.declared.Header.{Header}
 use Rattle.layout.specs.Header.{rawSize, isFilled, firstOf}
 use Rattle.store.specs.Buffers.{blocksOf}
@@ -15,11 +14,11 @@ use Rattle.image.specs.Erasures.{erasuresIn}
 use Rattle.rows.specs.Decoding.{Decoded, decoded}
 use Rattle.stripe.specs.Decoding.{decodeStripe}
 use Rattle.recovery.specs.Recovery.{laid}
-use Rattle.vault.specs.Round.{Entry, Round, rowsOf, roundHeader, levelEntries}
-use Rattle.layout.proofs.StripePlaces.{first-level}
+use Rattle.vault.specs.Event.{Entry}
+use Rattle.vault.specs.Round.{Round, rowsOf, roundHeader, levelEntries}
 use Rattle.vault.proofs.Levels.{filled-in}
 use Rattle.vault.proofs.Rounds.{AllTaken, none, more, Good, taken-take, taken-drop}
-use Rattle.vault.proofs.RoundRecovery.{multiple-filled, multiple-empty, lay-full}
+use Rattle.vault.proofs.RoundRecovery.{writesFrom, writes-filled, writes-empty, writes-all, writes-none, lay-full}
 
 -- the entry of a row, and the entries of rows
 entryIn : List ℕ → Entry
@@ -39,14 +38,6 @@ rows-same {s} (more {x = x} {xs = xs} f t) (more {x = y} {xs = ys} g u) n e =
     sym (drop-at row (rowsOf xs) (suc s) (ap suc (f .long))) ∙ ap (drop (suc s)) e ∙ drop-at row′ (rowsOf ys) (suc s) (ap suc (g .long)) in
     ap₂ _∷_ (ap entryIn same) (rows-same t u (omega arith) rest)
 
--- the writes up to level l's last are those up to the last of the level above, and then level l's if it is filled
-take-level : (h : Header) (l : ℕ) → l < h .k → isFilled h l ≡ true → (xs : List Entry)
-    → take (h .c / 2 ^ l * 2 ^ l) xs ≡ take (h .c / 2 ^ suc l * 2 ^ suc l) xs ++ levelEntries h xs l
-take-level h l b f xs =
-    let t = h .c / 2 ^ suc l * 2 ^ suc l in
-    ap (λ (n : ℕ). take n xs) (sym (multiple-filled (h .c) l f)) ∙ take-add t (2 ^ l) xs
-    ∙ ap (λ (i : ℕ). take t xs ++ take (2 ^ l) (drop i xs)) (sym (first-level h l (λ e. omega arith)))
-
 module _ (h : Header) {xs ys : List Entry} (X : AllTaken (h .k) (h .s) xs) (Y : AllTaken (h .k) (h .s) ys) (long : length xs ≡ h .c) (long′ : length ys ≡ h .c)
     (few : h .c < 2 ^ h .k) (rows : (l : ℕ) → l < h .k → isFilled h l ≡ true → rowsOf (levelEntries h xs l) ≡ rowsOf (levelEntries h ys l)) where
   level-same : (l : ℕ) → l < h .k → isFilled h l ≡ true → levelEntries h xs l ≡ levelEntries h ys l
@@ -58,24 +49,20 @@ module _ (h : Header) {xs ys : List Entry} (X : AllTaken (h .k) (h .s) xs) (Y : 
       size zs n = length-take-le (2 ^ l) (drop (firstOf h l) zs) (rw length-drop (omega (arith, filled-in h l b f)))
 
   -- n levels from l on
-  above-same : (n l : ℕ) → l + n ≡ h .k → take (h .c / 2 ^ l * 2 ^ l) xs ≡ take (h .c / 2 ^ l * 2 ^ l) ys
+  above-same : (n l : ℕ) → l + n ≡ h .k → writesFrom h xs l ≡ writesFrom h ys l
   above-same zero l e =
       let k : l ≡ h .k = omega arith in
-      let none : h .c / 2 ^ l * 2 ^ l ≡ 0 = rw k (ap (λ (n : ℕ). n * 2 ^ h .k) (div-eq-of-lt few) ∙ zero-mul (2 ^ h .k)) in
-      rw none
+      rw k (writes-none h xs few ∙ sym (writes-none h ys few))
   above-same (suc n) l e = go (isFilled h l) refl (above-same n (suc l) (omega arith))
     where
-      go : (f : Bool) → isFilled h l ≡ f → take (h .c / 2 ^ suc l * 2 ^ suc l) xs ≡ take (h .c / 2 ^ suc l * 2 ^ suc l) ys
-          → take (h .c / 2 ^ l * 2 ^ l) xs ≡ take (h .c / 2 ^ l * 2 ^ l) ys
+      go : (f : Bool) → isFilled h l ≡ f → writesFrom h xs (suc l) ≡ writesFrom h ys (suc l) → writesFrom h xs l ≡ writesFrom h ys l
       go true f up =
           let b : l < h .k = omega arith in
-          take-level h l b f xs ∙ ap₂ _++_ up (level-same l b f) ∙ sym (take-level h l b f ys)
-      go false f up = rw (← multiple-empty (h .c) l f) up
+          sym (writes-filled h xs l b f) ∙ ap₂ _++_ up (level-same l b f) ∙ writes-filled h ys l b f
+      go false f up = sym (writes-empty h xs l f) ∙ up ∙ writes-empty h ys l f
 
   since-same : xs ≡ ys
-  since-same =
-      let all : h .c / 2 ^ 0 * 2 ^ 0 ≡ h .c = mul-one (h .c / 1) ∙ div-one (h .c) in
-      sym (take-all (h .c / 2 ^ 0 * 2 ^ 0) xs (omega arith)) ∙ above-same (h .k) 0 (omega arith) ∙ take-all (h .c / 2 ^ 0 * 2 ^ 0) ys (omega arith)
+  since-same = sym (writes-all h xs long) ∙ above-same (h .k) 0 (omega arith) ∙ writes-all h ys long′
 
 -- a good round with this header, to whose blocks the stripes of an image decode
 pub record Decodes (h : Header) (m e : List ℕ) (a : Round) : Type 0 where

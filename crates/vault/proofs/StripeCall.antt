@@ -23,7 +23,7 @@ use Rattle.stripe.specs.Decoding.{decodeStripe}
 use Rattle.stripe.specs.StripeCall.{decodeEarly, decodeNumber, decodeLeaves}
 use Rattle.vault.specs.Promises.{marks, wordsIn, Readable, Asked, GivesSeven, GivesEight, GivesNine, GivesTen, GivesZero, LeavesBlocks, LeavesZeros}
 use Rattle.vault.specs.Promises.{Needed, Gives}
-use Rattle.field.proofs.Booleans.{both-true, first-true}
+use Rattle.field.proofs.Booleans.{both-true, first-true, second-true}
 use Rattle.layout.proofs.Refusals.{passes, test-holds, none-fails, equal-three, if-taken}
 use Rattle.vault.proofs.StripeDecoding.{readable-rows, decodesIff, nineIff, tenIff}
 
@@ -42,6 +42,27 @@ zero-only (gives bs p C t) q = (bs, C, t)
 zero-only (nine p none) q = absurd (omega (arith, failed-number p))
 zero-only (ten bs p C t) q = absurd (omega (arith, failed-number p))
 
+-- test 6 passes for the needed stripes, and for no other
+pub needed-passes : (h : Header) (l : ℕ) → Needed h l → hasStripe h l ≡ true
+needed-passes h l (inl full) = rw (full, hasStripe)
+needed-passes h l (inr (lt, filled)) = second-of (isFull h l) (both-true (lt-ltb l (h .k) lt) filled)
+  where
+    second-of : (a : Bool) {b : Bool} → b ≡ true → (a || b) ≡ true
+    second-of true q = refl
+    second-of false q = q
+
+pub passes-needed : (h : Header) (l : ℕ) → hasStripe h l ≡ true → Needed h l
+passes-needed h l t = go (isFull h l) refl t
+  where
+    go : (b : Bool) → isFull h l ≡ b → (b || (ltb l (h .k) && isFilled h l)) ≡ true → Needed h l
+    go true eb q = inl eb
+    go false eb q = inr (ltb-true l (h .k) (first-true (ltb l (h .k)) (isFilled h l) q), second-true (ltb l (h .k)) (isFilled h l) q)
+
+-- they are those of the header
+pub needed-within : (h : Header) (l : ℕ) → Needed h l → l ≤ h .k
+needed-within h l (inl full) = omega (arith, eqb-true l (h .k) full)
+needed-within h l (inr (lt, filled)) = omega arith
+
 -- WHERE NO NUMBER FROM 1 TO 6 APPLIES the header fits, the stripe is one of it, and the call does what decoding comes to
 module _ (h : Header) (m e : List ℕ) (l : ℕ) (out scratch : List ℕ) (asked : Asked h m e l out scratch) where
   asked-fits : headerFits h ≡ true
@@ -52,11 +73,7 @@ module _ (h : Header) (m e : List ℕ) (l : ℕ) (out scratch : List ℕ) (asked
       let t₁ = passes (headerFits h) 1 _ asked (omega arith) .1 in
       let t₂ = passes _ 2 _ t₁ (omega arith) .1 in
       let t₃ = passes (erasuresFit h e) 3 _ t₂ (omega arith) .1 in
-      go (isFull h l) refl (passes (hasStripe h l) 6 done t₃ (omega arith) .0)
-    where
-      go : (b : Bool) → isFull h l ≡ b → (b || (ltb l (h .k) && isFilled h l)) ≡ true → l ≤ h .k
-      go true eb t = omega (arith, eqb-true l (h .k) eb)
-      go false eb t = omega (arith, ltb-true l (h .k) (first-true (ltb l (h .k)) (isFilled h l) t))
+      needed-within h l (passes-needed h l (passes (hasStripe h l) 6 done t₃ (omega arith) .0))
 
   abbrev found : Decoded
   found = decodeStripe h m (erasuresIn e) l
@@ -123,15 +140,6 @@ leavesZeros h m e l out scratch A = (
   λ f. words-of h m e l out scratch A ∙ zeros-of (decodeStripe h m (erasuresIn e) l) (outSize h) (λ q. f (number-of h m e l out scratch A ∙ q)),
   if-taken (replicate (scratchSize h) 0) scratch A,
 )
-
--- test 6 passes for a needed stripe
-needed-passes : (h : Header) (l : ℕ) → Needed h l → hasStripe h l ≡ true
-needed-passes h l (inl full) = rw (full, hasStripe)
-needed-passes h l (inr (lt, filled)) = second-of (isFull h l) (both-true (lt-ltb l (h .k) lt) filled)
-  where
-    second-of : (a : Bool) {b : Bool} → b ≡ true → (a || b) ≡ true
-    second-of true q = refl
-    second-of false q = q
 
 -- BLOCKS that a stripe decodes to are given by the call, where the header fits, the erasure list is well formed and the
 -- stripe is needed

@@ -1,5 +1,5 @@
 -- Every entry of the table of worked examples holds, by computing. Assumes nothing.
-use mathlib.Core.Path.{refl}
+use mathlib.Core.Path.{refl as is}
 use Rattle.field.specs.Residue.{plus, minus, times}
 use Rattle.field.specs.Power.{powerFrom, power, inverse}
 use Rattle.field.specs.Polynomial.{lift, slopes, interpolate}
@@ -18,6 +18,7 @@ use Rattle.image.specs.Erasures.{erasuresFrom, erasuresRise, touched, flagsFrom
 use Rattle.image.specs.Loading.{survivingAt, areBelow}
 use Rattle.rows.specs.Decoding.{areRecords}
 use Rattle.recovery.specs.Recovery.{laid, levelsOver}
+use Rattle.recovery.specs.Explaining.{pairsTo, left, shortfall, originsLaid}
 use Rattle.layout.specs.Refusals.{refusal}
 use Rattle.vault.specs.History.{after}
 use Rattle.vault.specs.Model.{wordsFit, fedAll}
@@ -29,5 +30,5 @@ unfolding plus minus times powerFrom power inverse lift slopes interpolate rootO
     rowOf rowsFrom lifted coded codedRows survivorsFrom pointAt valueAt bitReversed decodedColumn agrees consistentColumn consistentTo decodedRows areData
     recordsFit reduced
     blocksFrom firstEmpty rebuiltHalf little bytesOf numberOf erasuresFrom erasuresRise touched flagsFrom markAt survivingAt areBelow areRecords laid levelsOver
-    refusal after wordsFit fedAll
-worked = (refl, (refl, (refl, (refl, (refl, (refl, (refl, (refl, (refl, (refl, (refl, (refl, (refl, (refl, (refl, (refl, (refl, (refl, tt))))))))))))))))))
+    refusal after wordsFit fedAll pairsTo left shortfall originsLaid
+worked = (is, (is, (is, (is, (is, (is, (is, (is, (is, (is, (is, (is, (is, (is, (is, (is, (is, (is, (is, (is, tt))))))))))))))))))))

@@ -11,6 +11,11 @@ pub record Opening : Type 0 where
   pub full : List ℕ
   pub log : List ℕ
 
+-- what a write enters: a record's number, and the words of its block
+pub record Entry : Type 0 where
+  pub number : ℕ
+  pub block : List ℕ
+
 -- an event: today a write, with any record number and any block
 pub data Event : Type 0 where
   write : (number : ℕ) → (block : List ℕ) → Event

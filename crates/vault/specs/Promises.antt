@@ -1,6 +1,6 @@
--- WHAT THE VAULT PROMISES of every history, and of decoding and recovery. Each promise is a type and has a line of words above it; the record `Promises` at the
--- end has one field for each; and `proved : Promises` in proofs/Proved.antt is their proof, all in one term: with one of them missing it is refused. Assumes
--- nothing.
+-- WHAT THE VAULT PROMISES of every history, and of decoding, recovery and explaining. Each promise is a type and has a line of words above it; the record
+-- `Promises` at the end has one field for each; and `proved : Promises` in proofs/Proved.antt is their proof, all in one term: with one of them missing it is
+-- refused. Assumes nothing.
 --
 -- SIGNS
 --   (x : T) → A       for every x of type T: A             A → B       if A, then B
@@ -20,27 +20,33 @@
 --   k, s, c   the header's numbers: n = 2^k records of s words, and c writes since the full stripe was last built
 --   h         a header (docs/FORMAT.md, section 1)
 --   l         a stripe (shelf): a level below k, or k for the full stripe; it has 2^l blocks and 2^(l+1) positions
---   i, j      a position of a stripe, and a word of its 1 + s; in `BeforeIs` i is an entry of `before`
+--   i, j      a position of a stripe, and a word of its 1 + s; in `BeforeIs` i is an entry of `before`; from `Origin` on i is a record's number;
+--             in `FirstShort` j is a stripe
 --   m         an image, as bytes
 --   e         an erasure list (gap list), as bytes
 --   bs, cs    blocks of 1 + s words, a record's number and its data, one block after the other
---   a         a round: the records when the full stripe was last built, `base`, and the writes since, `since`, the oldest first
---   out, scratch   the output and the scratch that a call is lent; they may hold anything
+--   a         a round: the records when the full stripe was last built, `base`, and the writes since, `since`, the oldest first; in
+--             `ExplainsWhy` an answer
+--   x         a model
+--   t         a write of the round, counted from 0
+--   out, counts, origins, scratch   the buffers that a call is lent; they may hold anything
 --
 -- FROM THIS CRATE
---   specs/Event    Opening, Event: what a history is made of
+--   specs/Event    Opening, Event: what a history is made of. A write's entry has a `number` and a `block`
 --   specs/History  Opens o: the call takes the opening, that is, gives 0. vaultAfter o es: header and buffers as the calls leave them; headerAfter, imageAfter:
 --                  its header and its image. numberOn v next: the number that the call gives to an event
 --   specs/Model    modelOf o es: what the model (record book) says, from k, s, the opened records and the events alone. writes: its count. tableNumber: the
---                  table's number
+--                  table's number. writtenAt x t: the entry of write t of the round. LastWrite x i t: write t is the last of the round to record i.
+--                  NoWrite x i: the round has none to it
 --   specs/Round    roundOf o es: the round that a history ends in. represent a: the buffers' words as docs/FORMAT.md fixes them (sections 3 to 5). modelIn a:
 --                  the model of a round. putAll s r xs: the records r with the writes xs put in. levelEntries h xs l: the writes that level l holds. rowsOf xs:
 --                  writes as blocks
 --
 -- FROM OTHER CRATES
 --   layout     headerOf k s c: the header of these numbers. headerFits h: k is 1 to 10, s 1 to 128, c below n. rawSize, outSize, scratchSize, imageSize: the
---              lengths of docs/FORMAT.md, section 3. width h: 1 + s. isFull h l: l is k. isFilled h l: bit l of c is 1. stripeAt h l: the word of the image at
---              which the stripe begins; stripeSize h l: how many it has. stripeOf h l: the stripe's numbers: l, k, its t0, w of order 2n, and 1 + s
+--              lengths of docs/FORMAT.md, section 3. width h: 1 + s. isFull h l: l is k. isFilled h l: bit l of c is 1. firstOf h l: t0, the write that the
+--              first block of a level is. stripeAt h l: the word of the image at which the stripe begins; stripeSize h l: how many it has. stripeOf h l: the
+--              stripe's numbers: l, k, its t0, w of order 2n, and 1 + s. recordIn s r i: record i of the raw records r
 --   code       p: the field's modulus, 65537. codedStripe st bs: the words that the blocks bs of the stripe st are coded to. Column p n xs: xs are n words
 --              below p
 --   decoder    survivors l ms: the positions of stripe l that are not erased. AgreesRows ms n width xs ys: xs and ys have the same words at these, of n
@@ -56,7 +62,10 @@
 --   stripe     decodeStripe h m gs l: what a stripe of an image decodes to: decodeRows of the rows crate, of its numbers, marks and words. decodeEarly: the
 --              number of the call `decode` by its tests 1 to 6. decodeNumber, decodeLeaves, decodeScratch: the number that it gives, and what it leaves in the
 --              output and in the scratch
---   recovery   recoverAnswer, recoverLeaves, recoverScratch: what the call `recover` answers and leaves. unnamed n: the number n, and no stripe is named
+--   recovery   recoverAnswer, recoverLeaves, recoverScratch: what the call `recover` answers and leaves. unnamed n: the number n, and no stripe is named.
+--              atFault n l: the number n, and stripe l is named. explainEarly: the number of the call `explain` by its tests 1 to 3. explainAnswer,
+--              explainCounts, explainOrigins, explainScratch: what it answers, and what it leaves in its buffers. countsSize, originsSize: how long the counts
+--              and the origins are, a pair for each stripe from 0 to k, and a pair for each record
 use mathlib.Core.Path.{_≡_}
 use mathlib.Core.Bool.{Bool, true, false}
 use mathlib.Core.Logic.{_⊎_, _↔_}
@@ -65,22 +74,26 @@ use Prim.Native.Nat.{ℕ, suc, _+_, _*_, _-_, _^_, _≤_, _<_}
 use lib.ListN.{length, getD, take, replicate}
 use Rattle.decoder.specs.Decoding.{survivors}
 use Rattle.layout.specs.declared.Header.{Header}
-use Rattle.layout.specs.Header.{headerOf, width, headerFits, rawSize, outSize, scratchSize, imageSize, isFull, isFilled, stripeAt, stripeSize, stripeOf}
+use Rattle.layout.specs.Header.{headerOf, width, headerFits, rawSize, outSize, scratchSize, imageSize, isFull, isFilled, firstOf}
+use Rattle.layout.specs.Header.{stripeAt, stripeSize, stripeOf}
+use Rattle.layout.specs.Records.{recordIn}
 use Rattle.store.specs.Buffers.{blocksOf}
 use Rattle.image.specs.Image.{wordAt, wordsOf}
 use Rattle.image.specs.Erasures.{erasuresIn, erasuresFit, marksOf}
 use Rattle.image.specs.Loading.{stripeIn}
-use Rattle.rows.specs.Decoding.{failed, decoded, areRecords}
+use Rattle.rows.specs.Decoding.{failed, decoded, areRecords, decodeRows}
 use Rattle.rows.specs.Promises as Rows
 use Rattle.rows.specs.Promises.{InField, OutOfField}
 use Rattle.stripe.specs.Decoding.{decodeStripe}
 use Rattle.stripe.specs.StripeCall.{decodeEarly, decodeNumber, decodeLeaves, decodeScratch}
-use Rattle.recovery.specs.RecoveryCall.{recoverAnswer, recoverLeaves, recoverScratch, unnamed}
+use Rattle.recovery.specs.RecoveryCall.{recoverAnswer, recoverLeaves, recoverScratch, unnamed, atFault}
+use Rattle.recovery.specs.Explaining.{countsSize, originsSize}
+use Rattle.recovery.specs.ExplainCall.{explainEarly, explainAnswer, explainCounts, explainOrigins, explainScratch}
 use Rattle.vault.specs.Event.{Opening, Event}
-use Rattle.vault.specs.Model.{writes, tableNumber, modelOf}
+use Rattle.vault.specs.Model.{Model, writes, tableNumber, modelOf, writtenAt, LastWrite, NoWrite}
 use Rattle.vault.specs.History.{numberOn, Opens, vaultAfter, headerAfter, imageAfter}
 use Rattle.vault.specs.Round.{putAll, rowsOf, modelIn, roundOf, levelEntries, represent}
-use Rattle.vault.specs.Boundary.{PartIs, NoneNamed}
+use Rattle.vault.specs.Boundary.{PartIs, NoneNamed, NoneExplained}
 use Rattle.vault.specs.Worked.{Holds, examples}
 
 -- 1. THE HEADER after any history has the opening's k and s, and its c is the model's count
@@ -211,10 +224,13 @@ LeavesZeros =
 abbrev pub Needed : Header → (stripe : ℕ) → Type 0
 Needed h l = (isFull h l ≡ true) ⊎ ((l < h .k) × (isFilled h l ≡ true))
 
--- the erasure list is well formed and leaves half of the positions of each needed stripe
+-- an erasure list leaves half of the positions of each needed stripe; and it is well formed, too
+pub record KeepsHalf (h : Header) (e : List ℕ) : Type 0 where
+  pub half : (l : ℕ) → Needed h l → 2 ^ l ≤ length (survivors l (marks h e l))
+
 pub record LeavesHalf (h : Header) (e : List ℕ) : Type 0 where
   pub wellFormed : erasuresFit h e ≡ true
-  pub half : (l : ℕ) → Needed h l → 2 ^ l ≤ length (survivors l (marks h e l))
+  pub keeps : KeepsHalf h e
 
 -- two images have the same words at the surviving positions of each needed stripe; their other bytes may be anything
 pub record SameWords (h : Header) (e one other : List ℕ) : Type 0 where
@@ -266,6 +282,104 @@ FullDecodes =
     LeavesHalf h e → SameWords h e (imageAfter o es) m →
     Gives h m e (h .k) (blocksOf h (roundOf o es .base))
 
+-- 5. EXPLAINING. For every header, image, erasure list and scratch, with the other buffers at their lengths: its number and its stripe are recovery's
+abbrev pub Agrees : Type 0
+Agrees =
+    (h : Header) (m e out counts origins scratch : List ℕ) →
+    length out ≡ rawSize h → length counts ≡ countsSize h → length origins ≡ originsSize h →
+    explainAnswer h m e counts origins scratch ≡ recoverAnswer h m e out scratch
+
+-- on inputs to which no number from 1 to 3 applies, whatever follows: the pair of a needed stripe is its surviving positions and what they lack of half; that
+-- of any other stripe is zeros
+abbrev pub CountsAre : Type 0
+CountsAre =
+    (h : Header) (m e counts origins scratch : List ℕ) → explainEarly h m e counts origins scratch ≡ 0 →
+    let xs = explainCounts h m e counts origins scratch in
+    (length xs ≡ countsSize h) ×
+    ((l : ℕ) → l ≤ h .k →
+    (Needed h l → (getD xs (2 * l) 0 ≡ length (survivors l (marks h e l))) × (getD xs (2 * l + 1) 0 ≡ 2 ^ l - length (survivors l (marks h e l)))) ×
+    ((Needed h l → ⊥) → (getD xs (2 * l) 0 ≡ 0) × (getD xs (2 * l + 1) 0 ≡ 0)))
+
+-- and the shortfall is sharp: with d positions more than are left, whichever they are and whatever words they have, the stripe is still too few if and only if
+-- d is below it
+abbrev pub CountsSharp : Type 0
+CountsSharp =
+    (h : Header) (m e counts origins scratch : List ℕ) (l d : ℕ) (ms : List Bool) (r : List ℕ) → explainEarly h m e counts origins scratch ≡ 0 →
+    let xs = explainCounts h m e counts origins scratch in
+    Needed h l → length (survivors l ms) ≡ getD xs (2 * l) 0 + d →
+    (decodeRows (stripeOf h l) ms r ≡ failed 7) ↔ (d < getD xs (2 * l + 1) 0)
+
+-- it always leaves a scratch of zeros, and with a number from 7 to 10 origins of zeros; with 1 to 3 it leaves every buffer
+abbrev pub ExplainLeaves : Type 0
+ExplainLeaves =
+    (h : Header) (m e counts origins scratch : List ℕ) →
+    (explainEarly h m e counts origins scratch ≡ 0 →
+    (explainScratch h m e counts origins scratch ≡ replicate (scratchSize h) 0) ×
+    ((explainAnswer h m e counts origins scratch .number ≡ 0 → ⊥) → explainOrigins h m e counts origins scratch ≡ replicate (originsSize h) 0)) ×
+    ((explainEarly h m e counts origins scratch ≡ 0 → ⊥) →
+    (explainCounts h m e counts origins scratch ≡ counts) × (explainOrigins h m e counts origins scratch ≡ origins) ×
+    (explainScratch h m e counts origins scratch ≡ scratch))
+
+-- stripe l is the first in the order of decoding, k and then the levels down, that does not keep half
+pub record FirstShort (h : Header) (e : List ℕ) (l : ℕ) : Type 0 where
+  pub needed : Needed h l
+  pub short : length (survivors l (marks h e l)) < 2 ^ l
+  pub earlier : (j : ℕ) → Needed h j → l < j → 2 ^ j ≤ length (survivors j (marks h e j))
+
+-- what a history's image is explained from: any well-formed erasure list, one that leaves too little as well; any image with the words that survive; and
+-- buffers of their lengths
+pub record Explained (o : Opening) (es : List Event) (m e counts origins scratch : List ℕ) : Type 0 where
+  pub opens : Opens o
+  pub wellFormed : erasuresFit (headerAfter o es) e ≡ true
+  pub image : length m ≡ imageSize (headerAfter o es)
+  pub same : SameWords (headerAfter o es) e (imageAfter o es) m
+  pub counted : length counts ≡ countsSize (headerAfter o es)
+  pub named : length origins ≡ originsSize (headerAfter o es)
+  pub room : length scratch ≡ scratchSize (headerAfter o es)
+
+-- the number is 0, and no stripe is named, if every needed stripe keeps half; else it is 7, with the first that does not
+abbrev pub ExplainsWhy : Type 0
+ExplainsWhy =
+    (o : Opening) (es : List Event) (m e counts origins scratch : List ℕ) → Explained o es m e counts origins scratch →
+    let h = headerAfter o es in
+    let a = explainAnswer h m e counts origins scratch in
+    (KeepsHalf h e × (a ≡ unnamed 0)) ⊎ ((l : ℕ) × FirstShort h e l × (a ≡ atFault 7 l))
+
+-- level l is filled and holds write t of the round
+pub record HoldsWrite (h : Header) (l t : ℕ) : Type 0 where
+  pub level : l < h .k
+  pub filled : isFilled h l ≡ true
+  pub starts : firstOf h l ≤ t
+  pub ends : t < firstOf h l + 2 ^ l
+
+-- the origin of record i: the last write of the round to it, with the level that holds it; k and 0, for the full stripe, where the round has none
+abbrev pub Origin : Header → Model → (number stripe write : ℕ) → Type 0
+Origin h x i l t = (LastWrite x i t × HoldsWrite h l t) ⊎ (NoWrite x i × (l ≡ h .k) × (t ≡ 0))
+
+-- where every needed stripe keeps half, the pair of each record is its origin, by the model's writes
+abbrev pub OriginsTrue : Type 0
+OriginsTrue =
+    (o : Opening) (es : List Event) (m e counts origins scratch : List ℕ) → Explained o es m e counts origins scratch →
+    let h = headerAfter o es in
+    let xs = explainOrigins h m e counts origins scratch in
+    KeepsHalf h e → (length xs ≡ originsSize h) × ((i : ℕ) → i < 2 ^ h .k → Origin h (modelOf o es) i (getD xs (2 * i) 0) (getD xs (2 * i + 1) 0))
+
+-- and no record has two
+abbrev pub OneOrigin : Type 0
+OneOrigin =
+    (h : Header) (x : Model) (i l t l′ t′ : ℕ) → Origin h x i l t → Origin h x i l′ t′ → (l ≡ l′) × (t ≡ t′)
+
+-- what the origin holds is the record as last written: the block of the last write, or the record of the round's start where the round has none
+abbrev pub LastIsRecord : Type 0
+LastIsRecord =
+    (o : Opening) (es : List Event) (i t : ℕ) → Opens o → LastWrite (modelOf o es) i t →
+    recordIn (o .s) (modelOf o es .records) i ≡ writtenAt (modelOf o es) t .block
+
+abbrev pub ElseAtStart : Type 0
+ElseAtStart =
+    (o : Opening) (es : List Event) (i : ℕ) → Opens o → NoWrite (modelOf o es) i →
+    recordIn (o .s) (modelOf o es .records) i ≡ recordIn (o .s) (roundOf o es .base) i
+
 -- ALL OF THEM; the last are those of the C boundary (specs/Boundary), and the worked examples (specs/Worked)
 pub record Promises : Type 0 where
   pub header-is : HeaderIs
@@ -293,6 +407,16 @@ pub record Promises : Type 0 where
   pub no-other : NoOther
   pub levels-decode : LevelsDecode
   pub full-decodes : FullDecodes
+  pub agrees : Agrees
+  pub counts-are : CountsAre
+  pub counts-sharp : CountsSharp
+  pub explain-leaves : ExplainLeaves
+  pub explains-why : ExplainsWhy
+  pub origins-true : OriginsTrue
+  pub one-origin : OneOrigin
+  pub last-is-record : LastIsRecord
+  pub else-at-start : ElseAtStart
   pub part-is : PartIs
   pub none-named : NoneNamed
+  pub none-explained : NoneExplained
   pub worked : Holds examples

@@ -10,12 +10,8 @@ use Rattle.layout.specs.declared.Header.{Header}
 use Rattle.layout.specs.Header.{headerOf, primeOf, vaultRoot, width, isFilled, firstOf, stripeSize}
 use Rattle.layout.specs.Records.{replaced}
 use Rattle.store.specs.Buffers.{fullStripe, Buffers, buffers}
-use Rattle.vault.specs.Event.{Opening, Event, write}
+use Rattle.vault.specs.Event.{Opening, Entry, Event, write}
 use Rattle.vault.specs.Model.{Model, tableNumber}
-
-pub record Entry : Type 0 where
-  pub number : ℕ
-  pub block : List ℕ
 
 pub record Round : Type 0 where
   pub k : ℕ
@@ -43,7 +39,7 @@ abbrev pub recordsIn : Round → List ℕ
 recordsIn a = putAll (a .s) (a .base) (a .since)
 
 abbrev pub modelIn : Round → Model
-modelIn a = record { k = a .k; s = a .s; records = recordsIn a; before = beforeEach (a .s) (a .base) (a .since) }
+modelIn a = record { k = a .k; s = a .s; records = recordsIn a; written = a .since; before = beforeEach (a .s) (a .base) (a .since) }
 
 -- WHAT AN EVENT DOES to a round. A write is entered; the n-th one ends the round, and its records start the next
 abbrev pub startOf : (k s : ℕ) → (raw : List ℕ) → Round

@@ -13,6 +13,7 @@ use Rattle.layout.specs.Header.{headerOf, firstOf}
 use Rattle.image.specs.Image.{little, imageOf}
 use Rattle.stripe.specs.StripeCall.{decodeNumber, decodeLeaves, decodeScratch}
 use Rattle.recovery.specs.RecoveryCall.{recoverAnswer, recoverLeaves}
+use Rattle.recovery.specs.ExplainCall.{explainAnswer, explainCounts, explainOrigins}
 use Rattle.vault.specs.Event.{Opening, Event, write}
 use Rattle.vault.specs.Model.{modelOf}
 use Rattle.vault.specs.History.{Vault, imageLeft, numberOn, after, openedVault}
@@ -72,13 +73,23 @@ decoding m e =
 abbrev pub taken : (erasures : List ℕ) → List ℕ
 taken e = recoverAnswer (opening .header) (imageLeft opening) e (zeros 4) (zeros 24) .number ∷ []
 
+-- explaining, from lent buffers of ones: its number, whether it names a stripe, and which; then the counts, and the origins
+abbrev pub explaining : Vault → (erasures : List ℕ) → List ℕ
+explaining v e =
+    let h = v .header in
+    let n : List ℕ = replicate 6 1 in
+    let o : List ℕ = replicate 8 1 in
+    let s : List ℕ = replicate 24 1 in
+    named (explainAnswer h (imageLeft v) e n o s) ++ (explainCounts h (imageLeft v) e n o s ++ explainOrigins h (imageLeft v) e n o s)
+
 -- the model's records after some writes to zero records, and those before the last write and before the one before it
 abbrev pub goingBack : List Event → List ℕ
 goingBack es =
     let m = modelOf zeroRecords es in
     m .records ++ (getD (m .before) 0 [] ++ getD (m .before) 1 [])
 
--- P1 to P12 in order; P7, P8, P9 and P12 have two entries each. The last two have no number: the model goes back, and a round's end is as far as it goes
+-- P1 to P12 in order; P7, P8, P9 and P12 have two entries each. The last four have no number: the model goes back, and a round's end is as far as it goes; and
+-- explaining says where each record is, and how many positions a stripe lacks
 abbrev pub examples : Table
 examples =
     entry (coded 65537 root4 2 1 0 (1 ∷ 2 ∷ [])) (3 ∷ 65536 ∷ 65026 ∷ 513 ∷ [])
@@ -99,4 +110,7 @@ examples =
     (entry (numberOn opening (write 0 (65536 ∷ [])) ∷ []) (5 ∷ [])
     (entry (goingBack (write 0 (1 ∷ []) ∷ write 0 (2 ∷ []) ∷ [])) (2 ∷ 0 ∷ 0 ∷ 0 ∷ 1 ∷ 0 ∷ 0 ∷ 0 ∷ 0 ∷ 0 ∷ 0 ∷ 0 ∷ [])
     (entry (goingBack (write 0 (1 ∷ []) ∷ write 1 (2 ∷ []) ∷ write 2 (3 ∷ []) ∷ write 3 (4 ∷ []) ∷ [])) (1 ∷ 2 ∷ 3 ∷ 4 ∷ [])
-    end)))))))))))))))))
+    (entry (explaining (after opening (write 0 (1 ∷ []) ∷ write 0 (2 ∷ []) ∷ [])) [])
+    (0 ∷ 0 ∷ 0 ∷ 0 ∷ 0 ∷ 4 ∷ 0 ∷ 8 ∷ 0 ∷ 1 ∷ 1 ∷ 2 ∷ 0 ∷ 2 ∷ 0 ∷ 2 ∷ 0 ∷ [])
+    (entry (explaining opening (pair 0 33)) (7 ∷ 1 ∷ 2 ∷ 0 ∷ 0 ∷ 0 ∷ 0 ∷ 3 ∷ 1 ∷ zeros 8)
+    end)))))))))))))))))))
