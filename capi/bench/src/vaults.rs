@@ -83,7 +83,7 @@ impl Job {
         }
     }
 
-    /// Tests that explaining counts half of each stripe, and names the last write to each record, which is at this place among those of the image.
+    /// Tests that explaining counts half of each stripe, and names for each record the last write to it in the round, if there is one.
     pub fn check_explained(&self) {
         let mut vault = Vault::new(self);
         vault.explain(self);
