@@ -142,8 +142,8 @@ uint32_t vault_recover(uint32_t k, uint32_t s, uint32_t c,
  * Explaining a recovery: how many positions each needed shelf has left and how many more would do, and where each record comes from. Needed are the full
  * shelf and the filled levels. A position is lost if a gap touches one of its bytes, and left otherwise, also where its words are stray.
  *
- * Shelf j, 0 to k, has the words counts[2j], the positions left, and counts[2j + 1], the shortfall: as many more as would make them half of the shelf's, 0 if
- * they are. Both are 0 if the shelf is not needed.
+ * Shelf j, 0 to k, has the words counts[2j], the positions left, and counts[2j + 1], the shortfall: how many more would be half of its positions, 0 if half or
+ * more are left. Both are 0 if the shelf is not needed.
  * Record i has the words origins[2i], the level that holds the last write to it in the round, and origins[2i + 1], the number of that write in the round, from
  * 0. They are k and 0 if the round has no write to it: then it comes from the full shelf.
  *
