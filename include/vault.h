@@ -42,7 +42,7 @@ enum vault_number {
     VAULT_NO_SHEET = 10  /* no sheet: the one list that does holds no records */
 };
 
-/* What vault_recover leaves in *shelf where it names none. */
+/* What vault_recover and vault_explain leave in *shelf where they name none. */
 #define VAULT_NO_SHELF UINT32_C(0xffffffff)
 
 /* The sizes of the buffers, for k from 1 to 10 and s from 1 to 128; constants if k and s are. */
@@ -52,6 +52,8 @@ enum vault_number {
 #define VAULT_LOG_WORDS(k, s) ((2 * VAULT_RECORDS(k) - 2) * ((size_t)(s) + 1))       /* (2n - 2)(s + 1) */
 #define VAULT_OUT_WORDS(k, s) (VAULT_RECORDS(k) * ((size_t)(s) + 1))                 /* n(s + 1) */
 #define VAULT_SCRATCH_WORDS(k, s) (VAULT_RECORDS(k) * ((size_t)(s) + 5))             /* n(s + 1) + 4n */
+#define VAULT_COUNTS_WORDS(k) (2 * ((size_t)(k) + 1))                                /* 2(k + 1) */
+#define VAULT_ORIGINS_WORDS(k) (2 * VAULT_RECORDS(k))                                /* 2n */
 #define VAULT_IMAGE_BYTES(k, s) (4 * ((size_t)(s) + 1) * (4 * VAULT_RECORDS(k) - 2)) /* 4(s + 1)(4n - 2) */
 
 /*
@@ -133,6 +135,31 @@ uint32_t vault_recover(uint32_t k, uint32_t s, uint32_t c,
                        const uint8_t *image, size_t image_len,
                        const uint8_t *gaps, size_t gaps_len,
                        uint32_t *out, size_t out_len,
+                       uint32_t *scratch, size_t scratch_len,
+                       uint32_t *shelf);
+
+/*
+ * Explaining a recovery: how many positions each needed shelf has left and how many more would do, and where each record comes from. Needed are the full
+ * shelf and the filled levels. A position is lost if a gap touches one of its bytes, and left otherwise, also where its words are stray.
+ *
+ * Shelf j, 0 to k, has the words counts[2j], the positions left, and counts[2j + 1], the shortfall: how many more would be half of its positions, 0 if half or
+ * more are left. Both are 0 if the shelf is not needed.
+ * Record i has the words origins[2i], the level that holds the last write to it in the round, and origins[2i + 1], the number of that write in the round, from
+ * 0. They are k and 0 if the round has no write to it: then it comes from the full shelf.
+ *
+ * Lengths: image VAULT_IMAGE_BYTES, counts VAULT_COUNTS_WORDS, origins VAULT_ORIGINS_WORDS, scratch VAULT_SCRATCH_WORDS; gaps of any length (3 if it is not
+ * whole pairs).
+ * Tests: 1 (k, s and c), 2 (image, counts, origins, scratch), 3, then 7, 8, 9, 10 on each shelf in recovery's order. The number and *shelf are those that
+ * vault_recover gives, for every image and every gap list.
+ * After 0: counts and origins hold the answer, scratch zeros.
+ * After 1 to 3: counts, origins and scratch are as they were.
+ * After 7 to 10: counts holds the counts of all needed shelves, those behind the one at fault too; origins and scratch are zeros.
+ */
+uint32_t vault_explain(uint32_t k, uint32_t s, uint32_t c,
+                       const uint8_t *image, size_t image_len,
+                       const uint8_t *gaps, size_t gaps_len,
+                       uint32_t *counts, size_t counts_len,
+                       uint32_t *origins, size_t origins_len,
                        uint32_t *scratch, size_t scratch_len,
                        uint32_t *shelf);
 

@@ -56,6 +56,16 @@ impl Header {
         self.blocks_len() + 4 * self.records()
     }
 
+    /// A pair for each stripe.
+    pub fn counts_len(self) -> usize {
+        2 * (self.k as usize + 1)
+    }
+
+    /// A pair for each record.
+    pub fn origins_len(self) -> usize {
+        2 * self.records()
+    }
+
     /// The word of the log at which a level begins.
     pub fn level_start(self, level: u32) -> usize {
         ((2 << level) - 2) * self.width()

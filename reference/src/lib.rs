@@ -3,6 +3,7 @@
 pub mod cases;
 pub mod decode;
 pub mod erasures;
+pub mod explanation;
 pub mod field;
 pub mod header;
 pub mod image;

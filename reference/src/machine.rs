@@ -1,14 +1,16 @@
 //! Runs commands over the calls of the vault, and keeps what the program `test_cases` has to print.
 //!
 //! Output: for each call a line with its name, its number and what else it answers, then a line for each buffer that was lent to it to be changed: its
-//! name and its words; of more than 16 words, and of bytes, `#`, their count and a checksum. A listing's text of at most 256 bytes is printed as it is.
+//! name and its words; of more than 16 words, and of bytes, `#`, their count and a checksum. Counts and origins are printed in full, and so is a listing's text
+//! of at most 256 bytes.
+use crate::explanation::explain;
 use crate::header::Header;
 use crate::image::image;
 use crate::listing::list;
 use crate::opening::open;
 use crate::reading::read;
 use crate::recovery::{decode_stripe, recover};
-use crate::script::{Bytes, Command, Number, Words, BYTES, WORDS};
+use crate::script::{Bytes, Command, Number, Words, BYTES, COUNTS, WORDS};
 use crate::writing::write;
 use std::fmt::Write;
 
@@ -89,8 +91,12 @@ impl Machine {
     fn show(&mut self, name: &str, words: &[u32]) {
         if words.len() > 16 {
             self.show_sum(name, words);
-            return;
+        } else {
+            self.show_all(name, words);
         }
+    }
+
+    fn show_all(&mut self, name: &str, words: &[u32]) {
         write!(self.printed, " {name}").unwrap();
         for x in words {
             write!(self.printed, " {x}").unwrap();
@@ -112,6 +118,15 @@ impl Machine {
     fn call(&mut self, name: &str, number: u32) {
         write!(self.printed, "{name} {number}").unwrap();
         self.answered = number;
+    }
+
+    /// The same, and the stripe where one is named.
+    fn call_at(&mut self, name: &str, (number, named): (u32, Option<u32>)) {
+        self.call(name, number);
+        if let Some(stripe) = named {
+            write!(self.printed, " {stripe}").unwrap();
+        }
+        self.printed.push('\n');
     }
 
     fn answer(&mut self, name: &str, answer: (u32, Header)) {
@@ -144,6 +159,7 @@ impl Machine {
             Command::Decode(stripe) => self.decode(stripe),
             Command::Recover => self.recover(),
             Command::List => self.list(),
+            Command::Explain(lent) => self.explain(lent),
         }
     }
 
@@ -217,13 +233,28 @@ impl Machine {
     fn recover(&mut self) {
         let (mut out, mut scratch) = (self.words(Words::Out), self.words(Words::Scratch));
         let (image, list) = (self.bytes(Bytes::Image), self.bytes(Bytes::List));
-        let (number, named) = recover(self.header(), &image, &list, &mut out, &mut scratch);
-        self.call("recover", number);
-        if let Some(stripe) = named {
-            write!(self.printed, " {stripe}").unwrap();
-        }
-        self.printed.push('\n');
+        let answer = recover(self.header(), &image, &list, &mut out, &mut scratch);
+        self.call_at("recover", answer);
         self.left(Words::Out, "out", &out);
+        self.left(Words::Scratch, "scratch", &scratch);
+    }
+
+    fn explain(&mut self, lent: u32) {
+        let mut counts = COUNTS[..lent as usize].to_vec();
+        let (mut origins, mut scratch) = (self.words(Words::Out), self.words(Words::Scratch));
+        let (image, list) = (self.bytes(Bytes::Image), self.bytes(Bytes::List));
+        let answer = explain(
+            self.header(),
+            &image,
+            &list,
+            &mut counts,
+            &mut origins,
+            &mut scratch,
+        );
+        self.call_at("explain", answer);
+        self.show_all("counts", &counts);
+        self.keep_words(Words::Out, &origins);
+        self.show_all("origins", &origins);
         self.left(Words::Scratch, "scratch", &scratch);
     }
 

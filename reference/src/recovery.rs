@@ -87,7 +87,8 @@ fn recovery_tests(
     image_tests(header, image, list, scratch)
 }
 
-fn image_tests(
+/// The tests that all calls on images make, after that of the header.
+pub(crate) fn image_tests(
     header: Header,
     image: &[u8],
     list: &[u8],
@@ -99,7 +100,12 @@ fn image_tests(
 }
 
 /// The blocks of a stripe in order of time; tests 7 to 10.
-fn blocks(header: Header, image: &[u8], gaps: &[Gap], stripe: u32) -> Result<Vec<u64>, Refusal> {
+pub(crate) fn blocks(
+    header: Header,
+    image: &[u8],
+    gaps: &[Gap],
+    stripe: u32,
+) -> Result<Vec<u64>, Refusal> {
     let width = header.width();
     let words = words(image, header.stripe_start(stripe), (2 << stripe) * width);
     let erased = erased(header, stripe, gaps);

@@ -3,7 +3,7 @@
 //! Input: the count of commands in 4 bytes, then the commands. A command is a byte for its kind and three numbers of 4 bytes, of which those
 //! that it does not use are 0; `Load` is followed by bytes. Numbers have the low byte first.
 
-/// Buffers of words, by number.
+/// Buffers of words, by number. An explanation puts its origins into `Out`.
 #[derive(Clone, Copy)]
 pub enum Words {
     Raw,
@@ -24,6 +24,9 @@ pub enum Bytes {
 /// How many words a buffer of words has, and how many bytes a buffer of bytes.
 pub const WORDS: [usize; 6] = [4096, 8192, 8192, 256, 4096, 8192];
 pub const BYTES: [usize; 2] = [65536, 16384];
+
+/// The words that an explanation can be lent for its counts, as each finds them: what no count is.
+pub const COUNTS: [u32; 32] = [99999; 32];
 
 /// What a `Set` sets.
 #[derive(Clone, Copy)]
@@ -74,6 +77,8 @@ pub enum Command {
     Decode(u32),
     Recover,
     List,
+    /// So many of `COUNTS` are lent.
+    Explain(u32),
 }
 
 impl Command {
@@ -95,6 +100,7 @@ impl Command {
             Command::Decode(stripe) => (9, [stripe, 0, 0]),
             Command::Recover => (10, [0; 3]),
             Command::List => (11, [0; 3]),
+            Command::Explain(lent) => (12, [lent, 0, 0]),
         };
         let mut bytes = vec![kind];
         bytes.extend(numbers.iter().flat_map(|n| n.to_le_bytes()));

@@ -1,5 +1,7 @@
-//! Recovery after any history gives the records of the model (docs/FORMAT.md), whatever half of each stripe is lost.
+//! Recovery after any history gives the records of the model (docs/FORMAT.md), whatever half of each stripe is lost; and the explanation is the true one,
+//! whatever is lost.
 use random::Random;
+use reference::explanation::explain;
 use reference::header::Header;
 use reference::image::image;
 use reference::opening::open;
@@ -7,18 +9,12 @@ use reference::reading::read;
 use reference::recovery::recover;
 use reference::writing::write;
 
-/// Loses half of the positions of the full stripe and of each filled level, and all of each empty level: garbage in the image, and the list.
-fn lose(random: &mut Random, header: Header, image: &mut [u8]) -> Vec<u8> {
+/// Loses so many positions of each stripe: garbage in the image, and the list.
+fn lose(random: &mut Random, header: Header, image: &mut [u8], counts: &[usize]) -> Vec<u8> {
     let bytes = 4 * header.width();
     let mut lost = vec![false; image.len()];
-    for stripe in 0..=header.k {
-        let size = 1 << stripe;
-        let count = if header.filled(stripe) {
-            size
-        } else {
-            2 * size
-        };
-        for i in random.some(2 * size, count) {
+    for (stripe, &count) in (0..).zip(counts) {
+        for i in random.some(2 << stripe, count) {
             let start = 4 * header.stripe_start(stripe) + i * bytes;
             lost[start..start + bytes].fill(true);
         }
@@ -38,7 +34,83 @@ fn lose(random: &mut Random, header: Header, image: &mut [u8]) -> Vec<u8> {
     list
 }
 
-/// Opens, writes, and recovers after each `every`th write.
+/// Half of the positions of the full stripe and of each filled level, and all of each empty level.
+fn half(header: Header) -> Vec<usize> {
+    let count = |stripe| match header.filled(stripe) {
+        true => 1 << stripe,
+        false => 2 << stripe,
+    };
+    (0..=header.k).map(count).collect()
+}
+
+/// Any number of positions of each stripe.
+fn some(random: &mut Random, header: Header) -> Vec<usize> {
+    let count = |stripe: u32| {
+        let half = 1 << stripe;
+        let most = *random.one(&[half, half + 1, 2 * half]);
+        random.index(most + 1)
+    };
+    (0..=header.k).map(count).collect()
+}
+
+/// What an explanation has to give after a loss: the number, the stripe, the counts, and the origins of records whose last writes in the round are these.
+fn expected(
+    header: Header,
+    lost: &[usize],
+    last: &[Option<u32>],
+) -> (u32, Option<u32>, Vec<u32>, Vec<u32>) {
+    let mut counts = Vec::new();
+    let mut short = None;
+    for (stripe, lost) in (0..).zip(lost) {
+        let (left, half) = ((2 << stripe) - lost, 1 << stripe);
+        if !header.filled(stripe) {
+            counts.extend([0, 0]);
+        } else if left < half {
+            counts.extend([left as u32, (half - left) as u32]);
+            // The highest of them is decoded first.
+            short = Some(stripe);
+        } else {
+            counts.extend([left as u32, 0]);
+        }
+    }
+    let origin = |write: &Option<u32>| match (short, write) {
+        (Some(_), _) => [0, 0],
+        (None, None) => [header.k, 0],
+        // Write t is on the level of the highest bit in which t and c differ.
+        (None, Some(t)) => [31 - (t ^ header.c).leading_zeros(), *t],
+    };
+    let origins = last.iter().flat_map(origin).collect();
+    let number = if short.is_some() { 7 } else { 0 };
+    (number, short, counts, origins)
+}
+
+/// Loses so many positions of each stripe, and explains.
+fn explanation_is_true(
+    random: &mut Random,
+    header: Header,
+    image: &[u8],
+    lost: &[usize],
+    last: &[Option<u32>],
+) {
+    let mut bytes = image.to_vec();
+    let list = lose(random, header, &mut bytes, lost);
+    let mut counts = vec![9; header.counts_len()];
+    let mut origins = vec![9; header.origins_len()];
+    let mut scratch = vec![9; header.scratch_len()];
+    let (number, stripe) = explain(
+        header,
+        &bytes,
+        &list,
+        &mut counts,
+        &mut origins,
+        &mut scratch,
+    );
+    let given = (number, stripe, counts, origins);
+    assert_eq!(given, expected(header, lost, last));
+    assert!(scratch.iter().all(|&x| x == 0));
+}
+
+/// Opens, writes, and recovers and explains after each `every`th write.
 fn run(random: &mut Random, k: u32, s: u32, writes: usize, every: usize) {
     let mut header = Header { k, s, c: 0 };
     let data = |random: &mut Random, count: usize| -> Vec<u32> {
@@ -46,13 +118,17 @@ fn run(random: &mut Random, k: u32, s: u32, writes: usize, every: usize) {
     };
     let mut raw = data(random, header.raw_len());
     let mut book = raw.clone();
+    let mut last = vec![None; header.records()];
     let (mut full, mut log) = (vec![9; header.full_len()], vec![9; header.log_len()]);
     assert_eq!(open(k, s, &raw, &mut full, &mut log), (0, header));
     for i in 0..=writes {
         if i % every == 0 {
             let mut bytes = vec![9; header.image_len()];
             assert_eq!(image(header, &full, &log, &mut bytes), 0);
-            let list = lose(random, header, &mut bytes);
+            let lost = some(random, header);
+            explanation_is_true(random, header, &bytes, &lost, &last);
+            explanation_is_true(random, header, &bytes, &half(header), &last);
+            let list = lose(random, header, &mut bytes, &half(header));
             let mut out = data(random, header.raw_len());
             let mut scratch = data(random, header.scratch_len());
             let answer = recover(header, &bytes, &list, &mut out, &mut scratch);
@@ -64,9 +140,13 @@ fn run(random: &mut Random, k: u32, s: u32, writes: usize, every: usize) {
         let answer = write(header, &mut raw, &mut full, &mut log, record, &block);
         let start = record as usize * header.data();
         book[start..start + header.data()].copy_from_slice(&block);
+        last[record as usize] = Some(header.c);
         let c = (header.c + 1) % (1 << k);
         assert_eq!(answer, (0, Header { c, ..header }));
         header = answer.1;
+        if c == 0 {
+            last.fill(None);
+        }
         assert_eq!(read(header, &raw, record), (0, &block[..]));
     }
 }

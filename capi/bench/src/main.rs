@@ -14,6 +14,8 @@ use vaults::{By, Job, Vault};
 
 const SIZES: [(u32, u32); 4] = [(10, 128), (10, 3), (6, 3), (10, 1)];
 const OPERATIONS: [&str; 3] = ["opening", "write", "recovery"];
+/// The sizes at which explaining is timed beside recovery.
+const EXPLAINED: [(u32, u32); 2] = [(10, 128), (10, 3)];
 
 /// The times of one size: for each operation the library's and plain Rust's, and the reference's; and that of a copy of the image.
 struct Row {
@@ -99,14 +101,19 @@ fn machine() -> String {
     format!("{}, {cores} cores", name.unwrap_or("unknown processor"))
 }
 
+/// The ratio of two times, of their medians and of their best.
+fn ratio(one: Time, other: Time) -> String {
+    format!(
+        "{:.2} ({:.2})",
+        one.median / other.median,
+        one.best / other.best
+    )
+}
+
 fn print_row(job: &Job, row: &Row) {
     for (i, name) in OPERATIONS.iter().enumerate() {
         let (library, plain) = (row.library[i], row.plain[i]);
-        let ratio = format!(
-            "{:.2} ({:.2})",
-            library.median / plain.median,
-            library.best / plain.best
-        );
+        let ratio = ratio(library, plain);
         let slower = row.reference[i] / library.median;
         // A write is far less than the image.
         let copies = match i {
@@ -147,6 +154,34 @@ fn print_sizes(effort: Effort) -> Row {
         );
     }
     rows.swap_remove(0)
+}
+
+/// The table of explaining and recovery from the same image; gives their ratio at each size.
+fn print_explaining(effort: Effort) -> [f64; EXPLAINED.len()] {
+    println!(
+        "{:>4}{:>5}{:>20}{:>20}{:>22}",
+        "k", "s", "explaining", "recovery", "explaining/recovery"
+    );
+    EXPLAINED.map(|(k, s)| {
+        let job = Job::new(k, s);
+        job.check_explained();
+        let mut explaining = Vault::new(&job);
+        let mut recovering = Vault::new(&job);
+        let times = interleaved(
+            effort,
+            vec![
+                Box::new(|| explaining.explain(&job)),
+                Box::new(|| recovering.recover(By::Library, &job)),
+            ],
+        );
+        println!(
+            "{k:>4}{s:>5}{:>20}{:>20}{:>22}",
+            both(times[0]),
+            both(times[1]),
+            ratio(times[0], times[1])
+        );
+        times[0].median / times[1].median
+    })
 }
 
 /// Times of an operation at each k, and its growth from the k before.
@@ -218,17 +253,19 @@ fn print_par2(row: &Row) {
     }
 }
 
-fn print_targets(row: &Row, growth: f64) {
+fn print_targets(row: &Row, explaining: [f64; EXPLAINED.len()], growth: f64) {
     let ratio = |i: usize| row.library[i].median / row.plain[i].median;
     let recovery = row.library[2].median / row.library[0].median;
     for (what, is, most) in [
         ("opening / plain Rust", ratio(0), 1.3),
         ("recovery / plain Rust", ratio(2), 1.3),
         ("recovery / opening", recovery, 8.0),
+        ("explaining / recovery", explaining[0], 1.15),
+        ("explaining / recovery at s = 3", explaining[1], 1.15),
         ("opening at k = 10 / at k = 9", growth, 2.6),
     ] {
         let verdict = if is <= most { "met" } else { "MISSED" };
-        println!("  {what:<30}{is:>6.2}, at most {most}: {verdict}");
+        println!("  {what:<32}{is:>6.2}, at most {most}: {verdict}");
     }
 }
 
@@ -249,11 +286,13 @@ fn main() -> ExitCode {
     println!("processor's time, median (best) of runs in turn; a write is the mean over a round; recovery at c = n - 1, half of every stripe lost at");
     println!("random; reference/ runs once\n");
     let row = print_sizes(effort);
+    println!("\nexplaining beside recovery, both by the library, from the same image with the same positions lost\n");
+    let explaining = print_explaining(effort);
     println!("\nthe library's growth with k, and its ratio to the size before (n log n: 2.22 from k = 9 to 10)\n");
     let growth = print_growth(effort);
     println!();
     print_par2(&row);
     println!("\ntargets at k = 10, s = 128");
-    print_targets(&row, growth);
+    print_targets(&row, explaining, growth);
     ExitCode::SUCCESS
 }

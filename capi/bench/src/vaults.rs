@@ -1,4 +1,4 @@
-//! The same vault in three implementations, and the jobs that are timed: opening, a round of writes, recovery.
+//! The same vault in three implementations, and the jobs that are timed: opening, a round of writes, recovery; and explaining, by the library alone.
 use crate::plain;
 use random::Random;
 use reference::{opening, recovery, writing};
@@ -82,6 +82,21 @@ impl Job {
             assert!(library == reference, "recovered records differ");
         }
     }
+
+    /// Tests that explaining counts half of each stripe, and names for each record the last write to it in the round, if there is one.
+    pub fn check_explained(&self) {
+        let mut vault = Vault::new(self);
+        vault.explain(self);
+        let halves = vault.counts.chunks(2).zip(0..);
+        let mut halves = halves.map(|(count, stripe)| count == [1 << stripe, 0]);
+        assert!(halves.all(|half| half), "counts are wrong");
+        let written = &self.writes[1..];
+        for (record, origin) in (0..).zip(vault.origins.chunks(2)) {
+            let last = written.iter().rposition(|write| write.0 == record);
+            let named = (origin[0] < self.k).then_some(origin[1] as usize);
+            assert!(named == last, "an origin is wrong");
+        }
+    }
 }
 
 /// An erasure list over exactly half of each stripe.
@@ -103,6 +118,8 @@ pub struct Vault {
     full: Vec<u32>,
     log: Vec<u32>,
     records: Vec<u32>,
+    counts: Vec<u32>,
+    origins: Vec<u32>,
     scratch: Vec<u32>,
 }
 
@@ -115,6 +132,8 @@ impl Vault {
             full: vec![0; sizes::full(k, s)],
             log: vec![0; sizes::log(k, s)],
             records: vec![0; sizes::raw(k, s)],
+            counts: vec![0; sizes::counts(k, s)],
+            origins: vec![0; sizes::origins(k, s)],
             scratch: vec![0; sizes::scratch(k, s)],
         }
     }
@@ -180,5 +199,15 @@ impl Vault {
             }
         };
         assert!(taken);
+    }
+    /// Explains the recovery from the job's image, by the library.
+    pub fn explain(&mut self, job: &Job) {
+        let Header { k, s, .. } = self.header;
+        let c = (1 << k) - 1;
+        let (image, erasures) = (&job.image, &job.erasures);
+        let (counts, origins) = (&mut self.counts, &mut self.origins);
+        let scratch = &mut self.scratch;
+        let header = Header { k, s, c };
+        assert!(calls::explain(header, image, erasures, counts, origins, scratch).is_ok());
     }
 }

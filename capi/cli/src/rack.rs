@@ -1,10 +1,10 @@
-//! What several commands read or print: the header's numbers, images, gap lists, shelves, and lines of words.
+//! What several commands read or print: the header's numbers, images, gap lists, shelves, verdicts, and lines of words.
 use crate::arguments::{number, usage, Arguments};
 use crate::failure::Failure;
 use crate::files;
 use std::ffi::{OsStr, OsString};
 use std::fmt::{Display, Write};
-use vault_library::{sizes, Header};
+use vault_library::{sizes, Fault, Header};
 
 /// The arguments K, S and C.
 pub fn header(arguments: &mut Arguments) -> Result<Header, Failure> {
@@ -12,6 +12,26 @@ pub fn header(arguments: &mut Arguments) -> Result<Header, Failure> {
         k: arguments.number("K")?,
         s: arguments.number("S")?,
         c: arguments.number("C")?,
+    })
+}
+
+/// What a rack's records are to come back from.
+pub struct Given {
+    pub header: Header,
+    pub image: Vec<u8>,
+    pub gaps: Vec<u8>,
+}
+
+/// The arguments K, S, C, IMAGE and, if it is there, GAPS, and no more.
+pub fn given(mut arguments: Arguments) -> Result<Given, Failure> {
+    let header = header(&mut arguments)?;
+    let path = arguments.needed("IMAGE")?;
+    let list = arguments.next();
+    arguments.end()?;
+    Ok(Given {
+        header,
+        image: image(header, &path)?,
+        gaps: gaps(header, list)?,
     })
 }
 
@@ -51,6 +71,18 @@ pub fn shelf_name(k: u32, stripe: u32) -> String {
     } else {
         stripe.to_string()
     }
+}
+
+/// Whether a recovery is taken, as keys of JSON: number, name and shelf. Names and shelves hold nothing that JSON would have escaped.
+pub fn verdict(header: Header, fault: Option<&Fault>) -> String {
+    let (number, name, stripe) = match fault {
+        None => (0, "taken", None),
+        Some(fault) => (fault.refusal.number(), fault.refusal.name(), fault.stripe),
+    };
+    let shelf = stripe.map_or("null".into(), |stripe| {
+        format!("\"{}\"", shelf_name(header.k, stripe))
+    });
+    format!("\"number\":{number},\"name\":\"{name}\",\"shelf\":{shelf}")
 }
 
 /// Adds a line: what it is of, and words, one space between.

@@ -7,7 +7,8 @@ use crate::lent::Side;
 use reference::header::Header;
 use std::ptr;
 use vault_sys::{
-    vault_decode, vault_image, vault_open, vault_read, vault_recover, vault_write, VAULT_NO_SHELF,
+    vault_decode, vault_explain, vault_image, vault_open, vault_read, vault_recover, vault_write,
+    VAULT_NO_SHELF,
 };
 
 /// A slice's pointer; of an empty one the null pointer, as C has it.
@@ -26,6 +27,14 @@ fn first_mut<T>(slice: &mut [T]) -> *mut T {
         slice.as_mut_ptr()
     }
 }
+
+/// The stripe that a call stored, unless it is the number that stands for none.
+fn named(stripe: u32) -> Option<u32> {
+    Some(stripe).filter(|&x| x != VAULT_NO_SHELF)
+}
+
+/// A number that no call stores as a stripe.
+const NEVER_STORED: u32 = VAULT_NO_SHELF - 1;
 
 pub struct Library;
 
@@ -127,8 +136,7 @@ impl Calls for Library {
         let Header { k, s, c } = side.header;
         let (image, gaps) = (side.image.part(), side.erasures.part());
         let (records, scratch) = (side.records.part_mut(), side.scratch.part_mut());
-        // A number that the call never stores.
-        let mut stripe = VAULT_NO_SHELF - 1;
+        let mut stripe = NEVER_STORED;
         // SAFETY: as said at the head of this file.
         #[rustfmt::skip]
         let number = unsafe {
@@ -142,7 +150,32 @@ impl Calls for Library {
             )
         };
         Answer {
-            stripe: Some(stripe).filter(|&x| x != VAULT_NO_SHELF),
+            stripe: named(stripe),
+            ..Answer::of(number)
+        }
+    }
+
+    fn explain(side: &mut Side) -> Answer {
+        let Header { k, s, c } = side.header;
+        let (image, gaps) = (side.image.part(), side.erasures.part());
+        let (counts, origins) = (side.counts.part_mut(), side.origins.part_mut());
+        let scratch = side.scratch.part_mut();
+        let mut stripe = NEVER_STORED;
+        // SAFETY: as said at the head of this file.
+        #[rustfmt::skip]
+        let number = unsafe {
+            vault_explain(
+                k, s, c,
+                first(image), image.len(),
+                first(gaps), gaps.len(),
+                first_mut(counts), counts.len(),
+                first_mut(origins), origins.len(),
+                first_mut(scratch), scratch.len(),
+                &mut stripe,
+            )
+        };
+        Answer {
+            stripe: named(stripe),
             ..Answer::of(number)
         }
     }

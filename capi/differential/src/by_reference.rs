@@ -1,7 +1,7 @@
 //! The calls made of reference/.
 use crate::calls::{Answer, Calls};
 use crate::lent::Side;
-use reference::{image, opening, reading, recovery, writing};
+use reference::{explanation, image, opening, reading, recovery, writing};
 
 pub struct Reference;
 
@@ -47,6 +47,18 @@ impl Calls for Reference {
         let (image, list) = (side.image.part(), side.erasures.part());
         let (out, scratch) = (side.records.part_mut(), side.scratch.part_mut());
         let (number, stripe) = recovery::recover(side.header, image, list, out, scratch);
+        Answer {
+            stripe,
+            ..Answer::of(number)
+        }
+    }
+
+    fn explain(side: &mut Side) -> Answer {
+        let (image, list) = (side.image.part(), side.erasures.part());
+        let (counts, origins) = (side.counts.part_mut(), side.origins.part_mut());
+        let scratch = side.scratch.part_mut();
+        let (number, stripe) =
+            explanation::explain(side.header, image, list, counts, origins, scratch);
         Answer {
             stripe,
             ..Answer::of(number)

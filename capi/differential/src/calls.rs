@@ -1,4 +1,4 @@
-//! The six calls, what they answer, and what an implementation of them is.
+//! The seven calls, what they answer, and what an implementation of them is.
 use crate::lent::Side;
 
 #[derive(Clone, Copy, Debug, PartialEq)]
@@ -9,10 +9,13 @@ pub enum Call {
     Image,
     Decode { stripe: u32 },
     Recover,
+    Explain,
 }
 
 impl Call {
-    pub const NAMES: [&'static str; 6] = ["open", "write", "read", "image", "decode", "recover"];
+    pub const NAMES: [&'static str; 7] = [
+        "open", "write", "read", "image", "decode", "recover", "explain",
+    ];
 
     pub fn index(self) -> usize {
         match self {
@@ -22,11 +25,13 @@ impl Call {
             Call::Image => 3,
             Call::Decode { .. } => 4,
             Call::Recover => 5,
+            Call::Explain => 6,
         }
     }
 }
 
-/// What a call answers: its number, recovery's stripe at fault, and reading's part of the raw buffer as start and count. c is left in the header.
+/// What a call answers: its number, the stripe at fault of recovery and of its explanation, and reading's part of the raw buffer as start and count. c is left
+/// in the header.
 #[derive(Clone, Copy, Debug, Default, PartialEq)]
 pub struct Answer {
     pub number: u32,
@@ -52,6 +57,7 @@ pub trait Calls {
     fn image(side: &mut Side) -> Answer;
     fn decode(side: &mut Side, stripe: u32) -> Answer;
     fn recover(side: &mut Side) -> Answer;
+    fn explain(side: &mut Side) -> Answer;
 
     fn call(side: &mut Side, call: Call) -> Answer {
         match call {
@@ -61,6 +67,7 @@ pub trait Calls {
             Call::Image => Self::image(side),
             Call::Decode { stripe } => Self::decode(side, stripe),
             Call::Recover => Self::recover(side),
+            Call::Explain => Self::explain(side),
         }
     }
 }

@@ -103,6 +103,19 @@ pub fn enough(header: Header, marks: &Marks) -> bool {
     (0..=header.k).all(|l| !header.filled(l) || counted(l) <= 1 << l)
 }
 
+/// What is left of each stripe, and how many more positions would do: zeros for empty levels.
+pub fn counts(header: Header, marks: &Marks) -> Vec<u32> {
+    let count = |stripe: u32| {
+        if !header.filled(stripe) {
+            return [0, 0];
+        }
+        let survive = marks[stripe as usize].iter().filter(|&&erased| !erased);
+        let left = survive.count() as u32;
+        [left, (1u32 << stripe).saturating_sub(left)]
+    };
+    (0..=header.k).flat_map(count).collect()
+}
+
 /// Each position in the order of the image: its first byte, and whether it is erased.
 pub fn positions(header: Header, marks: &Marks) -> impl Iterator<Item = (usize, bool)> + '_ {
     let stripes = std::iter::once(header.k).chain(0..header.k);

@@ -66,12 +66,18 @@ pub fn lent(call: Call) -> &'static [Words] {
         Call::Image => &[Words::Full, Words::Log],
         Call::Decode { .. } => &[Words::Blocks, Words::Scratch],
         Call::Recover => &[Words::Records, Words::Scratch],
+        Call::Explain => &[Words::Counts, Words::Origins, Words::Scratch],
     }
+}
+
+/// Whether a call is lent an image and an erasure list.
+fn takes_erasures(call: Call) -> bool {
+    matches!(call, Call::Decode { .. } | Call::Recover | Call::Explain)
 }
 
 /// Whether a call is lent an image.
 pub fn takes_image(call: Call) -> bool {
-    matches!(call, Call::Image | Call::Decode { .. } | Call::Recover)
+    call == Call::Image || takes_erasures(call)
 }
 
 /// Makes a call with these faults, and gives the buffers theirs back.
@@ -121,7 +127,7 @@ fn any(session: &mut Session, call: Call) -> Fault {
         Fault::K(k + 1),
         Fault::S(s + 1),
     ];
-    if matches!(call, Call::Decode { .. } | Call::Recover) {
+    if takes_erasures(call) {
         faults.push(Fault::Erasures(broken.list(random, size)));
         faults.push(Fault::Erasures(broken.list(random, size)));
     }

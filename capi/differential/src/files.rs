@@ -1,8 +1,9 @@
 //! Images and erasure lists in files: those that one implementation made are read by the other.
-use crate::erasures::{self, Loss};
+use crate::erasures::{self, Loss, Marks};
+use crate::origins::origins;
 use random::Random;
 use reference::header::Header;
-use reference::{image, opening, recovery, writing};
+use reference::{explanation, image, opening, recovery, writing};
 use std::path::PathBuf;
 use std::{env, fs, process};
 use vault_library as library;
@@ -44,7 +45,8 @@ struct History {
     writes: Vec<(u32, Vec<u32>)>,
 }
 
-/// Makes histories by both, has each store its image and an erasure list, and the other recover from these files. Gives how many files were read.
+/// Makes histories by both, has each store its image and an erasure list, and the other recover from these files and explain it. Gives how many files were
+/// read.
 pub fn exchange(seed: u64, small: bool) -> Result<usize, String> {
     let folder = Folder::new(seed)?;
     let mut random = Random::new(seed ^ 0xf11e);
@@ -82,6 +84,13 @@ impl History {
         records
     }
 
+    /// The counts and the origins that explain a recovery, where the last c writes are those of the round.
+    fn explained(&self, header: Header, marks: &Marks) -> (Vec<u32>, Vec<u32>) {
+        let round = &self.writes[self.writes.len() - header.c as usize..];
+        let written: Vec<u32> = round.iter().map(|write| write.0).collect();
+        (erasures::counts(header, marks), origins(header, &written))
+    }
+
     /// The library's image, and a list that its wrapper makes of erased positions, read by the reference.
     fn by_library(&self, folder: &Folder, random: &mut Random) -> Result<(), String> {
         let vault = self
@@ -101,6 +110,7 @@ impl History {
 
         let (image, list) = folder.load()?;
         self.recovered_by_reference(header, &image, &list)?;
+        self.explained_by_reference(header, &image, &list, &marks)?;
         let gaps = reference::erasures::gaps(&list, image.len()).map_err(|e| format!("{e:?}"))?;
         let same = |stripe: u32| {
             reference::erasures::erased(header, stripe, &gaps) == marks[stripe as usize]
@@ -140,6 +150,26 @@ impl History {
         Ok(())
     }
 
+    fn explained_by_reference(
+        &self,
+        header: Header,
+        image: &[u8],
+        list: &[u8],
+        marks: &Marks,
+    ) -> Result<(), String> {
+        let mut counts = vec![1; header.counts_len()];
+        let mut origins = vec![1; header.origins_len()];
+        let mut scratch = vec![1; header.scratch_len()];
+        let answer =
+            explanation::explain(header, image, list, &mut counts, &mut origins, &mut scratch);
+        if answer != (0, None) || (counts, origins) != self.explained(header, marks) {
+            return Err(format!(
+                "reference, explaining the library's files at {header:?}: {answer:?}"
+            ));
+        }
+        Ok(())
+    }
+
     /// The reference's image, and a list beside it, read by the library.
     fn by_reference(&self, folder: &Folder, random: &mut Random) -> Result<(), String> {
         let (k, s) = (self.k, self.s);
@@ -165,6 +195,28 @@ impl History {
         )?;
         if records != raw || records != self.book() {
             return Err(format!("library, from the reference's files at {header:?}"));
+        }
+        self.explained_by_library(header, &image, &list, &marks)
+    }
+
+    fn explained_by_library(
+        &self,
+        header: Header,
+        image: &[u8],
+        list: &[u8],
+        marks: &Marks,
+    ) -> Result<(), String> {
+        let Header { k, s, c } = header;
+        let given = library::Header { k, s, c };
+        let mut counts = vec![1; library::sizes::counts(k, s)];
+        let mut origins = vec![1; library::sizes::origins(k, s)];
+        let mut scratch = vec![1; library::sizes::scratch(k, s)];
+        let answer =
+            library::calls::explain(given, image, list, &mut counts, &mut origins, &mut scratch);
+        if answer.is_err() || (counts, origins) != self.explained(header, marks) {
+            return Err(format!(
+                "library, explaining the reference's files at {header:?}: {answer:?}"
+            ));
         }
         Ok(())
     }

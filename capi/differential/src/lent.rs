@@ -59,7 +59,8 @@ impl<T: Guard> Lent<T> {
     }
 }
 
-/// What one implementation holds: the header's numbers, and a buffer for each parameter. Stripe decoding gives `blocks`, recovery `records`.
+/// What one implementation holds: the header's numbers, and a buffer for each parameter. Stripe decoding gives `blocks`, recovery `records`, an explanation
+/// `counts` and `origins`.
 #[derive(Clone, PartialEq)]
 pub struct Side {
     pub header: Header,
@@ -71,6 +72,8 @@ pub struct Side {
     pub erasures: Lent<u8>,
     pub blocks: Lent<u32>,
     pub records: Lent<u32>,
+    pub counts: Lent<u32>,
+    pub origins: Lent<u32>,
     pub scratch: Lent<u32>,
 }
 
@@ -83,17 +86,21 @@ pub enum Words {
     Block,
     Blocks,
     Records,
+    Counts,
+    Origins,
     Scratch,
 }
 
 impl Words {
-    pub const ALL: [Words; 7] = [
+    pub const ALL: [Words; 9] = [
         Words::Raw,
         Words::Full,
         Words::Log,
         Words::Block,
         Words::Blocks,
         Words::Records,
+        Words::Counts,
+        Words::Origins,
         Words::Scratch,
     ];
 }
@@ -112,6 +119,8 @@ impl Side {
             erasures: Lent::new(guard),
             blocks: Lent::new(guard),
             records: Lent::new(guard),
+            counts: Lent::new(guard),
+            origins: Lent::new(guard),
             scratch: Lent::new(guard),
         };
         side.raw.resize(header.raw_len(), 0);
@@ -121,6 +130,8 @@ impl Side {
         side.image.resize(header.image_len(), 0);
         side.blocks.resize(header.blocks_len(), 0);
         side.records.resize(header.raw_len(), 0);
+        side.counts.resize(header.counts_len(), 0);
+        side.origins.resize(header.origins_len(), 0);
         side.scratch.resize(header.scratch_len(), 0);
         side
     }
@@ -133,6 +144,8 @@ impl Side {
             Words::Block => &self.block,
             Words::Blocks => &self.blocks,
             Words::Records => &self.records,
+            Words::Counts => &self.counts,
+            Words::Origins => &self.origins,
             Words::Scratch => &self.scratch,
         }
     }
@@ -145,6 +158,8 @@ impl Side {
             Words::Block => &mut self.block,
             Words::Blocks => &mut self.blocks,
             Words::Records => &mut self.records,
+            Words::Counts => &mut self.counts,
+            Words::Origins => &mut self.origins,
             Words::Scratch => &mut self.scratch,
         }
     }

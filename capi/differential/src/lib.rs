@@ -7,6 +7,7 @@ mod erasures;
 mod faults;
 pub mod files;
 mod lent;
+mod origins;
 pub mod run;
 mod scenarios;
 mod session;

@@ -94,10 +94,10 @@ fn seed_of(options: Options, index: usize) -> u64 {
     options.seed.wrapping_mul(0x2545_f491_4f6c_dd1d) ^ index as u64
 }
 
-fn run_one(options: Options, scenario: Scenario, index: usize, explain: Option<u64>) -> Run<Tally> {
+fn run_one(options: Options, scenario: Scenario, index: usize, shown: Option<u64>) -> Run<Tally> {
     let settings = Settings {
         guard: if options.small { 0 } else { 3 },
-        explain,
+        shown,
     };
     let seed = seed_of(options, index);
     let panicked = |_| {

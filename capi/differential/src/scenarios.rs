@@ -4,6 +4,7 @@ use crate::calls::{Answer, Call, Calls};
 use crate::erasures::{self, Broken, Loss, Marks};
 use crate::faults::{self, Fault};
 use crate::lent::Side;
+use crate::origins::origins;
 use crate::session::{Run, Session, Settings};
 use crate::tally::Tally;
 use random::Random;
@@ -130,13 +131,31 @@ fn lose(session: &mut Session, marks: &Marks) {
     });
 }
 
+/// Recovery and its explanation, which have to answer the same.
+fn recover(session: &mut Session) -> Run<Answer> {
+    let answer = session.call(Call::Recover)?;
+    let explained = session.call(Call::Explain)?;
+    session.expect(explained == answer, "recovery and explanation differ")?;
+    Ok(answer)
+}
+
+/// The same if the reference may still eliminate.
+fn recover_allowed(session: &mut Session) -> Run<()> {
+    if session.is_allowed() {
+        recover(session)?;
+    }
+    Ok(())
+}
+
 /// Recovers the records of buffers that a history left, after a loss of that kind: they are the raw copy, if enough survives.
 fn recover_after(session: &mut Session, loss: Loss) -> Run<()> {
     let header = session.header();
     session.call(Call::Image)?;
     let marks = loss.marks(&mut session.random, header);
     lose(session, &marks);
-    let answer = session.call(Call::Recover)?;
+    let answer = recover(session)?;
+    let counted = session.side().counts.part() == erasures::counts(header, &marks);
+    session.expect(counted, "the counts are not those of the loss")?;
     if !erasures::enough(header, &marks) {
         return session.expect(answer.number == 7, "too few were not refused");
     }
@@ -226,7 +245,7 @@ fn inspect(session: &mut Session) -> Run<()> {
         let stripe = session.random.below(u64::from(header.k) + 1) as u32;
         alter_survivor(session, &marks, stripe);
     }
-    session.call_allowed(Call::Recover)?;
+    recover_allowed(session)?;
     for _ in 0..2 {
         let stripe = any_stripe(session);
         session.call_allowed(Call::Decode { stripe })?;
@@ -240,13 +259,14 @@ fn any_refusal(session: &mut Session) -> Run<u32> {
     let record = session.random.below(n) as u32;
     let block = data(&mut session.random, header.data());
     session.set(|side| side.block.set(&block));
-    let call = match session.random.below(6) {
+    let call = match session.random.below(7) {
         0 => Call::Open,
         1 => Call::Write { record },
         2 => Call::Read { record },
         3 => Call::Image,
         4 => Call::Decode { stripe: header.k },
-        _ => Call::Recover,
+        5 => Call::Recover,
+        _ => Call::Explain,
     };
     faults::any_faulty(session, call)
 }
@@ -313,7 +333,7 @@ fn losses(session: &mut Session) -> Run<()> {
             lose(session, &marks);
             alter_survivor(session, &marks, stripe);
             session.call_allowed(Call::Decode { stripe })?;
-            session.call_allowed(Call::Recover)?;
+            recover_allowed(session)?;
         }
     }
     Ok(())
@@ -366,7 +386,7 @@ fn foreign_images(session: &mut Session) -> Run<()> {
             let header = session.header();
             let marks = loss.marks(&mut session.random, header);
             lose(session, &marks);
-            session.call_allowed(Call::Recover)?;
+            recover_allowed(session)?;
             decode_all(session)?;
         }
     }
@@ -421,15 +441,15 @@ fn blocks(session: &mut Session) -> Run<()> {
         let loss = *session.random.one(&Loss::ALL);
         let marks = loss.marks(&mut session.random, header);
         lose(session, &marks);
-        session.call_allowed(Call::Recover)?;
+        recover_allowed(session)?;
         decode_all(session)?;
         let stripe = session.random.below(u64::from(k) + 1) as u32;
         alter_survivor(session, &marks, stripe);
-        session.call_allowed(Call::Recover)?;
+        recover_allowed(session)?;
         session.call_allowed(Call::Decode { stripe })?;
         let list = erasures::good(&mut session.random, header.image_len());
         session.set(|side| side.erasures.set(&list));
-        session.call_allowed(Call::Recover)?;
+        recover_allowed(session)?;
     }
     Ok(())
 }
@@ -445,10 +465,11 @@ fn refusals(session: &mut Session) -> Run<()> {
     let record = n - 1;
     let (write, read) = (Call::Write { record }, Call::Read { record });
     let decode = Call::Decode { stripe: k };
-    for call in [Call::Open, write, read, Call::Image, decode, Call::Recover] {
+    for call in [Call::Open, write, read, Call::Image] {
         headers_and_lengths(session, call)?;
     }
-    for call in [decode, Call::Recover] {
+    for call in [decode, Call::Recover, Call::Explain] {
+        headers_and_lengths(session, call)?;
         broken_lists(session, call)?;
     }
     for call in [write, read] {
@@ -502,7 +523,7 @@ fn broken_lists(session: &mut Session, call: Call) -> Run<()> {
     Ok(())
 }
 
-/// Writes a round but for its last write, loses half of each stripe, and recovers: by the library alone.
+/// Writes a round but for its last write, loses half of each stripe, recovers and explains: by the library alone.
 fn alone(session: &mut Session) -> Run<()> {
     let header = session.header();
     let n = header.records();
@@ -510,11 +531,13 @@ fn alone(session: &mut Session) -> Run<()> {
     let raw = data(&mut session.random, header.raw_len());
     side.raw.set(&raw);
     let mut numbers = vec![Library::call(&mut side, Call::Open).number];
+    let mut written = Vec::new();
     for _ in 1..n {
         let block = data(&mut session.random, header.data());
         side.block.set(&block);
         let record = session.random.below(n as u64) as u32;
         numbers.push(Library::call(&mut side, Call::Write { record }).number);
+        written.push(record);
     }
     numbers.push(Library::call(&mut side, Call::Image).number);
     let header = side.header;
@@ -522,9 +545,13 @@ fn alone(session: &mut Session) -> Run<()> {
     let list = erasures::list(&mut session.random, header, &marks);
     side.erasures.set(&list);
     numbers.push(Library::call(&mut side, Call::Recover).number);
+    numbers.push(Library::call(&mut side, Call::Explain).number);
     for stripe in 0..=header.k {
         numbers.push(Library::call(&mut side, Call::Decode { stripe }).number);
     }
     let holds = numbers.iter().all(|&x| x == 0) && side.records.part() == side.raw.part();
-    session.expect(holds, "the library alone did not recover the records")
+    session.expect(holds, "the library alone did not recover the records")?;
+    let holds = side.counts.part() == erasures::counts(header, &marks)
+        && side.origins.part() == origins(header, &written);
+    session.expect(holds, "the library alone did not explain the recovery")
 }

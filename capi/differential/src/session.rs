@@ -22,7 +22,7 @@ pub struct Settings {
     /// The elements of a guard, on either side of a buffer.
     pub guard: usize,
     /// The call whose inputs are to be printed, by the number of calls before it.
-    pub explain: Option<u64>,
+    pub shown: Option<u64>,
 }
 
 pub struct Session {
@@ -84,7 +84,7 @@ impl Session {
     pub fn call(&mut self, call: Call) -> Run<Answer> {
         self.soil(call);
         let header = self.header();
-        if self.settings.explain == Some(self.tally.calls()) {
+        if self.settings.shown == Some(self.tally.calls()) {
             println!(
                 "the call's inputs:\n  {call:?}\n{}",
                 self.reference.describe()
@@ -135,6 +135,7 @@ impl Session {
             Call::Open => &[Words::Full, Words::Log],
             Call::Decode { .. } => &[Words::Blocks, Words::Scratch],
             Call::Recover => &[Words::Records, Words::Scratch],
+            Call::Explain => &[Words::Counts, Words::Origins, Words::Scratch],
             _ => &[],
         };
         self.set(|side| {
@@ -156,8 +157,8 @@ impl Session {
 fn cost(header: Header, call: Call, answer: Answer) -> i64 {
     let stripe = match (call, answer.number) {
         (Call::Decode { stripe }, 0 | 9 | 10) => stripe,
-        (Call::Recover, 0 | 9 | 10) => header.k,
-        (Call::Recover, 7 | 8) if answer.stripe != Some(header.k) => header.k,
+        (Call::Recover | Call::Explain, 0 | 9 | 10) => header.k,
+        (Call::Recover | Call::Explain, 7 | 8) if answer.stripe != Some(header.k) => header.k,
         _ => return 0,
     };
     2 << (3 * stripe)

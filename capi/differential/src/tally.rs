@@ -3,23 +3,26 @@ use crate::calls::{Answer, Call};
 use std::fmt::{self, Display, Formatter};
 
 /// The numbers that each call can give, in the order of `Call::NAMES`.
-const POSSIBLE: [&[usize]; 6] = [
+const POSSIBLE: [&[usize]; 7] = [
     &[0, 1, 2, 5],
     &[0, 1, 2, 4, 5],
     &[0, 1, 2, 4],
     &[0, 1, 2],
     &[0, 1, 2, 3, 6, 7, 8, 9, 10],
     &[0, 1, 2, 3, 7, 8, 9, 10],
+    &[0, 1, 2, 3, 7, 8, 9, 10],
 ];
 
 #[derive(Clone, Default)]
 pub struct Tally {
     /// How often each call gave each number.
-    numbers: [[u64; 11]; 6],
+    numbers: [[u64; 11]; 7],
     /// For each k, how often each call was taken.
-    taken: [[u64; 6]; 11],
-    /// For each number, how often recovery named a level, and the full stripe.
-    named: [[u64; 2]; 11],
+    taken: [[u64; 7]; 11],
+    /// For each number, how often each call named a level.
+    levels: [[u64; 7]; 11],
+    /// The same of the full stripe.
+    full: [[u64; 7]; 11],
 }
 
 impl Tally {
@@ -34,8 +37,10 @@ impl Tally {
         if number == 0 {
             self.taken[k as usize][call.index()] += 1;
         }
-        if let Some(stripe) = answer.stripe {
-            self.named[number][usize::from(stripe == k)] += 1;
+        match answer.stripe {
+            Some(stripe) if stripe == k => self.full[number][call.index()] += 1,
+            Some(_) => self.levels[number][call.index()] += 1,
+            None => {}
         }
     }
 
@@ -47,10 +52,12 @@ impl Tally {
         }
         add(&mut self.numbers, &other.numbers);
         add(&mut self.taken, &other.taken);
-        add(&mut self.named, &other.named);
+        add(&mut self.levels, &other.levels);
+        add(&mut self.full, &other.full);
     }
 
-    /// What did not occur: each number of each call, each call taken at each k up to `most`, and each of recovery's faults on a level and on the full stripe.
+    /// What did not occur: each number of each call, each call taken at each k up to `most`, and each fault of recovery and of its explanation on a level and
+    /// on the full stripe.
     pub fn missing(&self, most: usize) -> Vec<String> {
         let mut missing = Vec::new();
         for (i, name) in Call::NAMES.iter().enumerate() {
@@ -65,13 +72,13 @@ impl Tally {
                 }
             }
         }
-        for number in 7..=10 {
-            for (counted, name) in self.named[number]
-                .iter()
-                .zip(["a level", "the full stripe"])
-            {
-                if *counted == 0 {
-                    missing.push(format!("recover never gave {number} on {name}"));
+        for call in [Call::Recover, Call::Explain].map(Call::index) {
+            for number in 7..=10 {
+                for (named, place) in [(&self.levels, "a level"), (&self.full, "the full stripe")] {
+                    if named[number][call] == 0 {
+                        let name = Call::NAMES[call];
+                        missing.push(format!("{name} never gave {number} on {place}"));
+                    }
                 }
             }
         }

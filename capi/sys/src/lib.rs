@@ -39,7 +39,7 @@ pub const VAULT_DISCORD: u32 = 9;
 /// No sheet: the one list that does holds no records.
 pub const VAULT_NO_SHEET: u32 = 10;
 
-/// What [`vault_recover`] leaves in `*shelf` where it names none.
+/// What [`vault_recover`] and [`vault_explain`] leave in `*shelf` where they name none.
 pub const VAULT_NO_SHELF: u32 = 0xffff_ffff;
 
 // Pointer and count stand on one line, as in include/vault.h.
@@ -127,6 +127,28 @@ extern "C" {
         image: *const u8, image_len: usize,
         gaps: *const u8, gaps_len: usize,
         out: *mut u32, out_len: usize,
+        scratch: *mut u32, scratch_len: usize,
+        shelf: *mut u32,
+    ) -> u32;
+
+    /// Explaining a recovery: `counts` has two words for each shelf from 0 to k, the positions left and how many more would do, zeros if recovery does not need
+    /// the shelf; `origins` has two for each record, the level that holds the last write to it in the round and that write's number in the round, k and 0 if
+    /// the record comes from the full shelf.
+    ///
+    /// Tests 1 (k, s and c), 2 (`image`, `counts` of 2(k + 1) words, `origins` of 2n words, `scratch`) and 3, then 7 to 10 on each shelf in recovery's order.
+    /// The number and `*shelf` are those of [`vault_recover`]. After 0, `counts` and `origins` hold the answer and `scratch` zeros; after 1 to 3 all three are
+    /// as they were. After 7 to 10, `counts` holds the counts of all needed shelves, and `origins` and `scratch` are zeros.
+    ///
+    /// # Safety
+    ///
+    /// `image` and `gaps` are valid for reads of `image_len` and `gaps_len` bytes; `counts`, `origins` and `scratch` are valid for reads and writes of as many
+    /// words as their counts say, `shelf` for writes of one number; none of the four overlaps anything that the call is lent.
+    pub fn vault_explain(
+        k: u32, s: u32, c: u32,
+        image: *const u8, image_len: usize,
+        gaps: *const u8, gaps_len: usize,
+        counts: *mut u32, counts_len: usize,
+        origins: *mut u32, origins_len: usize,
         scratch: *mut u32, scratch_len: usize,
         shelf: *mut u32,
     ) -> u32;

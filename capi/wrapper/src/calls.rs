@@ -1,11 +1,12 @@
 //! The library's calls over slices. Each tests everything it is given, in the order of the table of refusals, and is proved to leave what the
-//! specification says: after refusals 1 to 6 all buffers are as they were, after 7 to 10 output and scratch are zeros.
+//! specification says: after refusals 1 to 6 all buffers are as they were, after 7 to 10 output and scratch are zeros, but for the counts of [`explain`].
 //!
 //! What `vault_sys` asks of a caller holds of every call here: a pointer and its count are those of one slice, which is aligned and valid, and what a call
 //! may change is borrowed for that call alone.
 use crate::{Fault, Header, Refusal};
 use vault_sys::{
-    vault_decode, vault_image, vault_open, vault_read, vault_recover, vault_write, VAULT_NO_SHELF,
+    vault_decode, vault_explain, vault_image, vault_open, vault_read, vault_recover, vault_write,
+    VAULT_NO_SHELF,
 };
 
 /// Builds the full stripe of raw records and zeroes the log. Gives the header.
@@ -117,10 +118,35 @@ pub fn recover(
             &mut stripe,
         )
     };
-    Refusal::test(number).map_err(|refusal| Fault {
-        refusal,
-        stripe: Some(stripe).filter(|&stripe| stripe != VAULT_NO_SHELF),
-    })
+    Fault::test(number, stripe)
+}
+
+/// Why recovery is taken or refused, with the same answer: the positions left on each stripe and how many more would do, two words for each stripe from 0 to
+/// k, which stand after 7 to 10 too; and the level and write that each record comes from, two words for each.
+pub fn explain(
+    header: Header,
+    image: &[u8],
+    erasures: &[u8],
+    counts: &mut [u32],
+    origins: &mut [u32],
+    scratch: &mut [u32],
+) -> Result<(), Fault> {
+    let Header { k, s, c } = header;
+    let mut stripe = VAULT_NO_SHELF;
+    // SAFETY: as said at the head of this file; stripe is this function's own.
+    #[rustfmt::skip]
+    let number = unsafe {
+        vault_explain(
+            k, s, c,
+            image.as_ptr(), image.len(),
+            erasures.as_ptr(), erasures.len(),
+            counts.as_mut_ptr(), counts.len(),
+            origins.as_mut_ptr(), origins.len(),
+            scratch.as_mut_ptr(), scratch.len(),
+            &mut stripe,
+        )
+    };
+    Fault::test(number, stripe)
 }
 
 /// Stores the image of a full stripe and a log.

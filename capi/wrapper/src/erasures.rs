@@ -1,4 +1,5 @@
 //! Erasure lists (docs/FORMAT.md; gap lists to users): pairs of offset and length, 4 bytes each, low byte first.
+use crate::stripes::word;
 use std::ops::Range;
 
 /// The erasure list of some ranges of bytes: sorted, with ranges that overlap or touch joined. Empty ranges are left out.
@@ -18,9 +19,17 @@ pub fn list(mut ranges: Vec<Range<usize>>) -> Vec<u8> {
     numbers.flat_map(u32::to_le_bytes).collect()
 }
 
+/// The ranges of bytes that an erasure list names, pair by pair.
+pub fn ranges(list: &[u8]) -> impl Iterator<Item = Range<usize>> + '_ {
+    list.chunks_exact(8).map(|pair| {
+        let (offset, length) = (word(&pair[..4]) as usize, word(&pair[4..]) as usize);
+        offset..offset + length
+    })
+}
+
 #[cfg(test)]
 mod tests {
-    use super::list;
+    use super::{list, ranges};
 
     fn pairs(ranges: &[std::ops::Range<usize>]) -> Vec<u32> {
         let number = |b: &[u8]| u32::from_le_bytes(b.try_into().unwrap());
@@ -34,5 +43,12 @@ mod tests {
         assert_eq!(pairs(&[8..16, 0..8]), [0, 16]);
         assert_eq!(pairs(&[0..100, 5..10, 100..101]), [0, 101]);
         assert_eq!(pairs(&[4..4, 6..7]), [6, 1]);
+    }
+
+    #[test]
+    fn ranges_are_those_of_the_list() {
+        let some = [0..8, 9..17, 300..70000];
+        assert!(ranges(&list(some.to_vec())).eq(some));
+        assert_eq!(ranges(&[]).count(), 0);
     }
 }

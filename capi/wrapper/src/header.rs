@@ -1,5 +1,6 @@
 //! The header (docs/FORMAT.md; the plate to users), and which stripes it says are filled.
 use crate::sizes;
+use std::ops::Range;
 
 /// The numbers that a vault is known by: 2^k records of s words, and c writes since the full stripe was last built.
 #[derive(Clone, Copy, Debug, PartialEq, Eq)]
@@ -19,6 +20,12 @@ impl Header {
     pub fn filled(self, stripe: u32) -> bool {
         let bit = |level| self.c.checked_shr(level).is_some_and(|bits| bits & 1 == 1);
         stripe == self.k || stripe < self.k && bit(stripe)
+    }
+
+    /// The numbers, in the round, of the writes that a filled level holds.
+    pub fn writes(self, level: u32) -> Range<u32> {
+        let first = self.c >> (level + 1) << (level + 1);
+        first..first + (1 << level)
     }
 
     /// The filled stripes in the order in which a listing has them: the full stripe, then the levels upward.
@@ -45,5 +52,13 @@ mod tests {
         let header = Header { k: 4, s: 1, c: 13 };
         assert!(header.stripes().eq([4, 0, 2, 3]));
         assert!(!header.filled(1) && !header.filled(5) && !header.filled(u32::MAX));
+    }
+
+    #[test]
+    fn higher_levels_hold_older_writes() {
+        let writes = |c, level| Header { k: 3, s: 1, c }.writes(level);
+        assert_eq!([2, 1, 0].map(|level| writes(7, level)), [0..4, 4..6, 6..7]);
+        assert_eq!((writes(5, 2), writes(5, 0)), (0..4, 4..5));
+        assert_eq!((writes(3, 1), writes(3, 0)), (0..2, 2..3));
     }
 }

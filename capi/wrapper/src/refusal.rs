@@ -114,6 +114,16 @@ pub struct Fault {
     pub stripe: Option<u32>,
 }
 
+impl Fault {
+    /// What the number and the stripe of a recovery say.
+    pub(crate) fn test(number: u32, stripe: u32) -> Result<(), Fault> {
+        Refusal::test(number).map_err(|refusal| Fault {
+            refusal,
+            stripe: Some(stripe).filter(|&stripe| stripe != vault_sys::VAULT_NO_SHELF),
+        })
+    }
+}
+
 impl fmt::Display for Fault {
     fn fmt(&self, f: &mut fmt::Formatter) -> fmt::Result {
         self.refusal.fmt(f)?;

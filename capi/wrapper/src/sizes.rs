@@ -41,9 +41,19 @@ pub fn blocks(k: u32, s: u32) -> usize {
     length(k, s, |n, s| n * (s + 1))
 }
 
-/// The scratch buffer of stripe decoding and of recovery.
+/// The scratch buffer of stripe decoding, of recovery and of explaining.
 pub fn scratch(k: u32, s: u32) -> usize {
     length(k, s, |n, s| n * (s + 1) + 4 * n)
+}
+
+/// The counts of explaining: two for each stripe from 0 to k.
+pub fn counts(k: u32, s: u32) -> usize {
+    length(k, s, |_, _| 2 * (k as usize + 1))
+}
+
+/// The origins of explaining: two words for each record.
+pub fn origins(k: u32, s: u32) -> usize {
+    length(k, s, |n, _| 2 * n)
 }
 
 #[cfg(test)]
@@ -56,12 +66,14 @@ mod tests {
         assert_eq!(image(10, 128), 2_112_504);
         assert_eq!((raw(2, 1), full(2, 1), log(2, 1)), (4, 16, 12));
         assert_eq!((blocks(2, 1), scratch(2, 1)), (8, 24));
+        assert_eq!((counts(2, 1), origins(2, 1)), (6, 8));
+        assert_eq!((counts(10, 128), origins(10, 128)), (22, 2048));
     }
 
     #[test]
     fn out_of_range() {
         for (k, s) in [(0, 1), (11, 1), (1, 0), (1, 129), (u32::MAX, u32::MAX)] {
-            for size in [raw, full, log, image, blocks, scratch] {
+            for size in [raw, full, log, image, blocks, scratch, counts, origins] {
                 assert_eq!(size(k, s), 0);
             }
         }

@@ -22,12 +22,13 @@ pub fn position(k: u32, s: u32, stripe: u32, position: usize) -> Range<usize> {
 
 /// The words of a position, as an image has them.
 pub fn words(image: &[u8], bytes: Range<usize>) -> impl Iterator<Item = u32> + '_ {
-    let word = |b: &[u8]| {
-        b.iter()
-            .rev()
-            .fold(0, |high, &low| high << 8 | u32::from(low))
-    };
     image[bytes].chunks_exact(4).map(word)
+}
+
+/// The word that bytes are, the low byte first.
+pub(crate) fn word(bytes: &[u8]) -> u32 {
+    let high_first = bytes.iter().rev();
+    high_first.fold(0, |high, &low| high << 8 | u32::from(low))
 }
 
 #[cfg(test)]

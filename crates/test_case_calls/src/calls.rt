@@ -1,8 +1,10 @@
 // The calls of the vault, on parts of the buffers; each prints what it answered and what it left.
 use layout::Header;
+use recovery::Recovery;
 use test_case_buffers::output;
 ghost use mathlib.Core.Path.{_≡_};
 ghost use lib.ListN.{length};
+ghost use Rattle.io.specs.Counts.{Counts};
 
 // The header of the state, whose first numbers are k, s and c; the others are how much of each buffer is lent.
 pub(crate) fn header(numbers: &[u32; 11]) -> Header {
@@ -89,16 +91,71 @@ pub(crate) fn decode(
     output::words(b" scratch", scratch);
 }
 
-pub(crate) fn recover(h: Header, image: &[u8], list: &[u8], out: &mut [u32], scratch: &mut [u32]) {
-    let r = recovery::recovering::recover(h, image, list, out, scratch);
-    output::text(b"recover");
+// Prints a number, and the stripe where one is named.
+fn number_and_stripe(r: Recovery) {
     output::number(r.number);
     if r.named {
         output::number(r.stripe);
     }
     output::text(b"\n");
+}
+
+pub(crate) fn recover(h: Header, image: &[u8], list: &[u8], out: &mut [u32], scratch: &mut [u32]) {
+    let r = recovery::recovering::recover(h, image, list, out, scratch);
+    output::text(b"recover");
+    number_and_stripe(r);
     output::words(b" out", out);
     output::words(b" scratch", scratch);
+}
+
+// A line: a buffer's name and all of its words.
+fn all_words(name: &[u8], part: &[u32]) {
+    output::text(name);
+    for i in 0..part.len() {
+        output::number(part[i]);
+    }
+    output::text(b"\n");
+}
+
+fn explain_in(
+    h: Header,
+    image: &[u8],
+    list: &[u8],
+    counts: &mut [u32],
+    origins: &mut [u32],
+    scratch: &mut [u32],
+) {
+    let r = recovery::explaining::explain(h, image, list, counts, origins, scratch);
+    output::text(b"explain");
+    number_and_stripe(r);
+    all_words(b" counts", counts);
+    all_words(b" origins", origins);
+    output::words(b" scratch", scratch);
+}
+
+// How many words of a buffer are lent: as many as are asked for, at most all of them.
+fn lent(count: u32, part: &[u32]) -> usize
+    ensures { λ r. ⌜ Counts r (now (part .entry)) ⌝ }
+{
+    let asked = count as usize;
+    if asked <= part.len() {
+        return asked;
+    }
+    part.len()
+}
+
+// An explanation. So many words are lent to it for its counts, which hold what no count is; its origins go to the output.
+pub(crate) fn explain(
+    h: Header,
+    image: &[u8],
+    list: &[u8],
+    count: u32,
+    origins: &mut [u32],
+    scratch: &mut [u32],
+) {
+    let mut counts = [99999u32; 32];
+    let x = lent(count, &counts);
+    explain_in(h, image, list, &mut counts[..x], origins, scratch);
 }
 
 // A listing of the input that stands in `list`. A short text is printed as it is.

@@ -59,7 +59,7 @@ pub fn image(numbers: &[u32; 11], full: &[u32], log: &[u32], image: &mut [u8], c
     }
 }
 
-// Decoding (kind 9) and recovery (10) from an image and an erasure list; and a listing (11).
+// Decoding (kind 9), recovery (10) and its explanation (12) from an image and an erasure list; and a listing (11).
 pub fn on_image(
     numbers: &[u32; 11],
     image: &mut [u8],
@@ -95,6 +95,14 @@ pub fn on_image(
             &mut scratch[..y],
         ),
         11 => calls::list(&list[..gaps], image),
+        12 => calls::explain(
+            h,
+            &image[..bytes],
+            &list[..gaps],
+            command.a,
+            &mut out[..x],
+            &mut scratch[..y],
+        ),
         _ => {}
     }
 }

@@ -7,7 +7,7 @@ use crate::script::{Bytes, Command, Number, Words};
 pub enum Fault {
     Set(Number, u32),
     Put(Words, u32, u32),
-    /// The record or stripe that the call is given.
+    /// The record or stripe that the call is given, or the words that are lent for counts.
     Given(u32),
     /// The erasure list's bytes.
     List(Vec<u8>),
@@ -32,7 +32,7 @@ impl Fault {
 
 /// A call that is accepted as it stands.
 pub struct Call {
-    /// Makes the command, from the record or stripe.
+    /// Makes the command, from what it is given.
     pub command: fn(u32) -> Command,
     pub given: u32,
     /// Each fault with its number.

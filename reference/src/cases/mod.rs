@@ -1,4 +1,5 @@
 //! Test cases for the calls of the vault: what the program `test_cases` reads, and what it has to print.
+mod explanations;
 mod faults;
 mod images;
 mod listings;
@@ -138,6 +139,15 @@ impl Script {
         self.fill(Words::Scratch, 0);
         self.push(Command::Recover);
     }
+
+    /// Origins and scratch hold garbage before an explanation.
+    fn explain(&mut self) {
+        let header = self.machine.header();
+        self.lend(Words::Out, header.origins_len());
+        self.fill(Words::Out, 0);
+        self.fill(Words::Scratch, 0);
+        self.push(Command::Explain(header.counts_len() as u32));
+    }
 }
 
 fn script() -> Script {
@@ -153,6 +163,7 @@ fn script() -> Script {
     images::add(&mut script);
     losses::add(&mut script);
     recoveries::add(&mut script);
+    explanations::add(&mut script);
     script
 }
 

@@ -9,7 +9,7 @@ use crate::recovery::decode_stripe;
 use crate::script::{Bytes, Command, Number, Words};
 use crate::stripe::code;
 
-fn open_and_write(script: &mut Script, k: u32, s: u32, writes: usize) -> Header {
+pub fn open_and_write(script: &mut Script, k: u32, s: u32, writes: usize) -> Header {
     script.open(k, s);
     for _ in 0..writes {
         script.write();
@@ -18,12 +18,12 @@ fn open_and_write(script: &mut Script, k: u32, s: u32, writes: usize) -> Header 
     script.machine.header()
 }
 
-fn pair(offset: u32, length: u32) -> Vec<u8> {
+pub fn pair(offset: u32, length: u32) -> Vec<u8> {
     [offset.to_le_bytes(), length.to_le_bytes()].concat()
 }
 
 /// Faults of the calls on images, of any number, where level 1 is decoded of k = 2, s = 1, c = 3. The image has 112 bytes, level 1 its last 32.
-fn image_faults(out: usize) -> Vec<(u32, Fault)> {
+pub fn image_faults(out: usize) -> Vec<(u32, Fault)> {
     let mut faults = faults::header(2);
     faults.extend(faults::lengths(Number::WordsLent(Words::Out), out));
     faults.extend(faults::lengths(Number::WordsLent(Words::Scratch), 24));
@@ -71,7 +71,7 @@ fn in_order(script: &mut Script) {
 }
 
 /// Pairs of offset and length, malformed in every way, and good ones at the edges of what is allowed: the image has 112 bytes.
-const LISTS: [&[(u32, u32)]; 32] = [
+pub const LISTS: [&[(u32, u32)]; 32] = [
     &[],
     &[(0, 8), (9, 8)],
     &[(0, 8), (8, 8)],
@@ -127,7 +127,7 @@ fn lists(script: &mut Script) {
 }
 
 /// The blocks of a stripe of the machine's image, where nothing is lost.
-fn blocks(script: &Script, stripe: u32) -> Vec<u64> {
+pub fn blocks(script: &Script, stripe: u32) -> Vec<u64> {
     let header = script.machine.header();
     let mut out = vec![0; header.blocks_len()];
     let mut scratch = vec![0; header.scratch_len()];
@@ -141,7 +141,7 @@ fn blocks(script: &Script, stripe: u32) -> Vec<u64> {
 }
 
 /// Puts the code of other blocks in a stripe's place.
-fn recode(script: &mut Script, stripe: u32, blocks: &[u64]) {
+pub fn recode(script: &mut Script, stripe: u32, blocks: &[u64]) {
     let header = script.machine.header();
     let coded = code(header.k, header.first(stripe), header.width(), blocks);
     let bytes = coded.iter().flat_map(|&x| (x as u32).to_le_bytes());
@@ -282,6 +282,9 @@ fn large(script: &mut Script) {
         let lost = lose_each(script, |_, size| size);
         damage(script, &lost, Cover::Whole, Garbage::None);
         script.recover();
+        if i == 1023 || i == 1030 {
+            script.explain();
+        }
         if i == 1023 {
             script.decode(10);
             script.decode(9);

@@ -14,8 +14,8 @@ pub const COMMAND: Command = Command {
 usage: vault gaps K S POSITION... > GAPS
        vault gaps K S -o GAPS POSITION...
 
-Makes the gap list that recover and decode take from the positions that cannot be read,
-in any order; one may be named twice. No image is needed.
+Makes the gap list that recover, explain and decode take from the positions that cannot be
+read, in any order; one may be named twice. No image is needed.
 
   K S       the plate's numbers: 2^K records of S words
   POSITION  SHELF:NUMBER, or SHELF:FIRST-LAST for a run. SHELF is a level, or C (or K) for

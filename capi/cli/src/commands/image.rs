@@ -16,7 +16,7 @@ usage: vault image K S < WRITES > IMAGE
 
 Opens a vault of 2^K records of S words, all zeros, does the writes that standard input
 holds, and writes the image of its rack to standard output. The plate's numbers go to
-standard error as a line 'plate K S C'; recover, decode and list ask for them.
+standard error as a line 'plate K S C'; recover, explain, decode and list ask for them.
 
   K       1 to 10
   S       1 to 128

@@ -1,6 +1,7 @@
 //! The subcommands, one file each.
 mod decode;
 mod demo;
+mod explain;
 mod gaps;
 mod image;
 mod list;
@@ -20,11 +21,12 @@ struct Command {
     run: fn(Arguments) -> Result<(), Failure>,
 }
 
-const COMMANDS: [&Command; 6] = [
+const COMMANDS: [&Command; 7] = [
     &demo::COMMAND,
     &image::COMMAND,
     &gaps::COMMAND,
     &recover::COMMAND,
+    &explain::COMMAND,
     &decode::COMMAND,
     &list::COMMAND,
 ];

@@ -2,6 +2,7 @@
 use super::Command;
 use crate::arguments::{Arguments, Options};
 use crate::failure::Failure;
+use crate::rack::Given;
 use crate::{files, rack};
 use vault_library::{calls, sizes, Fault, Header};
 
@@ -35,14 +36,13 @@ at fault, 7 (too few), 8 (stray), 9 (discord), 10 (no sheet).
     run,
 };
 
-fn run(mut arguments: Arguments) -> Result<(), Failure> {
-    let header = rack::header(&mut arguments)?;
-    let path = arguments.needed("IMAGE")?;
-    let gaps = arguments.next();
+fn run(arguments: Arguments) -> Result<(), Failure> {
     let json = arguments.flag("--json");
-    arguments.end()?;
-    let image = rack::image(header, &path)?;
-    let gaps = rack::gaps(header, gaps)?;
+    let Given {
+        header,
+        image,
+        gaps,
+    } = rack::given(arguments)?;
     let answer = recovered(header, &image, &gaps);
     if json {
         files::print(as_json(header, &answer).as_bytes())?;
@@ -66,23 +66,22 @@ pub fn recovered(header: Header, image: &[u8], gaps: &[u8]) -> Result<Vec<u32>, 
 
 /// The failure that a refused recovery is, with its shelf.
 pub fn refused(header: Header, fault: Fault) -> Failure {
-    let on = |stripe| format!(" on shelf {}", rack::shelf_name(header.k, stripe));
-    Failure::Refused(fault.refusal, fault.stripe.map(on).unwrap_or_default())
+    Failure::Refused(fault.refusal, place(header, fault))
 }
 
-/// The answer as a line of JSON. Names and shelves hold nothing that JSON would have escaped.
+/// The shelf of a refused recovery, as text that stands after the refusal's name.
+pub fn place(header: Header, fault: Fault) -> String {
+    let on = |stripe| format!(" on shelf {}", rack::shelf_name(header.k, stripe));
+    fault.stripe.map(on).unwrap_or_default()
+}
+
+/// The answer as a line of JSON.
 fn as_json(header: Header, answer: &Result<Vec<u32>, Fault>) -> String {
-    let (number, name, stripe) = match answer {
-        Ok(_) => (0, "taken", None),
-        Err(fault) => (fault.refusal.number(), fault.refusal.name(), fault.stripe),
-    };
-    let shelf = stripe.map_or("null".into(), |stripe| {
-        format!("\"{}\"", rack::shelf_name(header.k, stripe))
-    });
+    let verdict = rack::verdict(header, answer.as_ref().err());
     let records = answer.as_deref().unwrap_or_default();
     let lists: Vec<String> = rack::records(header, records)
         .map(|record| format!("{record:?}").replace(' ', ""))
         .collect();
     let lists = lists.join(",");
-    format!("{{\"number\":{number},\"name\":\"{name}\",\"shelf\":{shelf},\"records\":[{lists}]}}\n")
+    format!("{{{verdict},\"records\":[{lists}]}}\n")
 }

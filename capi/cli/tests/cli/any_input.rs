@@ -20,15 +20,16 @@ fn random_bytes() {
     for run in 0..300 {
         let (k, s, c) = plate(&mut random);
         let all = image_len(k, s);
-        let image = random_image(&mut random, all, run % 2 == 0);
+        let image = random_image(&mut random, all, run % 8 < 4);
         let gaps = random_gaps(&mut random, all);
         let image = file("random-image", &image);
         let gaps = file("random-gaps", &gaps);
         let [k, s, c] = [k, s, c].map(|x| x.to_string());
         let shelf = random.below(6).to_string();
-        let words = match run % 3 {
+        let words = match run % 4 {
             0 => vec!["recover", &k, &s, &c, image, gaps],
-            1 => vec!["decode", &k, &s, &c, image, gaps, &shelf],
+            1 => vec!["explain", &k, &s, &c, image, gaps],
+            2 => vec!["decode", &k, &s, &c, image, gaps, &shelf],
             _ => vec!["list", &k, &s, &c, image],
         };
         let answer = vault(&words, &[]);
@@ -120,11 +121,12 @@ fn empty_level_at(k: usize, s: usize, c: usize, at: usize) -> bool {
 }
 
 /// Words of the command line, the commands first.
-const WORDS: [&str; 32] = [
+const WORDS: [&str; 33] = [
     "demo",
     "image",
     "gaps",
     "recover",
+    "explain",
     "decode",
     "list",
     "--json",
@@ -163,7 +165,7 @@ fn random_words() {
     let out = file("words-out", &[]);
     let mut random = Random::new(4);
     for _ in 0..300 {
-        let mut line = vec![*random.one(&WORDS[..6])];
+        let mut line = vec![*random.one(&WORDS[..7])];
         if random.below(2) == 0 {
             line.extend(["2", "1"]);
         }

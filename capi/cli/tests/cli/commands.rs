@@ -64,6 +64,115 @@ fn recover_with_and_without_gaps() {
     assert_eq!(line(&format!("recover --json 2 1 3 {image} -")), json);
 }
 
+/// The rack of README.md: the last of three writes is to the same record as the one before.
+fn rack(name: &str) -> &str {
+    let made = vault(
+        ["image", "2", "3", "--text"],
+        b"0 1 200 412\n1 2 200 305\n1 2 200 350\n",
+    );
+    assert_eq!((made.status, &made.stderr[..]), (0, "plate 2 3 3\n"));
+    file(name, &made.stdout)
+}
+
+#[test]
+fn explain_a_rack_that_comes_back() {
+    let image = rack("explained");
+    let gaps = line("gaps 2 3 C:0-3 0:1 1:0 1:2").stdout;
+    let gaps = file("explained-gaps", &gaps);
+    let answer = line(&format!("explain 2 3 3 {image} {gaps}"));
+    let origins = "
+   All 4 records come back, each from its last write in the round, or from shelf C.
+
+   record   shelf   write
+        0       1       0
+        1       0       2
+        2       C
+        3       C
+";
+    let half =
+        "   shelf   holds                    positions (# read, . lost)         left     needed
+     C     all 4 records            ....####                           4 of 8   4: just enough
+     1     writes 0 to 1            .#.#                               2 of 4   2: just enough
+     0     write 2                  #.                                 1 of 2   1: just enough
+";
+    assert_eq!(
+        (answer.status, answer.text(), &answer.stderr[..]),
+        (0, half.to_owned() + origins, "")
+    );
+    let whole =
+        "   shelf   holds                    positions (# read, . lost)         left     needed
+     C     all 4 records            ########                           8 of 8   4
+     1     writes 0 to 1            ####                               4 of 4   2
+     0     write 2                  ##                                 2 of 2   1
+";
+    for gaps in ["", " -", &format!(" {}", file("explained-none", &[]))] {
+        let answer = line(&format!("explain 2 3 3 {image}{gaps}"));
+        assert_eq!(
+            (answer.status, answer.text()),
+            (0, whole.to_owned() + origins)
+        );
+    }
+    // Before the last write level 0 was empty, and record 1 had the write before.
+    let before = line(&format!("explain 2 3 2 {image}")).text();
+    assert!(
+        before.contains("\n     0     empty\n") && before.contains("\n        1       1       1\n")
+    );
+}
+
+#[test]
+fn explain_as_json() {
+    let image = rack("explained-json");
+    let gaps = line("gaps 2 3 C:0-3 0:1 1:0 1:2").stdout;
+    let gaps = file("explained-json-gaps", &gaps);
+    let json = line(&format!("explain 2 3 3 {image} {gaps} --json"));
+    let expected = "{\"number\":0,\"name\":\"taken\",\"shelf\":null,\"counts\":[\
+                    {\"shelf\":\"C\",\"left\":4,\"needed\":4,\"shortfall\":0},\
+                    {\"shelf\":\"1\",\"left\":2,\"needed\":2,\"shortfall\":0},\
+                    {\"shelf\":\"0\",\"left\":1,\"needed\":1,\"shortfall\":0}],\"origins\":[\
+                    {\"shelf\":\"1\",\"write\":0},{\"shelf\":\"0\",\"write\":2},\
+                    {\"shelf\":\"C\",\"write\":null},{\"shelf\":\"C\",\"write\":null}]}\n";
+    assert_eq!(
+        (json.status, json.text(), &json.stderr[..]),
+        (0, expected.to_owned(), "")
+    );
+    assert_eq!(line(&format!("explain --json 2 3 3 {image} {gaps}")), json);
+}
+
+#[test]
+fn a_long_shelf_is_drawn_in_lines() {
+    let image = image_file("long", 6, 1, &[&[5, 7]]);
+    let gaps = line("gaps 6 1 C:31-33 C:127 5:0").stdout;
+    let gaps = file("long-gaps", &gaps);
+    let answer = line(&format!("explain 6 1 1 {image} {gaps}"));
+    let lines =
+        "   shelf   holds                    positions (# read, . lost)         left         needed
+     C     all 64 records           ###############################.   124 of 128    64
+                               32   ..##############################
+                               64   ################################
+                               96   ###############################.
+     5     empty
+     4     empty
+     3     empty
+     2     empty
+     1     empty
+     0     write 0                  ##                                   2 of   2     1
+
+   All 64 records come back, each from its last write in the round, or from shelf C.
+
+   record   shelf   write
+        0       C
+        1       C
+        2       C
+        3       C
+        4       C
+        5       0       0
+        6       C
+";
+    assert_eq!(answer.status, 0);
+    assert!(answer.text().starts_with(lines), "{}", answer.text());
+    assert_eq!(answer.text().lines().count(), 15 + 64);
+}
+
 #[test]
 fn decode_each_shelf() {
     let image = image_file("shelves", 2, 1, &WRITES);
@@ -125,7 +234,32 @@ fn any_half_of_each_shelf_brings_the_records_back() {
         let lines = lines.map(|(i, sheet)| format!("{i} {}\n", spaced(sheet)));
         let expected = (0, lines.collect());
         assert_eq!((answer.status, answer.text()), expected, "{answer:?}");
+        let explained = line(&format!("explain {k} {s} {c} {image} {gaps}"));
+        let expected = origins(&input, c.parse().unwrap(), &book);
+        assert_eq!(explained.status, 0);
+        assert!(
+            explained.text().ends_with(&expected),
+            "{expected}{explained:?}"
+        );
     }
+}
+
+/// The lines of each record's origin: the last write to it among the last c, which are the round's, and the level that holds this write.
+fn origins(input: &str, c: usize, book: &[Vec<usize>]) -> String {
+    let writes: Vec<&str> = input.lines().collect();
+    let round = &writes[writes.len() - c..];
+    let mut text = String::from("   record   shelf   write\n");
+    for record in 0..book.len() {
+        let start = format!("{record} ");
+        let last = round.iter().rposition(|write| write.starts_with(&start));
+        // The levels are the bits of c, and the highest holds the first writes.
+        let holds = |write| (0..8).rev().find(|level| write >> level < c >> level);
+        text += &match last.map(|write| (holds(write), write)) {
+            Some((Some(level), write)) => format!("   {record:>6}   {level:>5}   {write:>5}\n"),
+            _ => format!("   {record:>6}       C\n"),
+        };
+    }
+    text
 }
 
 /// The lines of some writes, and the sheets that they leave.
@@ -170,6 +304,7 @@ fn demo_is_the_same_for_a_seed() {
             && text.contains("16 of 16 records are as they were last written")
     );
     assert!(text.contains("refused 7 (too few) on shelf ") && !text.contains("DIFFERENT"));
+    assert!(text.contains(" lacks 1 position: any 1 of the "));
     assert!(text.is_ascii() && text.lines().all(|line| line.len() <= 100));
     assert_eq!(line("demo --seed 7").text(), text);
     assert_ne!(line("demo --seed 8").text(), text);
@@ -181,7 +316,9 @@ fn help_of_everything() {
     let overview = line("--help");
     assert_eq!((overview.status, &overview.stderr[..]), (0, ""));
     assert_eq!(line("-h"), overview);
-    for command in ["demo", "image", "gaps", "recover", "decode", "list"] {
+    for command in [
+        "demo", "image", "gaps", "recover", "explain", "decode", "list",
+    ] {
         assert!(overview.text().contains(&format!("\n  {command} ")));
         let help = line(&format!("{command} --help"));
         assert!(help.text().starts_with(&format!("usage: vault {command} ")));

@@ -9,7 +9,7 @@ fn refused(answer: &Answer, number: u32) {
     assert_eq!(answer.stdout, [], "{answer:?}");
 }
 
-/// Checks that recovery is refused with a number on a shelf, in text and in JSON.
+/// Checks that recovery is refused with a number on a shelf, in text and in JSON, and that it is explained so.
 fn recovery_refused(words: &str, number: u32, name: &str, shelf: Option<&str>) {
     let answer = line(&format!("recover {words}"));
     refused(&answer, number);
@@ -17,11 +17,40 @@ fn recovery_refused(words: &str, number: u32, name: &str, shelf: Option<&str>) {
     let start = format!("vault: refused {number} ({name}){place}: ");
     assert!(answer.stderr.starts_with(&start), "{answer:?}");
     let json = line(&format!("recover {words} --json"));
-    let shelf = shelf.map_or("null".to_owned(), |shelf| format!("\"{shelf}\""));
-    let expected =
-        format!("{{\"number\":{number},\"name\":\"{name}\",\"shelf\":{shelf},\"records\":[]}}\n");
-    assert_eq!((json.status, json.text()), (1, expected));
+    let quoted = shelf.map_or("null".to_owned(), |shelf| format!("\"{shelf}\""));
+    let verdict = format!("{{\"number\":{number},\"name\":\"{name}\",\"shelf\":{quoted},");
+    assert_eq!(
+        (json.status, json.text()),
+        (1, format!("{verdict}\"records\":[]}}\n"))
+    );
     assert_eq!(json.stderr, "");
+    let fault = shelf.map(|shelf| format!("{number} ({name}) on shelf {shelf}"));
+    explained(words, &answer.stderr, &verdict, fault);
+}
+
+/// Checks that explaining says what recovery said. The rack is drawn where a shelf is at fault, and only there.
+fn explained(words: &str, said: &str, verdict: &str, fault: Option<String>) {
+    let answer = line(&format!("explain {words}"));
+    assert_eq!((answer.status, &answer.stderr[..]), (1, said), "{answer:?}");
+    let json = line(&format!("explain {words} --json"));
+    assert_eq!((json.status, &json.stderr[..]), (1, ""), "{json:?}");
+    let counts = match fault {
+        None => {
+            assert_eq!(answer.stdout, [], "{answer:?}");
+            "\"counts\":[],"
+        }
+        Some(fault) => {
+            let says = format!("\n   The records do not come back: {fault}.\n");
+            assert!(answer.text().starts_with("   shelf   holds "), "{answer:?}");
+            assert!(answer.text().contains(&says), "{says}: {answer:?}");
+            "\"counts\":[{\"shelf\":\"C\",\"left\":"
+        }
+    };
+    assert!(
+        json.text().starts_with(&format!("{verdict}{counts}")),
+        "{json:?}"
+    );
+    assert!(json.text().ends_with("],\"origins\":[]}\n"), "{json:?}");
 }
 
 #[test]
@@ -160,6 +189,70 @@ fn too_few() {
         recovery_refused(&format!("2 1 3 {image} {gaps}"), 7, "too few", Some(shelf));
         refused(&line(&format!("decode 2 1 3 {image} {gaps} {shelf}")), 7);
     }
+}
+
+#[test]
+fn every_shelf_that_is_short_is_told() {
+    let image = image_file("short", 4, 1, &[&[0, 1][..]; 13]);
+    let gaps = line("gaps 4 1 C:0-15 3:1-9 3:12 2:3-6 0:0-1 1:0-3").stdout;
+    let gaps = file("short-gaps", &gaps);
+    let answer = line(&format!("explain 4 1 13 {image} {gaps}"));
+    let expected =
+        "   shelf   holds                    positions (# read, . lost)         left       needed
+     C     all 16 records           ................################   16 of 32   16: just enough
+     3     writes 0 to 7            #.........##.###                    6 of 16    8: 2 too few
+     2     writes 8 to 11           ###....#                            4 of  8    4: just enough
+     1     empty
+     0     write 12                 ..                                  0 of  2    1: 1 too few
+
+   The records do not come back: 7 (too few) on shelf 3.
+   Shelf 3 lacks 2 positions: any 2 of the 10 lost ones would be enough.
+   Shelf 0 lacks 1 position: any 1 of the 2 lost ones would be enough.
+";
+    assert_eq!((answer.status, answer.text()), (1, expected.to_owned()));
+    let json = line(&format!("explain 4 1 13 {image} {gaps} --json"));
+    let expected = "{\"number\":7,\"name\":\"too few\",\"shelf\":\"3\",\"counts\":[\
+                    {\"shelf\":\"C\",\"left\":16,\"needed\":16,\"shortfall\":0},\
+                    {\"shelf\":\"3\",\"left\":6,\"needed\":8,\"shortfall\":2},\
+                    {\"shelf\":\"2\",\"left\":4,\"needed\":4,\"shortfall\":0},\
+                    {\"shelf\":\"0\",\"left\":0,\"needed\":1,\"shortfall\":1}],\"origins\":[]}\n";
+    assert_eq!((json.status, json.text()), (1, expected.to_owned()));
+    // With two more of shelf 3 and one more of shelf 0 the records come back; with one less, they do not.
+    for (positions, status) in [("3:1-7 3:12 0:1", 0), ("3:1-8 3:12 0:1", 1)] {
+        let gaps = line(&format!("gaps 4 1 C:0-15 2:3-6 {positions}")).stdout;
+        let gaps = file("short-gaps", &gaps);
+        assert_eq!(
+            line(&format!("explain 4 1 13 {image} {gaps}")).status,
+            status
+        );
+    }
+}
+
+/// Discord on the full shelf comes before a level with too few positions, which is told all the same.
+#[test]
+fn a_short_shelf_behind_another_fault() {
+    let image = image_file("behind", 2, 1, &WRITES);
+    let mut whole = bytes(image);
+    whole[4] += 1;
+    file(image, &whole);
+    let gaps = line("gaps 2 1 1:0-2").stdout;
+    let gaps = file("behind-gaps", &gaps);
+    let answer = line(&format!("explain 2 1 3 {image} {gaps}"));
+    let says = "
+   The records do not come back: 9 (discord) on shelf C.
+   Shelf 1 lacks 1 position: any 1 of the 3 lost ones would be enough.
+";
+    assert_eq!(refusal(&answer), (1, Some(9)));
+    assert!(answer.text().ends_with(says), "{answer:?}");
+    // A position that has a stray word is left.
+    whole[7] = 1;
+    file(image, &whole);
+    let stray = line(&format!("explain 2 1 3 {image} {gaps}"));
+    assert_eq!(refusal(&stray), (1, Some(8)));
+    assert_eq!(
+        stray.text(),
+        answer.text().replace("9 (discord)", "8 (stray)")
+    );
 }
 
 /// The image of WRITES with other words from some word on: recovery and decoding are refused with a number on a shelf.

@@ -28,6 +28,8 @@ fn commands_and_options() {
     bad_line("demo --seed", "--seed needs a value");
     bad_line("demo 4", "one argument too many");
     bad_line("recover 2 1 3 image gaps more", "one argument too many");
+    bad_line("explain 2 1 3 image gaps more", "one argument too many");
+    bad_line("explain 2 1 3 image --jsn", "there is no option --jsn");
     bad_line("gaps 2 1 -o", "-o needs a value");
     bad_line("list 2 1 3 --json", "there is no option --json");
     bad_line("list -- 2 1 3 --json", "cannot read \"--json\"");
@@ -40,6 +42,9 @@ fn missing_arguments() {
     bad_line("list 2 1", "C is missing");
     bad_line("list 2 1 3", "IMAGE is missing");
     bad_line("recover 2 1 3", "IMAGE is missing");
+    bad_line("explain", "K is missing");
+    bad_line("explain 2 1", "C is missing");
+    bad_line("explain 2 1 3 --json", "IMAGE is missing");
     bad_line("decode 2 1 3 image", "GAPS is missing");
     bad_line("decode 2 1 3 image -", "SHELF is missing");
     bad_line("gaps 2 1", "POSITION is missing");
@@ -61,6 +66,7 @@ fn numbers() {
         bad(["image", word, "1"], "K is ");
         bad(["image", "2", word], "S is ");
         bad(["list", "2", "1", word, "image"], "C is ");
+        bad(["explain", "2", "1", word, "image"], "C is ");
         bad(["demo", "--seed", word], "--seed is ");
         bad(["decode", "2", "1", "3", "image", "-", word], "shelf");
         bad(["gaps", "2", "1", &format!("C:{word}")], "a position in ");
@@ -68,6 +74,7 @@ fn numbers() {
     bad(["image", "", "1"], "K is empty");
     bad(["list", "2", "1", "3", ""], "IMAGE is empty");
     bad(["recover", "2", "1", "3", "/dev/null", ""], "GAPS is empty");
+    bad(["explain", "2", "1", "3", "/dev/null", ""], "GAPS is empty");
     bad(["decode", "2", "1", "3", "image", "", "0"], "GAPS is empty");
     bad(
         ["decode", "2", "1", "3", "image", "-", ""],
@@ -106,12 +113,12 @@ fn positions() {
 fn files() {
     let image = image_file("files", 2, 1, &[]);
     for file in ["no-such-file", "."] {
-        bad_line(&format!("recover 2 1 0 {file}"), "cannot read ");
-        bad_line(&format!("recover 2 1 0 {image} {file}"), "cannot read ");
-        bad_line(
-            &format!("recover 2 1 0 {image} {file} --json"),
-            "cannot read ",
-        );
+        for command in ["recover", "explain"] {
+            let words = format!("{command} 2 1 0");
+            bad_line(&format!("{words} {file}"), "cannot read ");
+            bad_line(&format!("{words} {image} {file}"), "cannot read ");
+            bad_line(&format!("{words} {image} {file} --json"), "cannot read ");
+        }
         bad_line(&format!("decode 2 1 0 {file} - C"), "cannot read ");
         bad_line(&format!("decode 2 1 0 {image} {file} C"), "cannot read ");
         bad_line(&format!("list 2 1 0 {file}"), "cannot read ");
@@ -147,6 +154,8 @@ fn outputs() {
         format!("list 10 8 0 {image}"),
         format!("recover 10 8 0 {image}"),
         format!("recover 10 8 0 {image} --json"),
+        format!("explain 10 8 0 {image}"),
+        format!("explain 10 8 0 {image} --json"),
         format!("decode 10 8 0 {image} - C"),
         "image 10 8".into(),
         "gaps 10 8 C:0-2047".into(),

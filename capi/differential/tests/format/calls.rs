@@ -1,7 +1,7 @@
 //! Calls made of the library and of reference/ side by side, which have to give and leave the same.
 use reference::header::Header as ReferenceHeader;
-use reference::{image, opening, recovery, writing};
-use vault_library::{calls, sizes, Header, Refusal, Vault};
+use reference::{explanation, image, opening, recovery, writing};
+use vault_library::{calls, sizes, Fault, Header, Refusal, Vault};
 
 /// The same header for reference/, which has its own type so as to stand alone.
 pub fn reference_header(header: Header) -> ReferenceHeader {
@@ -101,14 +101,19 @@ impl Left {
     }
 }
 
+/// The number and the stripe that a call of the library's gave.
+fn answer(given: Result<(), Fault>) -> (u32, Option<u32>) {
+    match given {
+        Ok(()) => (0, None),
+        Err(fault) => (fault.refusal.number(), fault.stripe),
+    }
+}
+
 /// Recovery.
 pub fn recover(header: Header, image: &[u8], list: &[u8]) -> Left {
     let (length, plain) = (sizes::raw(header.k, header.s), reference_header(header));
     let ours = Left::by(header, length, |out, scratch| {
-        match calls::recover(header, image, list, out, scratch) {
-            Ok(()) => (0, None),
-            Err(fault) => (fault.refusal.number(), fault.stripe),
-        }
+        answer(calls::recover(header, image, list, out, scratch))
     });
     let theirs = Left::by(header, length, |out, scratch| {
         recovery::recover(plain, image, list, out, scratch)
@@ -128,4 +133,59 @@ pub fn decode_stripe(header: Header, image: &[u8], list: &[u8], stripe: u32) -> 
         (number, None)
     });
     Left::of_both(ours, theirs)
+}
+
+/// What an explanation gave and left.
+#[derive(Debug, PartialEq)]
+pub struct Explained {
+    pub number: u32,
+    pub stripe: Option<u32>,
+    /// Nothing where the buffers are unchanged.
+    pub counts: Option<Vec<u32>>,
+    pub origins: Option<Vec<u32>>,
+}
+
+impl Explained {
+    /// Makes a call over counts, origins and a scratch buffer, whose lengths the header gives; after it the scratch buffer is as section 10 has it.
+    fn by<C>(header: Header, call: C) -> Explained
+    where
+        C: FnOnce(&mut [u32], &mut [u32], &mut [u32]) -> (u32, Option<u32>),
+    {
+        let length = [sizes::counts, sizes::origins, sizes::scratch];
+        let mut buffers = length.map(|length| vec![BEFORE; length(header.k, header.s)]);
+        let [counts, origins, scratch] = &mut buffers;
+        let (number, stripe) = call(counts, origins, scratch);
+        let unchanged = (1..=6).contains(&number);
+        let word = if unchanged { BEFORE } else { 0 };
+        assert!(scratch.iter().all(|&x| x == word));
+        let words = buffers.iter().take(2).flatten();
+        assert!(!unchanged || words.copied().all(|x| x == BEFORE));
+        let [counts, origins, _] = buffers.map(|words| Some(words).filter(|_| !unchanged));
+        Explained {
+            number,
+            stripe,
+            counts,
+            origins,
+        }
+    }
+}
+
+/// The explanation of a recovery, which has the number and the stripe of that recovery.
+pub fn explain(header: Header, image: &[u8], list: &[u8]) -> Explained {
+    let plain = reference_header(header);
+    let ours = Explained::by(header, |counts, origins, scratch| {
+        answer(calls::explain(
+            header, image, list, counts, origins, scratch,
+        ))
+    });
+    let theirs = Explained::by(header, |counts, origins, scratch| {
+        explanation::explain(plain, image, list, counts, origins, scratch)
+    });
+    assert_eq!(ours, theirs, "the library's, and that of reference/");
+    let recovered = recover(header, image, list);
+    assert_eq!(
+        (ours.number, ours.stripe),
+        (recovered.number, recovered.stripe)
+    );
+    ours
 }

@@ -1,7 +1,7 @@
 //! The whole image of section 12: what the document tells of it, and the vault that is made by it.
 use crate::calls::Both;
 use crate::document::{said, section};
-use crate::forms::{fit, low_byte_first, number, numbers, pairs};
+use crate::forms::{bytes, fit, header, holes, low_byte_first, number, numbers, pairs};
 use crate::places::{positions, Position};
 use vault_library::Header;
 
@@ -97,6 +97,26 @@ impl Example {
             put(&mut records, *record, block);
         }
         records
+    }
+
+    /// The header, the image and the erasure list that the first cells of a row tell.
+    pub fn given(&self, row: &[&str]) -> (Header, Vec<u8>, Vec<u8>) {
+        let [name, altered] = holes(row[1], "{}, {}").unwrap_or([row[1], ""]);
+        let mut image = match name {
+            "whole" => self.whole.clone(),
+            "damaged" => self.damaged.clone(),
+            _ => panic!("not understood: {row:?}"),
+        };
+        if !altered.is_empty() {
+            let [at, byte] = fit(altered, "byte {} is {}");
+            image[number(at) as usize] = bytes(byte)[0];
+        }
+        let list = match row[2] {
+            "empty" => Vec::new(),
+            "L" => self.list.clone(),
+            other => low_byte_first(pairs(other).concat()),
+        };
+        (header(row[0]), image, list)
     }
 
     /// All positions of the image.

@@ -56,6 +56,15 @@ pub fn pairs(text: &str) -> Vec<[u32; 2]> {
     inner.split("), (").map(pair).collect()
 }
 
+/// A number and the stripe that came with it, as the document writes them: 0; 3, no stripe; 7, stripe 2.
+pub fn answer(number: u32, stripe: Option<u32>) -> String {
+    match (number, stripe) {
+        (0, None) => "0".to_string(),
+        (refusal, None) => format!("{refusal}, no stripe"),
+        (refusal, Some(stripe)) => format!("{refusal}, stripe {stripe}"),
+    }
+}
+
 /// Words as they stand in images and erasure lists.
 pub fn low_byte_first(words: impl IntoIterator<Item = u32>) -> Vec<u8> {
     words.into_iter().flat_map(u32::to_le_bytes).collect()

@@ -3,6 +3,7 @@
 mod calls;
 mod document;
 mod example;
+mod explanations;
 mod forms;
 mod image;
 mod levels;

@@ -50,6 +50,11 @@ fn length(what: &str, formula: &str, k: u32, s: u32) -> [usize; 3] {
             let formula = n * width + 4 * n;
             [formula, sizes::scratch(k, s), header.scratch_len()]
         }
+        ("counts of explain", "2(k + 1)") => {
+            let formula = 2 * (k as usize + 1);
+            [formula, sizes::counts(k, s), header.counts_len()]
+        }
+        ("origins of explain", "2n") => [2 * n, sizes::origins(k, s), header.origins_len()],
         ("image, bytes", "4(s + 1)(4n - 2)") => {
             let formula = 4 * width * (4 * n - 2);
             [formula, sizes::image(k, s), header.image_len()]
@@ -59,8 +64,8 @@ fn length(what: &str, formula: &str, k: u32, s: u32) -> [usize; 3] {
 }
 
 /// Makes the library's calls over buffers of these lengths: those of the table in its order, and the output of recovery.
-fn all_calls(k: u32, s: u32, lengths: [usize; 8]) -> Result<(), Refusal> {
-    let [block, raw, full, log, blocks, scratch, image, records] = lengths;
+fn all_calls(k: u32, s: u32, lengths: [usize; 10]) -> Result<(), Refusal> {
+    let [block, raw, full, log, blocks, scratch, counts, origins, image, records] = lengths;
     let words = |length| vec![0; length];
     let (mut raw, mut full, mut log) = (words(raw), words(full), words(log));
     let (mut scratch, mut image) = (words(scratch), vec![0; image]);
@@ -68,7 +73,9 @@ fn all_calls(k: u32, s: u32, lengths: [usize; 8]) -> Result<(), Refusal> {
     calls::write(&mut header, &mut raw, &mut full, &mut log, 0, &words(block))?;
     calls::image(header, &full, &log, &mut image)?;
     calls::decode(header, &image, &[], k, &mut words(blocks), &mut scratch)?;
+    let (mut counts, mut origins) = (words(counts), words(origins));
     calls::recover(header, &image, &[], &mut words(records), &mut scratch)
+        .and_then(|()| calls::explain(header, &image, &[], &mut counts, &mut origins, &mut scratch))
         .map_err(|fault| fault.refusal)
 }
 
@@ -77,7 +84,7 @@ fn all_calls(k: u32, s: u32, lengths: [usize; 8]) -> Result<(), Refusal> {
 fn section_3_lengths() {
     let lines = section("## 3 ");
     let head = "| what | length | k=1 s=1 | k=2 s=1 | k=2 s=3 | k=4 s=2 | k=5 s=16 | k=10 s=3 | k=10 s=128 |";
-    let rows = table(&lines, head, 7);
+    let rows = table(&lines, head, 9);
     for (column, name) in cells(head).into_iter().enumerate().skip(2) {
         let [k, s] = fit(name, "k={} s={}").map(number);
         let mut lengths = Vec::new();
@@ -87,7 +94,7 @@ fn section_3_lengths() {
             lengths.push(given);
         }
         lengths.push(lengths[1]);
-        let lengths = lengths.try_into().expect("seven lengths");
+        let lengths = lengths.try_into().expect("nine lengths and one more");
         assert_eq!(all_calls(k, s, lengths), Ok(()));
         for i in 0..lengths.len() {
             for other in [lengths[i] - 1, lengths[i] + 1] {

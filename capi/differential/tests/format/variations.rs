@@ -2,7 +2,7 @@
 use crate::calls::{decode_stripe, recover, reference_header, Left};
 use crate::document::{said, table};
 use crate::example::{put, Example, LOST};
-use crate::forms::{bytes, fit, header, holes, low_byte_first, number, numbers, pairs};
+use crate::forms::{self, bytes, fit, header, holes, number, numbers};
 use crate::places::erased;
 use reference::{decode, erasures, image};
 use vault_library::{sizes, Header};
@@ -19,22 +19,7 @@ struct Variation<'a> {
 impl Variation<'_> {
     /// Reads the row but for its last cell, and recovers.
     fn new<'a>(example: &'a Example, row: &[&str]) -> Variation<'a> {
-        let header = header(row[0]);
-        let [name, altered] = holes(row[1], "{}, {}").unwrap_or([row[1], ""]);
-        let mut image = match name {
-            "whole" => example.whole.clone(),
-            "damaged" => example.damaged.clone(),
-            _ => panic!("not understood: {row:?}"),
-        };
-        if !altered.is_empty() {
-            let [at, byte] = fit(altered, "byte {} is {}");
-            image[number(at) as usize] = bytes(byte)[0];
-        }
-        let list = match row[2] {
-            "empty" => Vec::new(),
-            "L" => example.list.clone(),
-            other => low_byte_first(pairs(other).concat()),
-        };
+        let (header, image, list) = example.given(row);
         let left = recover(header, &image, &list);
         Variation {
             example,
@@ -42,15 +27,6 @@ impl Variation<'_> {
             image,
             list,
             left,
-        }
-    }
-
-    /// The number and the stripe, as the document writes them.
-    fn answer(&self) -> String {
-        match (self.left.number, self.left.stripe) {
-            (0, None) => "0".to_string(),
-            (refusal, None) => format!("{refusal}, no stripe"),
-            (refusal, Some(stripe)) => format!("{refusal}, stripe {stripe}"),
         }
     }
 
@@ -138,8 +114,9 @@ fn section_12_variations() {
         let end = row[3].find([':', ';']).unwrap_or(row[3].len());
         let (answer, rest) = row[3].split_at(end);
         let remark = rest.trim_start_matches([':', ';', ' ']);
-        assert_eq!(answer, variation.answer(), "{row:?}");
-        if variation.left.number == 0 {
+        let Left { number, stripe, .. } = variation.left;
+        assert_eq!(answer, forms::answer(number, stripe), "{row:?}");
+        if number == 0 {
             assert_eq!(variation.left.out, variation.records(remark), "{row:?}");
         } else {
             variation.remark_holds(remark);

@@ -2,6 +2,7 @@
 mod rack;
 mod sheets;
 
+use super::explain::{shortfalls, source, SOURCE};
 use super::recover::{recovered, refused};
 use super::Command;
 use crate::arguments::{number, Arguments, Options};
@@ -12,7 +13,7 @@ use rack::Rack;
 use random::Random;
 use sheets::{Sheet, OPENED, WRITTEN};
 use std::time::{SystemTime, UNIX_EPOCH};
-use vault_library::{stripes, Header, Vault};
+use vault_library::{stripes, Explanation, Header, Origin, Vault};
 
 pub const COMMAND: Command = Command {
     name: "demo",
@@ -21,8 +22,8 @@ pub const COMMAND: Command = Command {
 usage: vault demo [--seed N]
 
 Shows the vault at work on data of its own: writes the sheets of a pressing, draws the rack,
-loses half of every shelf at random, brings all records back, then loses one position too
-many. No file is read or written.
+loses half of every shelf at random, brings all records back and says where each sheet came
+from, then loses one position too many and says what is missing. No file is read or written.
 
   --seed N  lose the same positions as the run that printed this seed; without it, each run
             loses others
@@ -66,7 +67,7 @@ fn story(seed: u32) -> Result<String, Failure> {
     let mut text = INTRODUCTION.to_owned();
 
     text += "\n1. THE RACK. A shelf spreads the sheets it holds over all of its positions.\n\n";
-    text += &rack.picture();
+    text += &rack.picture(&rack.explained()?.counts).rack();
 
     for stripe in header.stripes() {
         for _ in 0..stripes::positions(stripe) / 2 {
@@ -75,16 +76,17 @@ fn story(seed: u32) -> Result<String, Failure> {
     }
     text += "\n2. THE LOSS. Half of every shelf is lost, picked at random ";
     text += &format!("(seed {seed}).\n\n");
-    text += &rack.picture();
+    let Explanation { counts, origins } = rack.explained()?;
+    text += &rack.picture(&counts).rack();
 
-    let records =
-        recovered(header, &rack.image, &rack.gaps()).map_err(|fault| refused(header, fault))?;
-    text += "\n3. THE RECOVERY. All sheets, from the halves that are left.\n\n";
-    text += &comparison(&written, &records);
+    let refused = |fault| refused(header, fault);
+    let records = recovered(header, &rack.image, &rack.gaps()).map_err(refused)?;
+    text += "\n3. THE RECOVERY. All sheets, from the halves that are left, and where each came from.\n\n";
+    text += &comparison(header, &written, &records, &origins.map_err(refused)?);
 
     text += "\n4. ONE POSITION MORE. ";
-    text += &one_more(header, &mut rack, &mut random);
-    text += "\n\nThe same again: vault demo --seed ";
+    text += &one_more(header, &mut rack, &mut random)?;
+    text += "\nThe same again: vault demo --seed ";
     text += &format!("{seed}. With your own files: vault --help.\n");
     Ok(text)
 }
@@ -100,37 +102,43 @@ fn pressing() -> Result<(Vault, [Sheet; OPENED.len()]), Failure> {
     Ok((vault, written))
 }
 
-/// Loses a position of any shelf, and tells what recovery says.
-fn one_more(header: Header, rack: &mut Rack, random: &mut Random) -> String {
+/// Loses a position of any shelf, and tells what recovery says, and what would help.
+fn one_more(header: Header, rack: &mut Rack, random: &mut Random) -> Result<String, Failure> {
     let filled: Vec<u32> = header.stripes().collect();
     let stripe = *random.one(&filled);
     let position = rack.lose(stripe, random);
     let shelf = shelf_name(K, stripe);
     let mut text = format!("Position {position} of shelf {shelf} is lost too.\n\n");
-    text += &rack.shelf(stripe);
+    let counts = rack.explained()?.counts;
+    text += &rack.picture(&counts).shelf(stripe);
     text += "\n   The vault does not guess. Recovery is\n   ";
     text += &match recovered(header, &rack.image, &rack.gaps()) {
         Ok(_) => "taken".into(),
         Err(fault) => refused(header, fault).to_string(),
     };
-    text
+    text += "\n\n";
+    Ok(text + &shortfalls(header, &counts))
 }
 
-/// A line for each record: what was written to it last, and what came back.
-fn comparison(written: &[Sheet], recovered: &[u32]) -> String {
+/// A line for each record: what was written to it last, what came back, and from where.
+fn comparison(header: Header, written: &[Sheet], recovered: &[u32], origins: &[Origin]) -> String {
     let columns = |sheet: &[u32]| format!("{:>4} {:>6} {:>7}", sheet[0], sheet[1], sheet[2]);
     let names = "step   mbar  litres";
-    let mut text = format!("   {:<21}{:<24}recovered\n", "", "written last");
-    text += &format!("   record   day         {names}     {names}\n");
+    let mut text = format!(
+        "   {:<21}{:<24}{:<22}from\n",
+        "", "written last", "recovered"
+    );
+    text += &format!("   record   day         {names}     {names}   {SOURCE}\n");
     let mut same = 0;
-    for (record, sheet) in written.iter().enumerate() {
+    for (record, (sheet, &origin)) in written.iter().zip(origins).enumerate() {
         let back = &recovered[record * sheet.len()..][..sheet.len()];
         let today = WRITTEN.iter().any(|write| write.0 as usize == record);
         let day = if today { "today" } else { "yesterday" };
         let verdict = if back == sheet { "same" } else { "DIFFERENT" };
         same += usize::from(back == sheet);
         let (sheet, back) = (columns(sheet), columns(back));
-        text += &format!("   {record:>6}   {day:<9}   {sheet}     {back}   {verdict}\n");
+        let from = source(header, origin);
+        text += &format!("   {record:>6}   {day:<9}   {sheet}     {back}   {from}   {verdict}\n");
     }
     let all = written.len();
     text + &format!("\n   {same} of {all} records are as they were last written.\n")

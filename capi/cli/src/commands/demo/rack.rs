@@ -1,9 +1,8 @@
 //! A rack that loses positions: its image, its gap list, and its picture.
-use crate::rack::shelf_name;
+use crate::picture::Picture;
 use random::Random;
-use std::cmp::Ordering;
 use std::collections::BTreeSet;
-use vault_library::{erasures, stripes, Header};
+use vault_library::{erasures, stripes, Count, Explanation, Header, Refusal};
 
 pub struct Rack {
     header: Header,
@@ -43,54 +42,25 @@ impl Rack {
         erasures::list(self.lost.iter().map(bytes).collect())
     }
 
-    /// A line for each shelf, the oldest first: the full shelf, then the levels down to the newest.
-    pub fn picture(&self) -> String {
-        let heading = line(
-            "shelf",
-            "holds",
-            "positions (# read, . lost)",
-            "read",
-            "needed",
-        );
-        let shelves = (0..=self.header.k).rev();
-        heading + &shelves.map(|stripe| self.shelf(stripe)).collect::<String>()
+    /// What the vault says of it.
+    pub fn explained(&self) -> Result<Explanation, Refusal> {
+        Explanation::new(self.header, &self.image, &self.gaps())
     }
 
-    /// The line of a shelf: a character for each position, and the counts.
-    pub fn shelf(&self, stripe: u32) -> String {
-        let Header { k, .. } = self.header;
-        let name = format!("  {}", shelf_name(k, stripe));
-        if !self.header.filled(stripe) {
-            return line(&name, "empty", "", "", "");
-        }
-        let sheets = 1 << stripe;
-        let day = if stripe == k { "yesterday" } else { "today" };
-        let plural = if sheets == 1 { "" } else { "s" };
-        let holds = format!("{sheets} sheet{plural} of {day}");
-        let all = stripes::positions(stripe);
-        let mut drawn = vec!['#'; all];
-        for &(_, position) in self.lost.iter().filter(|lost| lost.0 == stripe) {
-            drawn[position] = '.';
-        }
-        let read = self.survivors(stripe).len();
-        let needed = match read.cmp(&sheets) {
-            Ordering::Less => format!("{sheets:>2}: too few"),
-            Ordering::Equal => format!("{sheets:>2}: just enough"),
-            Ordering::Greater => format!("{sheets:>2}"),
-        };
-        let drawn = String::from_iter(drawn);
-        line(
-            &name,
-            &holds,
-            &drawn,
-            &format!("{read:>2} of {all:>2}"),
-            &needed,
-        )
+    /// Its picture, with the counts that the vault gave.
+    pub fn picture<'a>(&self, counts: &'a [Count]) -> Picture<'a> {
+        Picture::new(self.header, &self.gaps(), counts, holds)
     }
 }
 
-/// A line of the picture.
-fn line(shelf: &str, holds: &str, positions: &str, read: &str, needed: &str) -> String {
-    let line = format!("   {shelf:<5}   {holds:<22}   {positions:<32}   {read:<8}   {needed}");
-    line.trim_end().to_owned() + "\n"
+/// The full shelf was built of yesterday's sheets.
+fn holds(header: Header, stripe: u32) -> String {
+    let sheets = 1 << stripe;
+    let day = if stripe == header.k {
+        "yesterday"
+    } else {
+        "today"
+    };
+    let plural = if sheets == 1 { "" } else { "s" };
+    format!("{sheets} sheet{plural} of {day}")
 }
