@@ -20,7 +20,9 @@ fn positions_left(header: Header, erasures: &[u8], level: usize) -> usize
 {
     let mut marks = [false; 2048];
     image::erasures::mark_stripe(header, erasures, level, &mut marks);
-    code::number::two_to(level + 1) - decoder::decoding::count_erased(&marks, level)
+    let all = code::number::two_to(level + 1);
+    let erased = decoder::decoding::count_erased(&marks, level);
+    all - erased
 }
 
 // Stores the counts of a stripe: the positions left, and how many more it needs; zeros if recovery does not need it.

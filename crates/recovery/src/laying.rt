@@ -38,11 +38,11 @@ fn lay_origins(st: Stripe, blocks: &[u32], out: &mut [u32])
     let level = st.level;
     let first = st.first;
     let rows = code::number::two_to(level);
-    let mut at = 0;
-    for j in 0..rows {
-        let write = first + j;
-        crate::pairs::put_pair(out, blocks[at] as usize, level as u32, write as u32);
-        at += width;
+    let mut from = 0;
+    for i in 0..rows {
+        let write = first + i;
+        crate::pairs::put_pair(out, blocks[from] as usize, level as u32, write as u32);
+        from += width;
     }
 }
 

@@ -1,4 +1,4 @@
--- `recovery::laying::lay_origins` meets its contract. The invariant: the origins of the first j blocks are laid. Assumes nothing.
+-- `recovery::laying::lay_origins` meets its contract. The invariant: the origins of the first i blocks are laid. Assumes nothing.
 use mathlib.Core.Path.{_≡_, refl, sym, ap, _∙_}
 use mathlib.Core.List.{[], _∷_}
 use Prim.Native.Nat.{ℕ, suc, _+_, _*_, _-_, _^_, _≤_, _<_}
@@ -13,10 +13,10 @@ use Rattle.recovery.proofs.laying.lay_origins.Statement.{statement}
 use Rattle.recovery.proofs.laying.lay_origins.Tie as tie
 
 abbrev Inv-loop : tie.InvT-loop
-Inv-loop blocks out₀ width level first rows at₀ j₀ out at j = Naming width level first blocks rows out₀ out at j
+Inv-loop blocks out₀ width level first rows from₀ i₀ out from i = Naming width level first blocks rows out₀ out from i
 
 abbrev μ-loop : tie.MeasureT-loop
-μ-loop blocks out₀ width level first rows at₀ j₀ out at j = rows - j
+μ-loop blocks out₀ width level first rows from₀ i₀ out from i = rows - i
 
 -- PLACES: `x-at-y c` is the place x that stands before y
 abbrev start-at-two-to : tie.After-two-to Inv-loop μ-loop → tie.Start Inv-loop μ-loop
@@ -29,17 +29,17 @@ loop-holds : tie.Need-loop-holds Inv-loop μ-loop
 loop-holds c = naming-start _ _ _ _ _ _
 
 -- in a turn: the block is there, and the number of its write is small
-reads : (d : tie.In-loop Inv-loop μ-loop) → let a = start-at-two-to (d .before .before) .args in d .before .loop .at + a .st .width ≤ length (a .blocks .now)
+reads : (d : tie.In-loop Inv-loop μ-loop) → let a = start-at-two-to (d .before .before) .args in d .before .loop .from + a .st .width ≤ length (a .blocks .now)
 reads d =
     let t = d .before .before in
     let s = start-at-two-to t in
-    let b : suc (d .before .loop .j) ≤ blockCount (s .args .st) = omega (arith, d .loop-test .taken, t .two-to .ensures) in
+    let b : suc (d .before .loop .i) ≤ blockCount (s .args .st) = omega (arith, d .loop-test .taken, t .two-to .ensures) in
     omega (arith, s .pre .1 .0, d .before .loop .inv .stands, mul-le-mul-right (s .args .st .width) b)
 
-inside : (d : tie.In-loop Inv-loop μ-loop) → d .before .loop .at < length (start-at-two-to (d .before .before) .args .blocks .now)
+inside : (d : tie.In-loop Inv-loop μ-loop) → d .before .loop .from < length (start-at-two-to (d .before .before) .args .blocks .now)
 inside d = omega (arith, reads d, start-at-two-to (d .before .before) .pre .0 .thick)
 
-small : (d : tie.In-loop Inv-loop μ-loop) → start-at-two-to (d .before .before) .args .st .first + d .before .loop .j < 65536
+small : (d : tie.In-loop Inv-loop μ-loop) → start-at-two-to (d .before .before) .args .st .first + d .before .loop .i < 65536
 small d =
     let t = d .before .before in
     omega (arith, d .loop-test .taken, t .two-to .ensures, start-at-two-to t .pre .0 .numbers .ends)
@@ -54,7 +54,7 @@ shared-slice-read-put-pair : tie.Need-shared-slice-read-put-pair Inv-loop μ-loo
 shared-slice-read-put-pair c = inside (c .before .before)
 
 cast-put-pair : tie.Need-cast-put-pair Inv-loop μ-loop
-cast-put-pair c = omega (arith, c .shared-slice-known2 .given (c .before .before .before .loop .at))
+cast-put-pair c = omega (arith, c .shared-slice-known2 .given (c .before .before .before .loop .from))
 
 cast-put-pair-2 : tie.Need-cast-put-pair-2 Inv-loop μ-loop
 cast-put-pair-2 c =
@@ -69,13 +69,13 @@ put-pair-requires c κs =
     let turn = c .before .before in
     let t = turn .before .before in
     let i = turn .before .loop .inv in
-    rw (i .same, i .stands) (start-at-two-to t .pre .1 .1 (turn .before .loop .j) (omega (arith, turn .loop-test .taken, t .two-to .ensures)))
+    rw (i .same, i .stands) (start-at-two-to t .pre .1 .1 (turn .before .loop .i) (omega (arith, turn .loop-test .taken, t .two-to .ensures)))
 
-add-at : tie.Need-add-at Inv-loop μ-loop
-add-at c = omega (arith, reads (c .before .before .before .before .before))
+add-from : tie.Need-add-from Inv-loop μ-loop
+add-from c = omega (arith, reads (c .before .before .before .before .before))
 
-add-j : tie.Need-add-j Inv-loop μ-loop
-add-j c = omega arith
+add-i : tie.Need-add-i Inv-loop μ-loop
+add-i c = omega arith
 
 loop-less : tie.Need-loop-less Inv-loop μ-loop
 loop-less c = omega arith
@@ -110,8 +110,8 @@ lay-origins-spec =
     cast-put-pair-2
     cast-put-pair-3
     put-pair-requires
-    add-at
-    add-j
+    add-from
+    add-i
     loop-less
     loop-again
     same-length
