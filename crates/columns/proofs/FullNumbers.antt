@@ -1,4 +1,4 @@
--- The full stripe's number: what the numbers of its columns say of it, and what it decodes to by it. Assumes nothing.
+-- The full stripe's number: what the numbers of its ranges say of it, and what is left of an output by it. Assumes nothing.
 use mathlib.Core.Path.{_≡_, refl, sym, ap, _∙_}
 use mathlib.Core.Bool.{Bool, true, false, _&&_, and-true}
 use mathlib.Core.List.{List, _++_, append-nil}
@@ -19,43 +19,43 @@ use Rattle.rows.specs.steps.Ready.{Ready}
 use Rattle.rows.proofs.BlockRecords.{number-full}
 use Rattle.rows.proofs.ColumnRanges.{columns-all, columns-row}
 use Rattle.rows.proofs.RowParts.{length-blocks}
-use Rattle.columns.specs.steps.Ranges.{placesTo, dataTo, columnsFit, columnsNumber, withoutFirst, Decodable}
+use Rattle.columns.specs.steps.Ranges.{placesTo, dataTo, columnsFit, rangeNumber, withoutFirst, Decodable}
 use Rattle.columns.specs.steps.Full.{decodedData}
 use Rattle.columns.proofs.TestedRows.{Tested, tested-same, tested-both, places-tested, data-tested, fit-first}
 
--- THE NUMBER OF SOME COLUMNS by the two tests, and what it says of them
-pub columns-nine : {c : Bool} (b : Bool) → c ≡ false → columnsNumber c b ≡ 9
-unfolding columnsNumber
-columns-nine b e = rw e
+-- THE NUMBER OF A RANGE of columns by the two tests, and what it says of them
+pub range-nine : {c : Bool} (b : Bool) → c ≡ false → rangeNumber c b ≡ 9
+unfolding rangeNumber
+range-nine b e = rw e
 
-pub columns-zero : {c b : Bool} → c ≡ true → b ≡ true → columnsNumber c b ≡ 0
-unfolding columnsNumber
-columns-zero e f = rw (e, f)
+pub range-zero : {c b : Bool} → c ≡ true → b ≡ true → rangeNumber c b ≡ 0
+unfolding rangeNumber
+range-zero e f = rw (e, f)
 
-pub columns-ten : {c b : Bool} → c ≡ true → b ≡ false → columnsNumber c b ≡ 10
-unfolding columnsNumber
-columns-ten e f = rw (e, f)
+pub range-ten : {c b : Bool} → c ≡ true → b ≡ false → rangeNumber c b ≡ 10
+unfolding rangeNumber
+range-ten e f = rw (e, f)
 
-pub nine-differs : (c b : Bool) → columnsNumber c b ≡ 9 → c ≡ false
-unfolding columnsNumber
+pub nine-differs : (c b : Bool) → rangeNumber c b ≡ 9 → c ≡ false
+unfolding rangeNumber
 nine-differs true true e = absurd (omega (arith, e))
 nine-differs true false e = absurd (omega (arith, e))
 nine-differs false b e = refl
 
-pub else-agrees : (c b : Bool) → (columnsNumber c b ≡ 9 → ⊥) → c ≡ true
-unfolding columnsNumber
+pub else-agrees : (c b : Bool) → (rangeNumber c b ≡ 9 → ⊥) → c ≡ true
+unfolding rangeNumber
 else-agrees true b d = refl
 else-agrees false b d = absurd (d refl)
 
--- columns of which `a` says whether they fit, and a range behind them that agrees
-pub ten-more : {n : ℕ} (a b : Bool) → n ≡ columnsNumber true b → (n ≡ 0 → ⊥) → n ≡ columnsNumber true (a && b)
-ten-more a true e d = absurd (d (e ∙ columns-zero refl refl))
+-- the number of columns that `a` says whether they fit, and of a range behind them: 10 stays, or comes with the range
+pub ten-more : {n : ℕ} (a b : Bool) → n ≡ rangeNumber true b → (n ≡ 0 → ⊥) → n ≡ rangeNumber true (a && b)
+ten-more a true e d = absurd (d (e ∙ range-zero refl refl))
 ten-more true false e d = e
 ten-more false false e d = e
 
-pub zero-more : {n m : ℕ} (a b : Bool) → n ≡ columnsNumber true b → n ≡ 0 → m ≡ columnsNumber true a → m ≡ columnsNumber true (a && b)
-zero-more a true e z q = q ∙ ap (columnsNumber true) (sym (and-true a))
-zero-more a false e z q = absurd (omega (arith, sym z ∙ e ∙ columns-ten refl refl))
+pub zero-more : {n m : ℕ} (a b : Bool) → n ≡ rangeNumber true b → n ≡ 0 → m ≡ rangeNumber true a → m ≡ rangeNumber true (a && b)
+zero-more a true e z q = q ∙ ap (rangeNumber true) (sym (and-true a))
+zero-more a false e z q = absurd (omega (arith, sym z ∙ e ∙ range-ten refl refl))
 
 -- THE RECORDS of the full stripe: numbers are places, and the other columns are data
 module _ (st : Stripe) (bs : List ℕ) where
@@ -77,20 +77,21 @@ module _ (st : Stripe) (ms : List Bool) (r : List ℕ) where
   abbrev bs : List ℕ
   bs = blocksIn st ms r
 
+  -- by its two tests
   abbrev by : (isConsistent areRecords : Bool) → Decoded
   by c b = elim c [ true ↦ elim b [ true ↦ decoded bs | false ↦ failed 10 ] | false ↦ failed 9 ]
 
   pub solved-number : st .level ≡ st .k → 0 < st .width
-      → columnsNumber (isConsistent st ms r) (columnsFit (st .width) 0 0 (st .width) bs (blockCount st)) ≡ decodedNumber (solved st ms r)
+      → rangeNumber (isConsistent st ms r) (columnsFit (st .width) 0 0 (st .width) bs (blockCount st)) ≡ decodedNumber (solved st ms r)
   solved-number full z =
-      ap (columnsNumber (isConsistent st ms r))
+      ap (rangeNumber (isConsistent st ms r))
       (fit-first (st .width) 0 0 (st .width) bs (blockCount st) (omega arith) z ∙ sym (records-full st bs full (blockCount st)))
       ∙ is (isConsistent st ms r) (areRecords st bs (blockCount st))
     where
-      is : (c b : Bool) → columnsNumber c b ≡ decodedNumber (by c b)
-      is true true = columns-zero refl refl
-      is true false = columns-ten refl refl
-      is false b = columns-nine b refl
+      is : (c b : Bool) → rangeNumber c b ≡ decodedNumber (by c b)
+      is true true = range-zero refl refl
+      is true false = range-ten refl refl
+      is false b = range-nine b refl
 
   zero-agrees : decodedNumber (solved st ms r) ≡ 0 → isConsistent st ms r ≡ true
   zero-agrees z = is (isConsistent st ms r) (areRecords st bs (blockCount st)) z
@@ -118,7 +119,7 @@ module _ (st : Stripe) (ms : List Bool) (r : List ℕ) where
           q (zero-agrees t) ∙ ap (λ (y : List ℕ). x ++ y) (drop-of-length-le o₀ {i = size} (omega arith)) ∙ append-nil x
           ∙ sym (if-taken x (replicate size 0) t)
 
-  -- which is what the decoded comes to by a function F
+  -- which is a function of what the stripe decodes to
   solved-leaves : (F : Decoded → List ℕ) (x z : List ℕ) → F (decoded bs) ≡ x → ((n : ℕ) → F (failed n) ≡ z)
       → ifTaken (decodedNumber (solved st ms r)) x z ≡ F (solved st ms r)
   solved-leaves F x z ex ez = is (isConsistent st ms r) (areRecords st bs (blockCount st))

@@ -14,14 +14,14 @@ use Rattle.code.specs.declared.Stripe.{Stripe}
 use Rattle.code.specs.Stripe.{modulusOf, blockCount, positionCount}
 use Rattle.image.specs.steps.Loading.{columnsOf}
 use Rattle.decoder.specs.steps.Decoder.{weightsIn}
-use Rattle.columns.specs.steps.Ranges.{copiedRows, columnsFit, RangeFits, isConsistentRange, columnsNumber, scratchWords}
+use Rattle.columns.specs.steps.Ranges.{copiedRows, columnsFit, RangeFits, isConsistentRange, rangeNumber, scratchWords}
 use Rattle.columns.specs.steps.Ranges.{fitRange, rangeTaken, withoutFirst}
 use Rattle.field.proofs.Booleans.{both-true, first-false, second-false}
 use Rattle.rows.specs.Decoding.{decodedNumber, solved}
 use Rattle.rows.proofs.ColumnRanges.{is-columns, consistent-range}
 use Rattle.columns.proofs.CopiedRows.{length-copied, copied-at, copied-off}
 use Rattle.columns.proofs.TestedRows.{fit-none, fit-more}
-use Rattle.columns.proofs.FullNumbers.{columns-zero, nine-differs, else-agrees, ten-more, zero-more, solved-number}
+use Rattle.columns.proofs.FullNumbers.{range-zero, nine-differs, else-agrees, ten-more, zero-more, solved-number}
 
 -- THE ROWS of which the columns from `skip` up to `from` are copied
 pub record Filled (w skip from n : ℕ) (bs o₀ o : List ℕ) : Type 0 where
@@ -102,7 +102,7 @@ module _ (st : Stripe) (ms : List Bool) (r : List ℕ) (skip : ℕ) (o₀ : List
     pub sized : length s ≡ scratchWords st
     pub weighed : drop (scratchWords st - positionCount st) s ≡ weightsIn st ms
     pub agreed : areConsistent from ≡ true
-    pub numbered : number ≡ columnsNumber true (fitTo from)
+    pub numbered : number ≡ rangeNumber true (fitTo from)
     pub copied : Filled (st .width) skip from (blockCount st) (blocksIn st ms r) o₀ o
 
   pub ranging-start : (s : List ℕ) → length s ≡ scratchWords st → drop (scratchWords st - positionCount st) s ≡ weightsIn st ms → Ranging o₀ s 0 0
@@ -112,12 +112,12 @@ module _ (st : Stripe) (ms : List Bool) (r : List ℕ) (skip : ℕ) (o₀ : List
     sized = e;
     weighed = d;
     agreed = refl;
-    numbered = sym (columns-zero refl (fit-none (st .width) (blocksIn st ms r) (blockCount st)));
+    numbered = sym (range-zero refl (fit-none (st .width) (blocksIn st ms r) (blockCount st)));
     copied = filled-none (st .width) skip (blockCount st) (blocksIn st ms r) o₀;
   }
 
   module _ {o s : List ℕ} {number from : ℕ} (R : Ranging o s number from) {cols found : ℕ} (f : RangeFits st from cols)
-      (e : found ≡ columnsNumber (isConsistentRange st ms r from cols) (fitRange st ms r from cols)) where
+      (e : found ≡ rangeNumber (isConsistentRange st ms r from cols) (fitRange st ms r from cols)) where
     -- a range that is not consistent
     pub ranging-fails : found ≡ 9 → isConsistent st ms r ≡ false
     ranging-fails n =
@@ -130,22 +130,22 @@ module _ (st : Stripe) (ms : List Bool) (r : List ℕ) (skip : ℕ) (o₀ : List
       fine : isConsistentRange st ms r from cols ≡ true
       fine = else-agrees (isConsistentRange st ms r from cols) (fitRange st ms r from cols) (λ n. d (e ∙ n))
 
-      one : found ≡ columnsNumber true (fitRange st ms r from cols)
-      one = e ∙ ap (λ (c : Bool). columnsNumber c (fitRange st ms r from cols)) fine
+      one : found ≡ rangeNumber true (fitRange st ms r from cols)
+      one = e ∙ ap (λ (c : Bool). rangeNumber c (fitRange st ms r from cols)) fine
 
       both : fitTo (from + cols) ≡ (fitTo from && fitRange st ms r from cols)
       both = fit-more (st .width) from cols (blocksIn st ms r) (blockCount st) (f .some)
 
-      pub number-found : {number′ : ℕ} → (found ≡ 0 → ⊥) → number′ ≡ found → number′ ≡ columnsNumber true (fitTo (from + cols))
-      number-found z q = q ∙ ten-more (fitTo from) (fitRange st ms r from cols) one z ∙ ap (columnsNumber true) (sym both)
+      pub number-found : {number′ : ℕ} → (found ≡ 0 → ⊥) → number′ ≡ found → number′ ≡ rangeNumber true (fitTo (from + cols))
+      number-found z q = q ∙ ten-more (fitTo from) (fitRange st ms r from cols) one z ∙ ap (rangeNumber true) (sym both)
 
-      pub number-kept : {number′ : ℕ} → found ≡ 0 → number′ ≡ number → number′ ≡ columnsNumber true (fitTo (from + cols))
-      number-kept z q = q ∙ zero-more (fitTo from) (fitRange st ms r from cols) one z (R .numbered) ∙ ap (columnsNumber true) (sym both)
+      pub number-kept : {number′ : ℕ} → found ≡ 0 → number′ ≡ number → number′ ≡ rangeNumber true (fitTo (from + cols))
+      number-kept z q = q ∙ zero-more (fitTo from) (fitRange st ms r from cols) one z (R .numbered) ∙ ap (rangeNumber true) (sym both)
 
       pub ranging-turn : {o′ : List ℕ} (s′ : List ℕ) {number′ : ℕ} → skip ≤ st .width → blockCount st * (st .width - skip) ≤ length o₀
           → (isConsistentRange st ms r from cols ≡ true → o′ ≡ rangeTaken st ms r from cols skip o)
           → length s′ ≡ length s → drop (scratchWords st - positionCount st) s′ ≡ drop (scratchWords st - positionCount st) s
-          → number′ ≡ columnsNumber true (fitTo (from + cols)) → Ranging o′ s′ number′ (from + cols)
+          → number′ ≡ rangeNumber true (fitTo (from + cols)) → Ranging o′ s′ number′ (from + cols)
       ranging-turn s′ few room q same w n = record {
         turns = f .within;
         sized = same ∙ R .sized;
@@ -162,7 +162,7 @@ module _ (st : Stripe) (ms : List Bool) (r : List ℕ) (skip : ℕ) (o₀ : List
 
     pub ranging-number : st .level ≡ st .k → 0 < st .width → number ≡ decodedNumber (solved st ms r)
     ranging-number full z =
-        R .numbered ∙ rw all-from (ap (λ (c : Bool). columnsNumber c (fitTo (st .width))) (sym (rw all-from at (R .agreed)))) ∙ solved-number st ms r full z
+        R .numbered ∙ rw all-from (ap (λ (c : Bool). rangeNumber c (fitTo (st .width))) (sym (rw all-from at (R .agreed)))) ∙ solved-number st ms r full z
 
     pub ranging-rows : blockCount st * (st .width - skip) ≤ length o₀
         → o ≡ withoutFirst st ms r skip ++ drop (blockCount st * (st .width - skip)) o₀

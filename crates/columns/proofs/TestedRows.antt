@@ -1,5 +1,5 @@
--- Rows that are tested one after the other: whether all pass, and the loop that looks. Numbers that are their places, data,
--- and columns that may be those of records. Assumes nothing.
+-- Rows that are tested one after the other: whether all pass, and the loop that looks. Numbers that are their places, data, and columns that may be those of
+-- records. Assumes nothing.
 use mathlib.Core.Path.{_≡_, refl, sym, ap, _∙_}
 use mathlib.Core.Bool.{Bool, true, false, _&&_, and-false, and-assoc}
 use mathlib.Core.List.{List, [], _∷_}
@@ -21,7 +21,8 @@ pub record Tested (t P : ℕ → Bool) : Type 0 where
   pub more : (j : ℕ) → P (suc j) ≡ (t j && P j)
 
 module _ {t P : ℕ → Bool} (T : Tested t P) where
-  not-all : (n j : ℕ) → j < n → t j ≡ false → P n ≡ false
+  -- not all pass if one does not
+  pub not-all : (n j : ℕ) → j < n → t j ≡ false → P n ≡ false
   not-all zero j b e = absurd (omega arith)
   not-all (suc n) j b e = T .more n ∙ at (decLt j n) (not-all n j)
     where
@@ -57,9 +58,6 @@ module _ {P : ℕ → Bool} {w rows at i : ℕ} (h : Looking P w rows at i) wher
   pub looking-turn : {t : ℕ → Bool} → Tested t P → i < rows → t i ≡ true → Looking P w rows (at + w) (i + 1)
   looking-turn T b e = record { turns = omega arith; stands = omega (arith, h .stands); passed = rw add-one (T .more i ∙ both-true e (h .passed)) }
 
-  pub looking-fails : {t : ℕ → Bool} → Tested t P → i < rows → t i ≡ false → P rows ≡ false
-  looking-fails T b e = not-all T rows i b e
-
   pub looking-done : rows ≤ i → P rows ≡ true
   looking-done b = let e : i ≡ rows = omega (arith, h .turns) in rw e at (h .passed)
 
@@ -83,13 +81,13 @@ pub data-tested : (w from count : ℕ) (r : List ℕ) → Tested (isDataRow w fr
 unfolding dataTo
 data-tested w from count r = record { none = refl; more = λ j. refl }
 
+-- of two parts, and of two ranges of columns
 data-parts : (a b : ℕ) (l : List ℕ) → areData (take (a + b) l) ≡ (areData (take a l) && areData (take b (drop a l)))
 unfolding areData
 data-parts zero b l = rw zero-add
 data-parts (suc a) b [] = rw (take-nil (suc a + b), take-nil b)
 data-parts (suc a) b (x ∷ l) = rw (suc-add, data-parts a b l, and-assoc)
 
--- the columns of two ranges
 data-ranges : (w from a b : ℕ) (r : List ℕ) (n : ℕ) → dataTo w from (a + b) r n ≡ (dataTo w from a r n && dataTo w (from + a) b r n)
 data-ranges w from a b r n =
     tested-same (data-tested w from (a + b) r) (tested-both (data-tested w from a r) (data-tested w (from + a) b r)) n

@@ -1,4 +1,4 @@
-// The full stripe decoded: its blocks, or its records.
+// The full stripe decoded: its blocks, its records, or only whether it holds records.
 use code::Stripe;
 ghost use mathlib.Core.Path.{_≡_};
 ghost use Prim.Native.Nat.{_*_, _-_, _≤_, pred};
@@ -24,7 +24,7 @@ fn store_weights(st: Stripe, marks: &[bool], scratch: &mut [u32])
     decoder::weights::weights(&mut scratch[start..], marks, st);
 }
 
-// Decodes all columns but the first `skip`: 9 or 10, or 0 and the blocks' words without those columns; zeros where it is not 0. The scratch is zeros.
+// Decodes all columns: 9 or 10, or 0 and the blocks' words without the first `skip` columns; zeros where it is not 0. The scratch is zeros.
 fn decode_all(
     st: Stripe,
     bytes: &[u8],

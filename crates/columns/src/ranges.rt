@@ -14,7 +14,7 @@ ghost use Rattle.image.specs.steps.Loading.{rowsIn};
 ghost use Rattle.rows.specs.Decoding.{decodedNumber, solved};
 ghost use Rattle.rows.specs.StripeFits.{StripeFits};
 ghost use Rattle.columns.specs.steps.Ranges.{placesTo, dataTo, columnsFit, copiedRows, Decodable, scratchWords, RangeFits, isConsistentRange};
-ghost use Rattle.columns.specs.steps.Ranges.{fitRange, columnsNumber, rangeTaken, withoutFirst};
+ghost use Rattle.columns.specs.steps.Ranges.{fitRange, rangeNumber, rangeTaken, withoutFirst};
 
 // Copies `count` words of each row.
 fn copy_rows(out: &mut [u32], to: Lines, words: &[u32], from: Lines, count: usize, rows: usize)
@@ -122,7 +122,7 @@ fn take_range(words: &[u32], st: Stripe, range: Range, out: &mut [u32]) -> bool
 }
 
 // Decodes a range of columns in the last words of the scratch and copies the blocks' words to `out`, as `take_range` does. 9 if no blocks have the surviving
-// words, 10 if those are not of records, 0 otherwise. The weights behind the range stay.
+// words, 10 if the blocks' words are not those of records, 0 otherwise. The weights behind the range stay.
 fn decode_range(
     st: Stripe,
     bytes: &[u8],
@@ -137,7 +137,7 @@ fn decode_range(
     requires { ⌜ length (now scratch) ≡ scratchWords st ⌝ }
     requires { ⌜ drop (scratchWords st - positionCount st) (now scratch) ≡ weightsIn st (now marks) ⌝ }
     ensures { λ r. ⌜ r ≡
-        columnsNumber (isConsistentRange st (now (marks .entry)) (rowsIn st (now (marks .entry)) (now (bytes .entry))) (range .from) (range .cols))
+        rangeNumber (isConsistentRange st (now (marks .entry)) (rowsIn st (now (marks .entry)) (now (bytes .entry))) (range .from) (range .cols))
         (fitRange st (now (marks .entry)) (rowsIn st (now (marks .entry)) (now (bytes .entry))) (range .from) (range .cols)) ⌝ }
     ensures { λ _. ⌜ (isConsistentRange st (now (marks .entry)) (rowsIn st (now (marks .entry)) (now (bytes .entry))) (range .from) (range .cols) ≡ true →
         now (out .exit) ≡

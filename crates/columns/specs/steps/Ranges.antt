@@ -1,5 +1,5 @@
--- Ranges of columns of a stripe, and what the loops that copy its rows make of a slice; the clauses of functions inside the crate cite it. Assumes
--- nothing: these are definitions.
+-- Ranges of columns of a stripe, what is tested of them, and what the loops that copy its rows make of a slice; the clauses of functions inside the crate
+-- cite it. Assumes nothing: these are definitions.
 use mathlib.Core.Path.{_≡_}
 use mathlib.Core.Bool.{Bool, true, false, _&&_}
 use mathlib.Core.List.{List}
@@ -58,9 +58,9 @@ pub record RangeFits (st : Stripe) (from cols : ℕ) : Type 0 where
   pub within : from + cols ≤ st .width
   pub room : positionCount st * cols + positionCount st ≤ scratchWords st
 
--- the number of some columns: 9 if no blocks have their surviving words, 10 if those are not of records
-unfoldable pub columnsNumber : (isConsistent fit : Bool) → ℕ
-columnsNumber c b = elim c [ true ↦ elim b [ true ↦ 0 | false ↦ 10 ] | false ↦ 9 ]
+-- the number of a range of columns: 9 if no blocks have its surviving words, 10 if its words are not those of records, 0 otherwise
+unfoldable pub rangeNumber : (isConsistent fit : Bool) → ℕ
+rangeNumber c b = elim c [ true ↦ elim b [ true ↦ 0 | false ↦ 10 ] | false ↦ 9 ]
 
 -- whether the blocks' words of a range of columns may be those of records
 abbrev pub fitRange : Stripe → (marks : List Bool) → (rows : List ℕ) → (from cols : ℕ) → Bool

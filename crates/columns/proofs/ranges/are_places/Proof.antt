@@ -7,7 +7,7 @@ use native.Mathlib.Omega.{arith}
 use borrow.Author.Tests.{eq-eqb, ne-eqb}
 use lib.ListN.{length, getD}
 use Rattle.columns.specs.steps.Ranges.{placesTo}
-use Rattle.columns.proofs.TestedRows.{Looking, looking-start, looking-turn, looking-fails, looking-done, looking-reads, isPlace, places-tested}
+use Rattle.columns.proofs.TestedRows.{not-all, Looking, looking-start, looking-turn, looking-done, looking-reads, isPlace, places-tested}
 use Rattle.columns.proofs.ranges.are_places.Statement.{statement}
 use Rattle.columns.proofs.ranges.are_places.Tie as tie
 
@@ -42,8 +42,8 @@ cast-if1 c = omega (arith, c .shared-slice-known .given (c .before .before .loop
 returns : tie.Need-returns Inv-loop μ-loop
 returns c =
     let l = c .before .before .before in
-    let i = l .loop .inv in
-    sym (looking-fails i (places-tested _ _) (c .before .before .loop-test .taken) (no-place _ _ _ (l .before .args .words .now) (i .stands) (c .if1 .taken)))
+    sym (not-all (places-tested _ _) _ _ (c .before .before .loop-test .taken)
+    (no-place _ _ _ (l .before .args .words .now) (l .loop .inv .stands) (c .if1 .taken)))
 
 add-at : tie.Need-add-at Inv-loop μ-loop
 add-at c = omega (arith, reads (c .before .before))

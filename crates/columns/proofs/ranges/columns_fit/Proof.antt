@@ -25,15 +25,25 @@ module _ (from cols : ℕ) (r : List ℕ) (n : ℕ) (z : 0 < cols) where
     first-fails : p ≡ false → false ≡ columnsFit cols 0 from cols r n
     first-fails t = sym (fit-first cols 0 from cols r n h z ∙ first-false (dataTo cols 1 (pred cols) r n) (sym e ∙ t))
 
-ruleset fit-needs = (later-fits, first-fits, first-fails, needs)
+returns : tie.Need-returns
+returns c = later-fits _ _ _ _ (c .before .before .before .pre .0) (c .before .if1 .taken) (c .data-fit .ensures)
+
+returns-2 : tie.Need-returns-2
+returns-2 c =
+    let e = c .before .before .before in
+    first-fits _ _ _ _ (e .before .before .pre .0) (e .if1 .left) (c .before .before .are-places .ensures) (c .before .if2 .taken) (c .data-fit2 .ensures)
+
+returns-3 : tie.Need-returns-3
+returns-3 c =
+    let e = c .before .before in first-fails _ _ _ _ (e .before .before .pre .0) (e .if1 .left) (c .before .are-places .ensures) (c .if2 .left)
 
 pub columns-fit-spec : {M : Type 1} → statement M
 columns-fit-spec =
     tie.close
     (tie.spec
     (λ c κs. search needs)
-    (λ c. search fit-needs)
+    returns
     (λ c κs. search needs)
     (λ c κs. search needs)
-    (λ c. search fit-needs)
-    (λ c. search fit-needs))
+    returns-2
+    returns-3)

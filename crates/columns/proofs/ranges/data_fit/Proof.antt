@@ -9,7 +9,7 @@ use borrow.Author.Tests.{not-true, not-false}
 use lib.ListN.{length, take, drop}
 use Rattle.layout.specs.Records.{areData}
 use Rattle.columns.specs.steps.Ranges.{dataTo}
-use Rattle.columns.proofs.TestedRows.{Looking, looking-start, looking-turn, looking-fails, looking-done, looking-reads, isDataRow, data-tested}
+use Rattle.columns.proofs.TestedRows.{not-all, Looking, looking-start, looking-turn, looking-done, looking-reads, isDataRow, data-tested}
 use Rattle.columns.proofs.ranges.data_fit.Statement.{statement}
 use Rattle.columns.proofs.ranges.data_fit.Tie as tie
 
@@ -67,8 +67,7 @@ tested c e =
 
 returns : tie.Need-returns Inv-loop μ-loop
 returns c =
-    let l = c .before .before .before in
-    sym (looking-fails (l .before .loop .inv) (data-tested _ _ _ _) (l .loop-test .taken) (tested (c .before) (not-true _ (c .if1 .taken))))
+    sym (not-all (data-tested _ _ _ _) _ _ (c .before .before .before .loop-test .taken) (tested (c .before) (not-true _ (c .if1 .taken))))
 
 add-i : tie.Need-add-i Inv-loop μ-loop
 add-i c = omega arith

@@ -11,7 +11,7 @@ use Rattle.code.specs.Stripe.{blockCount, positionCount}
 use Rattle.image.specs.steps.Loading.{rowsIn}
 use Rattle.columns.specs.steps.Ranges.{scratchWords, isConsistentRange, fitRange, rangeTaken}
 use Rattle.columns.proofs.ScratchTails.{Tail, span, half-span, scratch-low, tail-long, tail-weights, put-weights, lent-again}
-use Rattle.columns.proofs.FullNumbers.{columns-nine, columns-zero, columns-ten}
+use Rattle.columns.proofs.FullNumbers.{range-nine, range-zero, range-ten}
 use Rattle.columns.proofs.RangeCopies.{range-taken}
 use Rattle.columns.proofs.RangeDecoding.{range-weights, range-blocks}
 use Rattle.columns.proofs.ranges.decode_range.Statement.{statement}
@@ -99,7 +99,7 @@ consistent c e = sym (c .decode-columns .ensures .0) ∙ e
 returns : tie.Need-returns
 returns c =
     let e = consistent (c .before .before .before) (not-true _ (c .if1 .taken)) in
-    (sym (columns-nine _ e), (λ t. absurd (false≢true (sym e ∙ t)), weights-stay (c .before .before .before)))
+    (sym (range-nine _ e), (λ t. absurd (false≢true (sym e ∙ t)), weights-stay (c .before .before .before)))
 
 mul-take-range : tie.Need-mul-take-range
 mul-take-range c = search needs
@@ -163,7 +163,7 @@ taken c =
 returns-2 : tie.Need-returns-2
 returns-2 c =
     let t = c .before .before .before in
-    (sym (columns-zero (agrees t) (sym (taken t .0) ∙ c .if2 .taken)), (λ _. taken t .1, weights-stay (decode-columns-at-take-range t)))
+    (sym (range-zero (agrees t) (sym (taken t .0) ∙ c .if2 .taken)), (λ _. taken t .1, weights-stay (decode-columns-at-take-range t)))
 
 same-length-4 : tie.Need-same-length-4
 same-length-4 c = search needs
@@ -174,7 +174,7 @@ same-length-5 c = search needs
 returns-3 : tie.Need-returns-3
 returns-3 c =
     let t = c .before .before .before in
-    (sym (columns-ten (agrees t) (sym (taken t .0) ∙ c .if2 .left)), (λ _. taken t .1, weights-stay (decode-columns-at-take-range t)))
+    (sym (range-ten (agrees t) (sym (taken t .0) ∙ c .if2 .left)), (λ _. taken t .1, weights-stay (decode-columns-at-take-range t)))
 
 pub decode-range-spec : {M : Type 1} → statement M
 decode-range-spec =
