@@ -132,5 +132,4 @@ module _ {a : Round} {m e n o s : List ℕ} (R : OfRound a m e n o s) where
       (stripes-why h e decoding (origins h) needed-decodes (λ l. Decoding.proved .seven-iff (stripeOf h l) (marks h e l) (wordsIn h m l) .1))
 
 pub explainsWhy : ExplainsWhy
-explainsWhy o es m e n g s X =
-    subst (λ (h : Header). Why h e (explainAnswer h m e n g s)) (sym (explained-header X)) (round-why (explained-round X))
+explainsWhy o es m e n g s X = rw (explained-header X) (round-why (explained-round X))

@@ -23,7 +23,8 @@ use Rattle.recovery.specs.ExplainCall.{explainEarly, explainCounts}
 use Rattle.vault.specs.Promises.{marks, Needed, Agrees, CountsAre, CountsSharp, ExplainLeaves}
 use Rattle.field.proofs.Booleans.{is-false, chosen-first, chosen-second}
 use Rattle.layout.proofs.Refusals.{if-taken, if-refused}
-use Rattle.vault.proofs.Pairs.{length-pairs, pair-at}
+use Rattle.recovery.proofs.PairLoops.{length-pairs}
+use Rattle.vault.proofs.Pairs.{pair-at}
 use Rattle.vault.proofs.StripeCall.{needed-passes, passes-needed, needed-within}
 
 -- WHAT IS LAID does not matter to the number and to the stripe

@@ -30,7 +30,7 @@ use Rattle.store.proofs.OpenRefusals.{open-taken, open-data}
 use Rattle.store.proofs.StoredRecords.{length-full}
 use Rattle.vault.proofs.Levels.{length-log, log-empty}
 use Rattle.vault.proofs.Rounds.{fit-sizes, Taken, AllTaken, none, more, Good, taken-append, put-append, length-put, words-put, before-append}
-use Rattle.vault.proofs.Rounds.{before-at, records-long, header-fits}
+use Rattle.vault.proofs.Rounds.{length-before, before-at, records-long, header-fits}
 use Rattle.vault.proofs.Rebuilding.{log-written}
 
 -- THE INVARIANT: a vault and a model represent a round
@@ -308,6 +308,7 @@ beforeIs o es O =
     let a = roundOf o es in
     let n = round-writes o es O in (
       n,
+      ap (λ (m : Model). length (m .before)) (modelIs o es O) ∙ length-before (a .s) (a .base) (a .since) ∙ sym n,
       λ i b. ap (λ (m : Model). getD (m .before) i []) (modelIs o es O) ∙ before-at (a .s) (a .base) (a .since) i (omega (arith, n))
           ∙ ap₂ (λ (s j : ℕ). putAll s (a .base) (take (j - suc i) (a .since))) (round-sizes o es O .1) (sym n),
     )

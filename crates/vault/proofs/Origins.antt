@@ -20,7 +20,8 @@ use Rattle.vault.specs.Event.{Entry}
 use Rattle.vault.specs.Round.{Round, rowsOf, modelIn, roundHeader, levelEntries}
 use Rattle.vault.specs.Promises.{KeepsHalf, HoldsWrite, Origin, OriginsTrue, OneOrigin}
 use Rattle.layout.proofs.StripePlaces.{first-level}
-use Rattle.vault.proofs.Pairs.{length-pairs, pair-at}
+use Rattle.recovery.proofs.PairLoops.{length-pairs}
+use Rattle.vault.proofs.Pairs.{pair-at}
 use Rattle.vault.proofs.Levels.{filled-in}
 use Rattle.vault.proofs.Laying.{noEntry, entry-at, number-at}
 use Rattle.vault.proofs.Rounds.{Good, length-entries}

@@ -1,5 +1,5 @@
--- Recovery of an image of a round's words gives the round's records: the full stripe gives those of its start, and each filled level the writes after
--- those of the levels above it. Assumes nothing.
+-- What the stripes of a round's image come to where they keep half, for any layer: the full stripe gives the words of the round's start, and each filled level
+-- lays the writes after those of the levels above it. So recovery gives the round's records. Assumes nothing.
 use mathlib.Core.Path.{_≡_, refl, sym, ap, _∙_}
 use mathlib.Core.Bool.{Bool, true, false}
 use mathlib.Core.Logic.{inl, inr}
@@ -43,7 +43,7 @@ multiple-empty c l e =
     let z : c / 2 ^ l % 2 ≡ 0 = omega (arith, eqb-false (c / 2 ^ l % 2) 1 e) in
     omega (arith, multiple c l, ap (λ (x : ℕ). x * 2 ^ l) z)
 
--- all of them at level 0, and none at k
+-- it is c at level 0, and 0 at k
 pub multiple-all : (c : ℕ) → c / 2 ^ 0 * 2 ^ 0 ≡ c
 multiple-all c = mul-one (c / 1) ∙ div-one c
 

@@ -122,14 +122,15 @@ RawIs = (o : Opening) (es : List Event) → Opens o → vaultAfter o es .held .r
 abbrev pub ModelIs : Type 0
 ModelIs = (o : Opening) (es : List Event) → Opens o → modelOf o es ≡ modelIn (roundOf o es)
 
--- and what it remembers of the round is what was there: it counts the writes since, and entry i of `before` is the records as all writes but the last i + 1
--- left them
+-- and what it remembers of the round is what was there: it counts the writes since, `before` has an entry for each, and entry i is the records as all writes
+-- but the last i + 1 left them
 abbrev pub BeforeIs : Type 0
 BeforeIs =
     (o : Opening) (es : List Event) → Opens o →
     let n = writes (modelOf o es) in
     let a = roundOf o es in
-    (n ≡ length (a .since)) × ((i : ℕ) → i < n → getD (modelOf o es .before) i [] ≡ putAll (o .s) (a .base) (take (n - suc i) (a .since)))
+    (n ≡ length (a .since)) × (length (modelOf o es .before) ≡ n) ×
+    ((i : ℕ) → i < n → getD (modelOf o es .before) i [] ≡ putAll (o .s) (a .base) (take (n - suc i) (a .since)))
 
 -- 3. DECODING A STRIPE, both ways round, for any image and erasure list: its marks, and its words in the image, whatever stands at erased positions
 abbrev pub marks : Header → (erasures : List ℕ) → (stripe : ℕ) → List Bool

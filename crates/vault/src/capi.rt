@@ -7,6 +7,7 @@ ghost use Rattle.store.specs.Buffers.{buffers};
 ghost use Rattle.store.specs.StoreCalls.{openNumber, openLeaves, writeNumber, writeAnswer, writeLeaves, readNumber};
 ghost use Rattle.stripe.specs.StripeCall.{decodeNumber, decodeLeaves, decodeScratch};
 ghost use Rattle.recovery.specs.RecoveryCall.{recoverAnswer, recoverLeaves, recoverScratch};
+ghost use Rattle.recovery.specs.ExplainCall.{explainAnswer, explainCounts, explainOrigins, explainScratch};
 ghost use Rattle.image.specs.ImageCall.{imageNumber, imageLeaves};
 ghost use Rattle.vault.specs.Boundary.{readStart, readCount, shelfOf};
 
@@ -143,6 +144,43 @@ pub extern "C" fn vault_recover(
     );
     *shelf = shelf_of(answer);
     answer.number
+}
+
+// Why a recovery stops, or where each record comes from. counts: for each shelf the positions left, and how many it lacks; origins: for each record the shelf
+// and the number of its last write. *shelf is the shelf at fault, or 0xffffffff where none is named.
+#[no_mangle]
+pub extern "C" fn vault_explain(
+    k: u32,
+    s: u32,
+    c: u32,
+    image: &[u8],
+    gaps: &[u8],
+    counts: &mut [u32],
+    origins: &mut [u32],
+    scratch: &mut [u32],
+    shelf: &mut u32,
+) -> u32
+    ensures { λ r. ⌜ r ≡ explainAnswer (headerOf k s c) (now (image .entry)) (now (gaps .entry)) (now (counts .entry)) (now (origins .entry))
+        (now (scratch .entry)) .number ⌝ }
+    ensures { λ _. ⌜ now (counts .exit) ≡ explainCounts (headerOf k s c) (now (image .entry)) (now (gaps .entry)) (now (counts .entry)) (now (origins .entry))
+        (now (scratch .entry)) ⌝ }
+    ensures { λ _. ⌜ now (origins .exit) ≡ explainOrigins (headerOf k s c) (now (image .entry)) (now (gaps .entry)) (now (counts .entry))
+        (now (origins .entry)) (now (scratch .entry)) ⌝ }
+    ensures { λ _. ⌜ now (scratch .exit) ≡ explainScratch (headerOf k s c) (now (image .entry)) (now (gaps .entry)) (now (counts .entry))
+        (now (origins .entry)) (now (scratch .entry)) ⌝ }
+    ensures { λ _. ⌜ now (shelf .exit) ≡ shelfOf (explainAnswer (headerOf k s c) (now (image .entry)) (now (gaps .entry)) (now (counts .entry))
+        (now (origins .entry)) (now (scratch .entry))) ⌝ }
+{
+    let explained = recovery::explaining::explain(
+        Header { k: k, s: s, c: c },
+        image,
+        gaps,
+        counts,
+        origins,
+        scratch,
+    );
+    *shelf = shelf_of(explained);
+    explained.number
 }
 
 // The image of the full shelf and the log.
