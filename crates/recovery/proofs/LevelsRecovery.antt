@@ -13,10 +13,10 @@ use Rattle.layout.specs.declared.Header.{Header}
 use Rattle.layout.specs.Header.{isFilled}
 use Rattle.image.specs.Loading.{areBelow}
 use Rattle.rows.specs.Decoding.{Decoded, failed, decoded, areRecords, decodedNumber, decodeMarked}
+use Rattle.laying.specs.steps.Blocks.{laidFrom}
 use Rattle.recovery.specs.Recovery.{Layer, Recovered, stopped, recovered, thenLay, levelsOver, stripesOver}
-use Rattle.recovery.specs.declared.Recovery.{Recovery}
 use Rattle.recovery.specs.RecoveryCall.{answerOf, recoveredWords}
-use Rattle.recovery.specs.steps.Laying.{laidFrom}
+use Rattle.recovery.specs.declared.Recovery.{Recovery}
 
 -- WHAT A STRIPE DECODED TO, by its number
 pub failed-is : (d : Decoded) {r : ℕ} → r ≡ decodedNumber d → (r ≡ 0 → ⊥) → d ≡ failed r

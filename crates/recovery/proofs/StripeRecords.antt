@@ -16,11 +16,12 @@ use Rattle.rows.specs.Decoding.{Decoded, failed, decoded, decodedNumber, solved
 use Rattle.columns.specs.steps.Full.{decodedData}
 use Rattle.stripe.specs.Decoding.{decodeStripe}
 use Rattle.stripe.proofs.StripeAnswers.{handed-needs, readyOf, unready-is, same-solved, solved-number, numbers-fit, is-full}
-use Rattle.recovery.specs.Recovery.{laid}
-use Rattle.recovery.specs.Explaining.{pairsTo, fullOrigins}
-use Rattle.recovery.specs.steps.Laying.{laidFrom, layerOf, layBlocks, laidSize, rowOf}
+use Rattle.laying.specs.Laid.{laid, pairsTo}
+use Rattle.laying.specs.steps.Blocks.{laidFrom, layBlocks, rowOf}
+use Rattle.recovery.specs.Origins.{fullOrigins}
+use Rattle.recovery.specs.steps.Laying.{layerOf, laidSize}
 use Rattle.decoder.specs.Decoding.{blocksIn}
-use Rattle.recovery.proofs.LaidRecords.{data-laid}
+use Rattle.laying.proofs.LaidRecords.{data-laid}
 use Rattle.recovery.proofs.LevelsRecovery.{Sound, decoded-is}
 
 -- the output's size in the stripe's words

@@ -1,5 +1,4 @@
-pub mod ExplainCall
-pub mod Explaining
+pub mod Origins
 pub mod Recovery
 pub mod RecoveryCall
 pub mod steps

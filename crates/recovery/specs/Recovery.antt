@@ -1,14 +1,14 @@
 -- What the stripes of an image come to, from what each decodes to: the full stripe first, and then the filled levels from k - 1 down over it. What a stripe
--- lays over those before it is a layer: recovery lays the data of its blocks, each in order of time; explaining (specs/Explaining) lays where they stand.
--- Assumes nothing: these are definitions.
+-- lays over those before it is a layer: recovery lays the data of its blocks, each in order of time; explaining lays their origins (specs/Origins). Assumes
+-- nothing: these are definitions.
 use mathlib.Core.Bool.{true, false}
 use mathlib.Core.List.{List}
 use Prim.Native.Nat.{ℕ, zero, suc, _^_}
 use lib.ListN.{replicate}
 use Rattle.layout.specs.declared.Header.{Header}
 use Rattle.layout.specs.Header.{count, rawSize, isFilled}
-use Rattle.layout.specs.Records.{replaced}
-use Rattle.rows.specs.Decoding.{Decoded, failed, decoded, blockNumber, blockData}
+use Rattle.rows.specs.Decoding.{Decoded, failed, decoded}
+use Rattle.laying.specs.Laid.{laid}
 
 -- A LAYER: the words that the full stripe's blocks give, and what those of a level make of the words so far
 pub record Layer : Type 0 where
@@ -36,11 +36,7 @@ levelsOver (suc l) h d y r =
 abbrev pub stripesOver : Header → (decoding : ℕ → Decoded) → Layer → Recovered
 stripesOver h d y = thenLay (h .k) (d (h .k)) (λ (bs : List ℕ). levelsOver (h .k) h d y (y .full bs))
 
--- RECOVERY: the first n blocks of s data words laid over raw records, one after the other
-unfoldable pub laid : (s : ℕ) → (blocks : List ℕ) → (n : ℕ) → (raw : List ℕ) → List ℕ
-laid s bs zero r = r
-laid s bs (suc j) r = replaced s (laid s bs j r) (blockNumber (suc s) bs j) (blockData (suc s) bs j)
-
+-- RECOVERY: each block's data in the place of its record
 abbrev pub records : Header → Layer
 records h = record {
   full = λ (bs : List ℕ). laid (h .s) bs (count h) (replicate (rawSize h) 0);

@@ -1,11 +1,8 @@
-// The calls that are lent an image of all stripes: recovery of all records, and the explanation of what it finds. Proved for every input.
+// All stripes of an image laid one over the other, and the call that recovers all records by it, proved for every input.
 use layout::Header;
 
-pub mod explaining;
-mod laying;
-mod pairs;
 pub mod recovering;
-mod stripes;
+pub mod stripes;
 
 // What recovery answers, and explaining: the number, and the stripe at fault where one is named.
 pub struct Recovery {

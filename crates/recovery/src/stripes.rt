@@ -13,10 +13,11 @@ ghost use Rattle.rows.specs.Decoding.{decodedNumber, solved};
 ghost use Rattle.rows.specs.steps.Ready.{Ready};
 ghost use Rattle.columns.specs.steps.Ranges.{scratchWords};
 ghost use Rattle.stripe.specs.Decoding.{decodeStripe};
+ghost use Rattle.laying.specs.Laid.{pairsTo};
+ghost use Rattle.laying.specs.steps.Blocks.{laidFrom};
 ghost use Rattle.recovery.specs.Recovery.{levelsOver, stripesOver};
-ghost use Rattle.recovery.specs.Explaining.{pairsTo};
 ghost use Rattle.recovery.specs.RecoveryCall.{answerOf, recoveredWords};
-ghost use Rattle.recovery.specs.steps.Laying.{laidFrom, layerOf, laidSize, LayingFits};
+ghost use Rattle.recovery.specs.steps.Laying.{layerOf, laidSize, LayingFits};
 
 // The full stripe tested, and its origins, which it is of every record: 9 or 10, or 0.
 fn full_origins(
@@ -33,7 +34,7 @@ fn full_origins(
     ensures { λ _. ⌜ now (out .exit) ≡ pairsTo (λ i. st .k) (λ i. 0) (blockCount st) ⌝ }
 {
     let rows = code::number::two_to(st.level);
-    crate::pairs::fill_pairs(out, rows, st.k as u32, 0);
+    laying::pairs::fill_pairs(out, rows, st.k as u32, 0);
     columns::full::check_full(st, bytes, marks, scratch)
 }
 
@@ -85,7 +86,7 @@ fn lay_level(
     }
     let st = layout::places::stripe_of(header, level);
     let bytes = image::loading::stripe_bytes(header, image, level);
-    crate::laying::decode_and_lay(task.origins, st, bytes, &marks, out, scratch)
+    laying::blocks::decode_and_lay(task.origins, st, bytes, &marks, out, scratch)
 }
 
 // Lays the filled levels, from k - 1 down.
@@ -157,7 +158,7 @@ fn lay_all(
 }
 
 // What all stripes come to; zeros in the output where they stop. The scratch is zeros.
-pub(crate) fn lay_stripes(
+pub fn lay_stripes(
     task: Task,
     image: &[u8],
     erasures: &[u8],

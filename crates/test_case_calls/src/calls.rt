@@ -125,7 +125,7 @@ fn explain_in(
     origins: &mut [u32],
     scratch: &mut [u32],
 ) {
-    let r = recovery::explaining::explain(h, image, list, counts, origins, scratch);
+    let r = explanation::explaining::explain(h, image, list, counts, origins, scratch);
     output::text(b"explain");
     number_and_stripe(r);
     all_words(b" counts", counts);

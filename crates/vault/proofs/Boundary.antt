@@ -18,10 +18,10 @@ use Rattle.image.specs.Erasures.{erasuresIn}
 use Rattle.rows.specs.Decoding.{Decoded, failed, decoded}
 use Rattle.stripe.specs.Decoding.{decodeStripe}
 use Rattle.recovery.specs.Recovery.{Layer, Recovered, thenLay, levelsOver, stripesOver, records}
-use Rattle.recovery.specs.Explaining.{origins}
-use Rattle.store.specs.StoreCalls.{readNumber}
+use Rattle.recovery.specs.Origins.{origins}
 use Rattle.recovery.specs.RecoveryCall.{recoverAnswer, unnamed, answerOf}
-use Rattle.recovery.specs.ExplainCall.{explainAnswer}
+use Rattle.explanation.specs.ExplainCall.{explainAnswer}
+use Rattle.store.specs.StoreCalls.{readNumber}
 use Rattle.vault.specs.Boundary.{PartIs, noShelf, shelfOf, NoneNamed, NoneExplained}
 use Rattle.layout.proofs.Bounds.{fits}
 use Rattle.field.proofs.Booleans.{is-false, choose, chosen-first}

@@ -17,8 +17,8 @@ use Rattle.image.specs.Image.{imageOf}
 use Rattle.image.specs.Erasures.{erasuresIn, erasuresFit}
 use Rattle.stripe.specs.Decoding.{decodeStripe}
 use Rattle.recovery.specs.Recovery.{recovered, recover}
-use Rattle.layout.specs.Refusals.{refusal}
 use Rattle.recovery.specs.RecoveryCall.{recoverEarly, recoverAnswer, recoverLeaves, recoverScratch, unnamed}
+use Rattle.layout.specs.Refusals.{refusal}
 use Rattle.vault.specs.Event.{Opening, Event}
 use Rattle.vault.specs.History.{Vault, Opens, vaultAfter, headerAfter, imageAfter}
 use Rattle.vault.specs.Round.{Round, rowsOf, recordsIn, roundOf, roundHeader, levelEntries, logWords, modelIn}

@@ -22,9 +22,10 @@ use Rattle.rows.proofs.Proved as Decoding
 use Rattle.stripe.specs.Decoding.{decodeStripe}
 use Rattle.recovery.specs.declared.Recovery.{Recovery}
 use Rattle.recovery.specs.Recovery.{Layer, Recovered, thenLay, levelsOver, stripesOver}
+use Rattle.recovery.specs.Origins.{originsSize, origins, explain}
 use Rattle.recovery.specs.RecoveryCall.{unnamed, atFault, answerOf}
-use Rattle.recovery.specs.Explaining.{countsSize, originsSize, origins, explain}
-use Rattle.recovery.specs.ExplainCall.{explainEarly, explainAnswer}
+use Rattle.explanation.specs.Counts.{countsSize}
+use Rattle.explanation.specs.ExplainCall.{explainEarly, explainAnswer}
 use Rattle.vault.specs.Event.{Opening, Event}
 use Rattle.vault.specs.History.{Vault, vaultAfter, headerAfter, imageAfter}
 use Rattle.vault.specs.Round.{Round, rowsOf, roundOf, roundHeader, levelEntries, logWords}

@@ -17,13 +17,14 @@ use Rattle.rows.proofs.Proved as Decoding
 use Rattle.stripe.specs.Decoding.{decodeStripe}
 use Rattle.recovery.specs.declared.Recovery.{Recovery}
 use Rattle.recovery.specs.Recovery.{Layer, Recovered, stopped, recovered, thenLay, levelsOver, stripesOver, records}
+use Rattle.recovery.specs.Origins.{originsSize, origins, explain}
 use Rattle.recovery.specs.RecoveryCall.{recoverEarly, unnamed, answerOf, recoveredWords}
-use Rattle.recovery.specs.Explaining.{countsSize, originsSize, left, shortfall, countsOf, origins, explain}
-use Rattle.recovery.specs.ExplainCall.{explainEarly, explainCounts}
+use Rattle.explanation.specs.Counts.{countsSize, left, shortfall, countsOf}
+use Rattle.explanation.specs.ExplainCall.{explainEarly, explainCounts}
 use Rattle.vault.specs.Promises.{marks, Needed, Agrees, CountsAre, CountsSharp, ExplainLeaves}
 use Rattle.field.proofs.Booleans.{is-false, chosen-first, chosen-second}
 use Rattle.layout.proofs.Refusals.{if-taken, if-refused}
-use Rattle.recovery.proofs.PairLoops.{length-pairs}
+use Rattle.laying.proofs.PairLoops.{length-pairs}
 use Rattle.vault.proofs.Pairs.{pair-at}
 use Rattle.vault.proofs.StripeCall.{needed-passes, passes-needed, needed-within}
 

@@ -12,7 +12,7 @@ use Rattle.field.proofs.WordLists.{words-part}
 use Rattle.layout.specs.Records.{recordIn, replaced}
 use Rattle.store.specs.Buffers.{blocksFrom}
 use Rattle.rows.specs.Decoding.{blockNumber, blockData}
-use Rattle.recovery.specs.Recovery.{laid}
+use Rattle.laying.specs.Laid.{laid}
 use Rattle.vault.specs.Event.{Entry}
 use Rattle.vault.specs.Round.{putAll, rowsOf}
 use Rattle.vault.proofs.Rounds.{Taken, AllTaken, none, more, put-append}

@@ -14,13 +14,14 @@ use Rattle.layout.specs.declared.Header.{Header}
 use Rattle.layout.specs.Header.{count, width, isFilled, firstOf}
 use Rattle.layout.specs.Records.{recordIn}
 use Rattle.rows.specs.Decoding.{blockNumber}
-use Rattle.recovery.specs.Explaining.{originsSize, originsLaid, fullOrigins, origins}
-use Rattle.recovery.specs.ExplainCall.{explainOrigins}
+use Rattle.laying.specs.Laid.{originsLaid}
+use Rattle.recovery.specs.Origins.{originsSize, fullOrigins, origins}
+use Rattle.explanation.specs.ExplainCall.{explainOrigins}
 use Rattle.vault.specs.Event.{Entry}
 use Rattle.vault.specs.Round.{Round, rowsOf, modelIn, roundHeader, levelEntries}
 use Rattle.vault.specs.Promises.{KeepsHalf, HoldsWrite, Origin, OriginsTrue, OneOrigin}
 use Rattle.layout.proofs.StripePlaces.{first-level}
-use Rattle.recovery.proofs.PairLoops.{length-pairs}
+use Rattle.laying.proofs.PairLoops.{length-pairs}
 use Rattle.vault.proofs.Pairs.{pair-at}
 use Rattle.vault.proofs.Levels.{filled-in}
 use Rattle.vault.proofs.Laying.{noEntry, entry-at, number-at}

@@ -7,8 +7,8 @@ use native.Mathlib.Nat.{add-zero, eq-or-lt-of-le, suc-le-suc-iff}
 use native.Mathlib.Omega.{arith}
 use lib.ListN.{length, getD, List·getD-append}
 use lib.Seq.{getD-append-add}
-use Rattle.recovery.specs.Explaining.{pairsTo}
-use Rattle.recovery.proofs.PairLoops.{length-pairs}
+use Rattle.laying.specs.Laid.{pairsTo}
+use Rattle.laying.proofs.PairLoops.{length-pairs}
 
 module _ (f g : ℕ → ℕ) where
   pair-word : (n i j : ℕ) → i < n → j < 2 → getD (pairsTo f g n) (2 * i + j) 0 ≡ getD (f i ∷ g i ∷ []) j 0

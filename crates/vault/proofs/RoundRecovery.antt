@@ -18,7 +18,8 @@ use Rattle.image.specs.Image.{imageOf}
 use Rattle.image.specs.Erasures.{erasuresIn}
 use Rattle.rows.specs.Decoding.{Decoded, decoded}
 use Rattle.stripe.specs.Decoding.{decodeStripe}
-use Rattle.recovery.specs.Recovery.{Layer, Recovered, recovered, levelsOver, stripesOver, laid, records, recover}
+use Rattle.laying.specs.Laid.{laid}
+use Rattle.recovery.specs.Recovery.{Layer, Recovered, recovered, levelsOver, stripesOver, records, recover}
 use Rattle.vault.specs.Event.{Entry}
 use Rattle.vault.specs.Round.{Round, putAll, rowsOf, roundHeader, levelEntries, logWords, recordsIn}
 use Rattle.vault.specs.Promises.{KeepsHalf, SameWords}

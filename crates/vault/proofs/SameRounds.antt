@@ -13,7 +13,7 @@ use Rattle.store.specs.Buffers.{blocksOf}
 use Rattle.image.specs.Erasures.{erasuresIn}
 use Rattle.rows.specs.Decoding.{Decoded, decoded}
 use Rattle.stripe.specs.Decoding.{decodeStripe}
-use Rattle.recovery.specs.Recovery.{laid}
+use Rattle.laying.specs.Laid.{laid}
 use Rattle.vault.specs.Event.{Entry}
 use Rattle.vault.specs.Round.{Round, rowsOf, roundHeader, levelEntries}
 use Rattle.vault.proofs.Levels.{filled-in}

@@ -17,8 +17,9 @@ use Rattle.image.specs.Image.{little, bytesOf, numberOf}
 use Rattle.image.specs.Erasures.{erasuresFrom, erasuresRise, touched, flagsFrom, markAt}
 use Rattle.image.specs.Loading.{survivingAt, areBelow}
 use Rattle.rows.specs.Decoding.{areRecords}
-use Rattle.recovery.specs.Recovery.{laid, levelsOver}
-use Rattle.recovery.specs.Explaining.{pairsTo, left, shortfall, originsLaid}
+use Rattle.laying.specs.Laid.{laid, pairsTo, originsLaid}
+use Rattle.recovery.specs.Recovery.{levelsOver}
+use Rattle.explanation.specs.Counts.{left, shortfall}
 use Rattle.layout.specs.Refusals.{refusal}
 use Rattle.vault.specs.History.{after}
 use Rattle.vault.specs.Model.{wordsFit, fedAll}

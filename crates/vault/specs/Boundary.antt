@@ -9,7 +9,7 @@ use Rattle.layout.specs.Refusals.{ifTaken}
 use lib.ListN.{take, drop}
 use Rattle.store.specs.StoreCalls.{readNumber, readGives}
 use Rattle.recovery.specs.RecoveryCall.{recoverAnswer}
-use Rattle.recovery.specs.ExplainCall.{explainAnswer}
+use Rattle.explanation.specs.ExplainCall.{explainAnswer}
 
 -- READING hands out a part of the raw buffer as the index of its first word and its length; both are 0 where it is refused
 abbrev pub readStart : Header → (raw : List ℕ) → (number : ℕ) → ℕ

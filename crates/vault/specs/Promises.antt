@@ -86,9 +86,10 @@ use Rattle.rows.specs.Promises as Rows
 use Rattle.rows.specs.Promises.{InField, OutOfField}
 use Rattle.stripe.specs.Decoding.{decodeStripe}
 use Rattle.stripe.specs.StripeCall.{decodeEarly, decodeNumber, decodeLeaves, decodeScratch}
+use Rattle.recovery.specs.Origins.{originsSize}
 use Rattle.recovery.specs.RecoveryCall.{recoverAnswer, recoverLeaves, recoverScratch, unnamed, atFault}
-use Rattle.recovery.specs.Explaining.{countsSize, originsSize}
-use Rattle.recovery.specs.ExplainCall.{explainEarly, explainAnswer, explainCounts, explainOrigins, explainScratch}
+use Rattle.explanation.specs.Counts.{countsSize}
+use Rattle.explanation.specs.ExplainCall.{explainEarly, explainAnswer, explainCounts, explainOrigins, explainScratch}
 use Rattle.vault.specs.Event.{Opening, Event}
 use Rattle.vault.specs.Model.{Model, writes, tableNumber, modelOf, writtenAt, LastWrite, NoWrite}
 use Rattle.vault.specs.History.{numberOn, Opens, vaultAfter, headerAfter, imageAfter}

@@ -13,7 +13,7 @@ use Rattle.layout.specs.Header.{headerOf, firstOf}
 use Rattle.image.specs.Image.{little, imageOf}
 use Rattle.stripe.specs.StripeCall.{decodeNumber, decodeLeaves, decodeScratch}
 use Rattle.recovery.specs.RecoveryCall.{recoverAnswer, recoverLeaves}
-use Rattle.recovery.specs.ExplainCall.{explainAnswer, explainCounts, explainOrigins}
+use Rattle.explanation.specs.ExplainCall.{explainAnswer, explainCounts, explainOrigins}
 use Rattle.vault.specs.Event.{Opening, Event, write}
 use Rattle.vault.specs.Model.{modelOf}
 use Rattle.vault.specs.History.{Vault, imageLeft, numberOn, after, openedVault}

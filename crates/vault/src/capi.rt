@@ -7,7 +7,7 @@ ghost use Rattle.store.specs.Buffers.{buffers};
 ghost use Rattle.store.specs.StoreCalls.{openNumber, openLeaves, writeNumber, writeAnswer, writeLeaves, readNumber};
 ghost use Rattle.stripe.specs.StripeCall.{decodeNumber, decodeLeaves, decodeScratch};
 ghost use Rattle.recovery.specs.RecoveryCall.{recoverAnswer, recoverLeaves, recoverScratch};
-ghost use Rattle.recovery.specs.ExplainCall.{explainAnswer, explainCounts, explainOrigins, explainScratch};
+ghost use Rattle.explanation.specs.ExplainCall.{explainAnswer, explainCounts, explainOrigins, explainScratch};
 ghost use Rattle.image.specs.ImageCall.{imageNumber, imageLeaves};
 ghost use Rattle.vault.specs.Boundary.{readStart, readCount, shelfOf};
 
@@ -171,7 +171,7 @@ pub extern "C" fn vault_explain(
     ensures { λ _. ⌜ now (shelf .exit) ≡ shelfOf (explainAnswer (headerOf k s c) (now (image .entry)) (now (gaps .entry)) (now (counts .entry))
         (now (origins .entry)) (now (scratch .entry))) ⌝ }
 {
-    let explained = recovery::explaining::explain(
+    let explained = explanation::explaining::explain(
         Header { k: k, s: s, c: c },
         image,
         gaps,

@@ -5,8 +5,8 @@ use Prim.Native.Nat.{ℕ, _*_}
 use borrow.Author.Needs.{needs}
 use lib.ListN.{drop}
 use Rattle.code.specs.Stripe.{blockCount}
-use Rattle.recovery.specs.Explaining.{pairsTo}
-use Rattle.recovery.proofs.PairLoops.{filled-whole}
+use Rattle.laying.specs.Laid.{pairsTo}
+use Rattle.laying.proofs.PairLoops.{filled-whole}
 use Rattle.recovery.proofs.stripes.full_origins.Statement.{statement}
 use Rattle.recovery.proofs.stripes.full_origins.Tie as tie
 

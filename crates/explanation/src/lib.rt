@@ -1,0 +1,2 @@
+// The call that explains what recovery finds, proved for every input.
+pub mod explaining;

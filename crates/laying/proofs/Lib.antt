@@ -1,0 +1,3 @@
+pub mod BlockLaying
+pub mod LaidRecords
+pub mod PairLoops
