@@ -1,5 +1,5 @@
--- The counts of each stripe that recovery needs (docs/FORMAT.md, section 8): its positions left, and how many more it needs; zeros for any other stripe. Assumes
--- nothing: these are definitions.
+-- The counts of each stripe that recovery needs (docs/FORMAT.md, section 8): its positions left, and how many more it needs; zeros for any other stripe.
+-- Assumes nothing: these are definitions.
 use mathlib.Core.Bool.{true, false}
 use mathlib.Core.List.{List}
 use Prim.Native.Nat.{ℕ, suc, _*_, _-_, _^_}

@@ -86,7 +86,8 @@ pub fn explain(
     origins: &mut [u32],
     scratch: &mut [u32],
 ) -> Recovery
-    ensures { λ r. ⌜ r ≡ explainAnswer header (now (image .entry)) (now (erasures .entry)) (now (counts .entry)) (now (origins .entry)) (now (scratch .entry)) ⌝ }
+    ensures { λ r. ⌜ r ≡
+        explainAnswer header (now (image .entry)) (now (erasures .entry)) (now (counts .entry)) (now (origins .entry)) (now (scratch .entry)) ⌝ }
     ensures { λ _. ⌜ now (counts .exit) ≡
         explainCounts header (now (image .entry)) (now (erasures .entry)) (now (counts .entry)) (now (origins .entry)) (now (scratch .entry)) ⌝ }
     ensures { λ _. ⌜ now (origins .exit) ≡

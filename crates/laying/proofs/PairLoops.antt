@@ -41,7 +41,8 @@ module _ (f g : ℕ → ℕ) where
   unfolding pairsTo
   filling-start n o = record { turns = omega arith; same = refl; now = refl }
 
-  pub filling-turn : {n i : ℕ} {o₀ o o′ : List ℕ} → Filling n o₀ o i → i < n → n * 2 ≤ length o₀ → o′ ≡ replaced 2 o i (f i ∷ g i ∷ []) → Filling n o₀ o′ (i + 1)
+  pub filling-turn : {n i : ℕ} {o₀ o o′ : List ℕ} → Filling n o₀ o i → i < n → n * 2 ≤ length o₀ → o′ ≡ replaced 2 o i (f i ∷ g i ∷ [])
+      → Filling n o₀ o′ (i + 1)
   filling-turn {n} {i} {o₀} {o} {o′} F b room q = record {
     turns = omega arith;
     same = ap length q ∙ length-sets o (i * 2) (f i ∷ g i ∷ []) ∙ F .same;

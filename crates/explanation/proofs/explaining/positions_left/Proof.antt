@@ -28,7 +28,8 @@ count-erased-requires c κs =
     let s = start-at-marked marked in
     let a = s .args in (
       omega (arith, s .pre .1, fits (a .header) (s .pre .0) .k-high),
-      marks-fit (a .header) (a .level) {st = stripeOf (a .header) (a .level)} refl (erasuresIn (a .erasures .now)) (s .pre .0) (s .pre .1) (marked .before .mark-stripe .ensures),
+      marks-fit (a .header) (a .level) {st = stripeOf (a .header) (a .level)} refl (erasuresIn (a .erasures .now)) (s .pre .0) (s .pre .1)
+          (marked .before .mark-stripe .ensures),
     )
 
 -- the positions, and those of them that are erased

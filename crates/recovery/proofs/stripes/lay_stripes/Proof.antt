@@ -39,7 +39,8 @@ returns c =
     let all = lay-all-at-clear clear in
     let s = start-at-lay-all all in
     let t = s .args .task in
-    let found = stripesOver (t .header) (decodeStripe (t .header) (s .args .image .now) (erasuresIn (s .args .erasures .now))) (layerOf (t .origins) (t .header)) in
+    let d = decodeStripe (t .header) (s .args .image .now) (erasuresIn (s .args .erasures .now)) in
+    let found = stripesOver (t .header) d (layerOf (t .origins) (t .header)) in
     let r = all .lay-all in (
       r .ensures .0,
       (
