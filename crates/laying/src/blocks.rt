@@ -1,11 +1,12 @@
 // The blocks of a level laid over what the stripes before it left: their data, or their origins.
 use code::Stripe;
 ghost use mathlib.Core.Path.{_≡_};
+ghost use mathlib.Core.List.{_++_};
 ghost use Prim.Native.Nat.{ℕ, suc, _+_, _*_, _^_, _≤_, _<_};
-ghost use lib.ListN.{length};
-ghost use Rattle.code.specs.Stripe.{blockCount, stripeWords, blockWords};
+ghost use lib.ListN.{length, drop};
+ghost use Rattle.code.specs.Stripe.{blockCount, positionCount, blockWords, stripeWords};
 ghost use Rattle.image.specs.steps.Loading.{rowsIn};
-ghost use Rattle.rows.specs.Decoding.{blockNumber, decodedNumber, solved};
+ghost use Rattle.rows.specs.Decoding.{blockNumber, decodedNumber, decodedWords, solved};
 ghost use Rattle.rows.specs.StripeFits.{StripeFits};
 ghost use Rattle.rows.specs.steps.Ready.{Ready};
 ghost use Rattle.laying.specs.Laid.{laid, originsLaid};
@@ -60,7 +61,7 @@ fn lay_blocks(origins: bool, st: Stripe, blocks: &[u32], out: &mut [u32])
     }
 }
 
-// Decodes a level in the scratch and lays its blocks: 9 or 10, or 0. Where it is not 0 the output stays.
+// Decodes a level in the scratch and lays its blocks: 9 or 10, or 0. Where it is not 0 the output stays. The scratch is left as decoding leaves it.
 pub fn decode_and_lay(
     origins: bool,
     st: Stripe,
@@ -75,6 +76,9 @@ pub fn decode_and_lay(
     ensures { λ r. ⌜ r ≡ decodedNumber (solved st (now (marks .entry)) (rowsIn st (now (marks .entry)) (now (bytes .entry)))) ⌝ }
     ensures { λ _. ⌜ now (out .exit) ≡
         laidFrom (layBlocks origins st) (solved st (now (marks .entry)) (rowsIn st (now (marks .entry)) (now (bytes .entry)))) (now (out .entry)) ⌝ }
+    ensures { λ _. ⌜ now (scratch .exit) ≡
+        decodedWords (solved st (now (marks .entry)) (rowsIn st (now (marks .entry)) (now (bytes .entry)))) (stripeWords st + positionCount st) ++
+        drop (stripeWords st + positionCount st) (now (scratch .entry)) ⌝ }
 {
     let size = code::number::two_to(st.level) * st.width;
     let number = rows::decoding::decode_rows(st, bytes, marks, scratch);

@@ -7,19 +7,16 @@ ghost use Prim.Native.Nat.{_*_, _<_};
 ghost use lib.ListN.{length, replicate};
 ghost use Rattle.code.specs.Stripe.{blockCount, stripeWords};
 ghost use Rattle.layout.specs.Header.{scratchSize};
-ghost use Rattle.image.specs.Erasures.{erasuresIn};
 ghost use Rattle.image.specs.steps.Loading.{rowsIn};
 ghost use Rattle.rows.specs.Decoding.{decodedNumber, solved};
 ghost use Rattle.rows.specs.steps.Ready.{Ready};
 ghost use Rattle.columns.specs.steps.Ranges.{scratchWords};
-ghost use Rattle.stripe.specs.Decoding.{decodeStripe};
 ghost use Rattle.laying.specs.Laid.{pairsTo};
 ghost use Rattle.laying.specs.steps.Blocks.{laidFrom};
-ghost use Rattle.recovery.specs.Recovery.{levelsOver, stripesOver};
 ghost use Rattle.recovery.specs.RecoveryCall.{answerOf, recoveredWords};
-ghost use Rattle.recovery.specs.steps.Laying.{layerOf, laidSize, LayingFits};
+ghost use Rattle.recovery.specs.steps.Laying.{layerOf, laidSize, decoding, levelsLaid, stripesLaid, LayingFits};
 
-// The full stripe tested, and its origins, which it is of every record: 9 or 10, or 0.
+// Tests the full stripe, and names it as the origin of every record: 9 or 10, or 0.
 fn full_origins(
     st: Stripe,
     bytes: &[u8],
@@ -40,12 +37,12 @@ fn full_origins(
 
 // What the full stripe gives: 7, 8, 9 or 10, or 0 and the words.
 fn lay_full(task: Task, image: &[u8], erasures: &[u8], out: &mut [u32], scratch: &mut [u32]) -> u32
-    requires { ⌜ LayingFits (task .origins) (task .header) (now image) (now out) (now scratch) ⌝ }
-    ensures { λ r. ⌜ r ≡ decodedNumber (decodeStripe (task .header) (now (image .entry)) (erasuresIn (now (erasures .entry))) (task .header .k)) ⌝ }
+    requires { ⌜ LayingFits task (now image) (now out) (now scratch) ⌝ }
+    ensures { λ r. ⌜ r ≡ decodedNumber (decoding task (now (image .entry)) (now (erasures .entry)) (task .header .k)) ⌝ }
     ensures { λ r. ⌜ (r ≡ 0 →
         now (out .exit) ≡
         laidFrom (λ bs _. layerOf (task .origins) (task .header) .full bs)
-        (decodeStripe (task .header) (now (image .entry)) (erasuresIn (now (erasures .entry))) (task .header .k)) (now (out .entry))) ⌝ }
+        (decoding task (now (image .entry)) (now (erasures .entry)) (task .header .k)) (now (out .entry))) ⌝ }
 {
     let header = task.header;
     let k = header.k as usize;
@@ -71,12 +68,12 @@ fn lay_level(
     out: &mut [u32],
     scratch: &mut [u32],
 ) -> u32
-    requires { ⌜ LayingFits (task .origins) (task .header) (now image) (now out) (now scratch) ⌝ }
+    requires { ⌜ LayingFits task (now image) (now out) (now scratch) ⌝ }
     requires { ⌜ level < task .header .k ⌝ }
-    ensures { λ r. ⌜ r ≡ decodedNumber (decodeStripe (task .header) (now (image .entry)) (erasuresIn (now (erasures .entry))) level) ⌝ }
+    ensures { λ r. ⌜ r ≡ decodedNumber (decoding task (now (image .entry)) (now (erasures .entry)) level) ⌝ }
     ensures { λ _. ⌜ now (out .exit) ≡
         laidFrom (layerOf (task .origins) (task .header) .over level)
-        (decodeStripe (task .header) (now (image .entry)) (erasuresIn (now (erasures .entry))) level) (now (out .entry)) ⌝ }
+        (decoding task (now (image .entry)) (now (erasures .entry)) level) (now (out .entry)) ⌝ }
 {
     let header = task.header;
     let mut marks = [false; 2048];
@@ -97,14 +94,11 @@ fn lay_levels(
     out: &mut [u32],
     scratch: &mut [u32],
 ) -> Recovery
-    requires { ⌜ LayingFits (task .origins) (task .header) (now image) (now out) (now scratch) ⌝ }
-    ensures { λ r. ⌜ r ≡
-        answerOf (levelsOver (task .header .k) (task .header) (decodeStripe (task .header) (now (image .entry)) (erasuresIn (now (erasures .entry))))
-        (layerOf (task .origins) (task .header)) (now (out .entry))) ⌝ }
+    requires { ⌜ LayingFits task (now image) (now out) (now scratch) ⌝ }
+    ensures { λ r. ⌜ r ≡ answerOf (levelsLaid task (now (image .entry)) (now (erasures .entry)) (now (out .entry))) ⌝ }
     ensures { λ r. ⌜ (r .number ≡ 0 →
         now (out .exit) ≡
-        recoveredWords (levelsOver (task .header .k) (task .header) (decodeStripe (task .header) (now (image .entry)) (erasuresIn (now (erasures .entry))))
-        (layerOf (task .origins) (task .header)) (now (out .entry))) (laidSize (task .origins) (task .header))) ⌝ }
+        recoveredWords (levelsLaid task (now (image .entry)) (now (erasures .entry)) (now (out .entry))) (laidSize (task .origins) (task .header))) ⌝ }
 {
     let header = task.header;
     let mut level = header.k as usize;
@@ -136,14 +130,10 @@ fn lay_all(
     out: &mut [u32],
     scratch: &mut [u32],
 ) -> Recovery
-    requires { ⌜ LayingFits (task .origins) (task .header) (now image) (now out) (now scratch) ⌝ }
-    ensures { λ r. ⌜ r ≡
-        answerOf (stripesOver (task .header) (decodeStripe (task .header) (now (image .entry)) (erasuresIn (now (erasures .entry))))
-        (layerOf (task .origins) (task .header))) ⌝ }
+    requires { ⌜ LayingFits task (now image) (now out) (now scratch) ⌝ }
+    ensures { λ r. ⌜ r ≡ answerOf (stripesLaid task (now (image .entry)) (now (erasures .entry))) ⌝ }
     ensures { λ r. ⌜ (r .number ≡ 0 →
-        now (out .exit) ≡
-        recoveredWords (stripesOver (task .header) (decodeStripe (task .header) (now (image .entry)) (erasuresIn (now (erasures .entry))))
-        (layerOf (task .origins) (task .header))) (laidSize (task .origins) (task .header))) ⌝ }
+        now (out .exit) ≡ recoveredWords (stripesLaid task (now (image .entry)) (now (erasures .entry))) (laidSize (task .origins) (task .header))) ⌝ }
 {
     let number = lay_full(task, image, erasures, out, scratch);
     if number != 0 {
@@ -165,13 +155,10 @@ pub fn lay_stripes(
     out: &mut [u32],
     scratch: &mut [u32],
 ) -> Recovery
-    requires { ⌜ LayingFits (task .origins) (task .header) (now image) (now out) (now scratch) ⌝ }
-    ensures { λ r. ⌜ r ≡
-        answerOf (stripesOver (task .header) (decodeStripe (task .header) (now (image .entry)) (erasuresIn (now (erasures .entry))))
-        (layerOf (task .origins) (task .header))) ⌝ }
+    requires { ⌜ LayingFits task (now image) (now out) (now scratch) ⌝ }
+    ensures { λ r. ⌜ r ≡ answerOf (stripesLaid task (now (image .entry)) (now (erasures .entry))) ⌝ }
     ensures { λ _. ⌜ now (out .exit) ≡
-        recoveredWords (stripesOver (task .header) (decodeStripe (task .header) (now (image .entry)) (erasuresIn (now (erasures .entry))))
-        (layerOf (task .origins) (task .header))) (laidSize (task .origins) (task .header)) ⌝ }
+        recoveredWords (stripesLaid task (now (image .entry)) (now (erasures .entry))) (laidSize (task .origins) (task .header)) ⌝ }
     ensures { λ _. ⌜ now (scratch .exit) ≡ replicate (scratchSize (task .header)) 0 ⌝ }
 {
     let answer = lay_all(task, image, erasures, out, scratch);

@@ -1,6 +1,5 @@
 -- `laying::blocks::decode_and_lay` meets its contract, by the laws of proofs/LaidRecords. Assumes nothing.
-use Rattle.laying.specs.steps.Blocks.{layBlocks}
-use Rattle.laying.proofs.LaidRecords.{level-laid, level-kept, laying-needs as needs}
+use Rattle.laying.proofs.LaidRecords.{laying-needs as needs}
 use Rattle.laying.proofs.blocks.decode_and_lay.Statement.{statement}
 use Rattle.laying.proofs.blocks.decode_and_lay.Tie as tie
 
@@ -12,10 +11,10 @@ decode-and-lay-spec =
     (λ c. search needs)
     (λ c. search needs)
     (λ c. search needs)
-    (λ c. (search needs, search needs))
+    (λ c. (search needs, (search needs, c .before .before .before .decode-rows .ensures .1)))
     (λ c. search needs)
     (λ c. search needs)
     (λ c κs. (search needs, (search needs, search needs)))
     (λ c. search needs)
     (λ c. search needs)
-    (λ c. (search needs, search needs)))
+    (λ c. (search needs, (search needs, c .before .before .before .before .before .before .before .before .decode-rows .ensures .1))))

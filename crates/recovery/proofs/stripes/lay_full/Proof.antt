@@ -1,7 +1,6 @@
 -- `recovery::stripes::lay_full` meets its contract, by the laws of proofs/StripeRecords. Assumes nothing.
 use mathlib.Core.Path.{refl}
 use native.Mathlib.Nat.{le-refl}
-use Rattle.image.specs.Erasures.{erasuresIn}
 use Rattle.stripe.proofs.StripeAnswers.{solved-number}
 use Rattle.recovery.proofs.StripeRecords.{full-data, full-named, records-needs as needs}
 use Rattle.recovery.proofs.stripes.lay_full.Statement.{statement}
@@ -31,14 +30,11 @@ returns-2 c =
     let chosen = full .before .before .before .before in
     let bytes = chosen .before in
     let tested = bytes .before .before .before .before .mark-and-test .ensures in
-    let s = start-at-bytes bytes in
-    let h = s .args .task .header in
-    let gs = erasuresIn (s .args .erasures .now) in
-    let st = bytes .before .stripe-of .ensures in
     let z = bytes .before .before .if1 .left in
     let e = full .full-origins .ensures in (
-      solved-number h _ gs _ st (tested .1) (bytes .stripe-bytes .ensures) (tested .0) z (e .0),
-      full-named h _ gs _ st (tested .1) (bytes .stripe-bytes .ensures) (tested .0) z (s .pre .fits) refl (e .0) (chosen .if2 .taken) (e .1) _,
+      solved-number _ _ _ _ (bytes .before .stripe-of .ensures) (tested .1) (bytes .stripe-bytes .ensures) (tested .0) z (e .0),
+      full-named _ _ _ _ (bytes .before .stripe-of .ensures) (tested .1) (bytes .stripe-bytes .ensures) (tested .0) z (start-at-bytes bytes .pre .fits) refl
+          (e .0) (chosen .if2 .taken) (e .1) _,
     )
 
 returns-3 : tie.Need-returns-3
@@ -47,14 +43,11 @@ returns-3 c =
     let chosen = full .before .before .before .before in
     let bytes = chosen .before in
     let tested = bytes .before .before .before .before .mark-and-test .ensures in
-    let s = start-at-bytes bytes in
-    let h = s .args .task .header in
-    let gs = erasuresIn (s .args .erasures .now) in
-    let st = bytes .before .stripe-of .ensures in
     let z = bytes .before .before .if1 .left in
     let e = full .recover-full .ensures in (
-      solved-number h _ gs _ st (tested .1) (bytes .stripe-bytes .ensures) (tested .0) z (e .0),
-      full-data h _ gs _ st (tested .1) (bytes .stripe-bytes .ensures) (tested .0) z (s .pre .fits) refl (e .0) (chosen .if2 .left) (e .1 .0) _,
+      solved-number _ _ _ _ (bytes .before .stripe-of .ensures) (tested .1) (bytes .stripe-bytes .ensures) (tested .0) z (e .0),
+      full-data _ _ _ _ (bytes .before .stripe-of .ensures) (tested .1) (bytes .stripe-bytes .ensures) (tested .0) z (start-at-bytes bytes .pre .fits) refl
+          (e .0) (chosen .if2 .left) (e .1 .0) _,
     )
 
 pub lay-full-spec : {M : Type 1} → statement M
