@@ -9,17 +9,16 @@ use native.Mathlib.Omega.{arith}
 use borrow.Author.Needs.{needs}
 use lib.ListN.{length, drop, replicate, drop-of-length-le}
 use Rattle.code.specs.declared.Stripe.{Stripe}
-use Rattle.code.specs.Stripe.{blockCount, blockWords, stripeWords}
+use Rattle.code.specs.Stripe.{blockCount, blockWords}
 use Rattle.decoder.specs.Decoding.{isConsistent, blocksIn}
 use Rattle.layout.specs.Refusals.{ifTaken}
 use Rattle.layout.proofs.Refusals.{if-taken, if-refused}
-use Rattle.image.specs.steps.Loading.{columnsOf, rowsIn}
+use Rattle.image.specs.steps.Loading.{columnsOf}
 use Rattle.rows.specs.Decoding.{Decoded, failed, decoded, blockNumber, blockData, isRecord, areRecords, decodedNumber, decodedWords, solved}
-use Rattle.rows.specs.steps.Ready.{Ready}
 use Rattle.rows.proofs.BlockRecords.{number-full}
 use Rattle.rows.proofs.ColumnRanges.{columns-all, columns-row}
 use Rattle.rows.proofs.RowParts.{length-blocks}
-use Rattle.columns.specs.steps.Ranges.{placesTo, dataTo, columnsFit, rangeNumber, withoutFirst, Decodable}
+use Rattle.columns.specs.steps.Ranges.{placesTo, dataTo, columnsFit, rangeNumber, withoutFirst}
 use Rattle.columns.specs.steps.Full.{decodedData}
 use Rattle.columns.proofs.TestedRows.{Tested, tested-same, tested-both, places-tested, data-tested, fit-first}
 

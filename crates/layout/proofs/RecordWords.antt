@@ -4,14 +4,15 @@ use mathlib.Core.Bool.{true, false, _&&_, and-assoc}
 use mathlib.Core.Logic.{⊎-elim}
 use mathlib.Core.List.{List, [], _∷_, _++_, append-assoc}
 use Prim.Native.Nat.{ℕ, zero, suc, _+_, _*_, _≤_, _<_}
-use native.Mathlib.Nat.{eq-or-lt-of-le, mul-le-mul-right, zero-mul}
+use native.Mathlib.Nat.{eq-or-lt-of-le, le-refl, mul-le-mul-right, zero-mul}
+use native.Mathlib.Decide.{decLt}
 use native.Mathlib.Omega.{arith}
 use lib.Dec.{lit<}
 use lib.ListN.{length, take, drop, length-drop}
-use lib.Seq.{sets-eq, length-take-le, take-add, take-all}
+use lib.Seq.{sets, sets-eq, length-take-le, take-add, take-all, take-at, drop-at}
 use borrow.Author.Tests.{leb-true, le-leb}
 use Rattle.field.specs.Words.{Words}
-use Rattle.field.proofs.WordLists.{words-nil, words-cons, words-tail}
+use Rattle.field.proofs.WordLists.{words-nil, words-cons, words-tail, part-inside, take-sets, drop-sets}
 use Rattle.layout.specs.Records.{isData, areData, recordIn, replaced, recordsFit}
 use Rattle.field.proofs.Booleans.{both-true, first-true, second-true, first-false, second-false}
 
@@ -42,6 +43,27 @@ pub replaced-is : (s : ℕ) (r : List ℕ) (i : ℕ) (b : List ℕ) → length b
 replaced-is s r i b e h =
     sets-eq b r (i * s) (omega arith) ∙ append-assoc (take (i * s) r) b (drop (i * s + length b) r)
     ∙ ap (λ (n : ℕ). take (i * s) r ++ (b ++ drop n r)) {x = i * s + length b} {y = suc i * s} (omega arith)
+
+-- the record that is replaced, and any other
+module _ (s : ℕ) (r : List ℕ) (j : ℕ) (b : List ℕ) (long : length b ≡ s) where
+  pub record-same : j * s + s ≤ length r → recordIn s (replaced s r j b) j ≡ b
+  record-same h =
+      rw (
+        sets-eq b r (j * s) (omega arith),
+        append-assoc (take (j * s) r) b (drop (j * s + length b) r),
+        drop-at (take (j * s) r) _ (j * s) (length-take-le (j * s) r (omega arith)),
+      )
+      (take-at b (drop (j * s + length b) r) s long)
+
+  pub record-other : (i : ℕ) → (j ≡ i → ⊥) → recordIn s (replaced s r j b) i ≡ recordIn s r i
+  record-other i d = at (decLt i j)
+    where
+      at : Dec (i < j) → recordIn s (replaced s r j b) i ≡ recordIn s r i
+      at (yes h) =
+          let e = record-end j s i h in
+          sym (part-inside (i * s) s (j * s) (sets r (j * s) b) e)
+          ∙ ap (λ (x : List ℕ). take s (drop (i * s) x)) (take-sets (j * s) r (j * s) b (le-refl (j * s))) ∙ part-inside (i * s) s (j * s) r e
+      at (no h) = ap (take s) (drop-sets (i * s) r (j * s) b (omega (arith, record-end i s j (omega arith))))
 
 -- data words of two lists
 data-append : (a b : List ℕ) → areData (a ++ b) ≡ (areData a && areData b)

@@ -9,8 +9,8 @@ use lib.ListN.{length, take, drop}
 use lib.Seq.{sets, length-sets}
 use Rattle.store.specs.Buffers.{reduced}
 use Rattle.store.specs.steps.Writing.{halfStart, halfIn, gathered}
-use Rattle.field.proofs.WordLists.{sets-append, part-inside}
-use Rattle.store.proofs.Stores.{take-sets, length-copy}
+use Rattle.field.proofs.WordLists.{sets-append, part-inside, take-sets}
+use Rattle.store.proofs.Stores.{length-copy}
 
 -- WHERE HALVES STAND: a level is X and Y, and the next one follows
 module _ (width : ℕ) where

@@ -11,7 +11,7 @@ use lib.Seq.{sets, sets-eq, length-take-le, take-at, drop-at}
 use Rattle.field.specs.Power.{power}
 use Rattle.field.specs.Words.{Words}
 use Rattle.field.proofs.Laws.{times-comm, times-one}
-use Rattle.field.proofs.WordLists.{words-append, words-tail, sets-append}
+use Rattle.field.proofs.WordLists.{words-append, words-tail, sets-append, take-sets}
 use Rattle.code.specs.Rows.{lifted}
 use Rattle.code.specs.Transform.{mixedHalves, scaled}
 use Rattle.layout.specs.declared.Header.{Header}
@@ -19,7 +19,7 @@ use Rattle.layout.specs.Header.{vaultRoot, count, width, levelAt, stripeSize}
 use Rattle.store.specs.Writing.{newRow, rebuiltHalf, logWith}
 use Rattle.store.specs.steps.Writing.{halfStart, halfIn, gathered, folded}
 use Rattle.store.proofs.StoredRecords.{words-reduced}
-use Rattle.store.proofs.Stores.{take-sets, length-copy}
+use Rattle.store.proofs.Stores.{length-copy}
 use Rattle.store.proofs.Gathering.{gathered-same, half-end, rows-double, next-level}
 
 -- a level within the log has the levels below within it, and both halves of the one below

@@ -1,17 +1,12 @@
--- Laws of stores: what stands before them, words copied modulo p. Assumes nothing.
+-- Words copied modulo p. Assumes nothing.
 use mathlib.Core.Path.{_≡_, refl, _∙_}
 use mathlib.Core.List.{List, [], _∷_}
 use Prim.Native.Nat.{ℕ, zero, suc, _+_, _%_, _≤_, _<_}
 use native.Mathlib.Omega.{arith}
-use lib.ListN.{length, getD, set, take, drop, length-drop}
-use lib.Seq.{sets, length-take-le, getD-take, getD-drop, take-set-le}
+use lib.ListN.{length, getD, take, drop, length-drop}
+use lib.Seq.{length-take-le, getD-take, getD-drop}
 use Rattle.store.specs.Buffers.{reduced}
 use Rattle.store.proofs.StoredRecords.{length-reduced}
-
--- what stands before is as it was
-pub take-sets : (n : ℕ) (l : List ℕ) (at : ℕ) (ws : List ℕ) → n ≤ at → take n (sets l at ws) ≡ take n l
-take-sets n l at [] h = refl
-take-sets n l at (w ∷ ws) h = take-sets n (set l at w) (suc at) ws (omega arith) ∙ take-set-le n l at w h
 
 -- words that are copied modulo p
 module _ (p from n : ℕ) (l : List ℕ) (h : from + n ≤ length l) where

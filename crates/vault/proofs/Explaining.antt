@@ -16,16 +16,17 @@ use Rattle.rows.specs.Decoding.{Decoded, failed, decoded}
 use Rattle.rows.proofs.Proved as Decoding
 use Rattle.stripe.specs.Decoding.{decodeStripe}
 use Rattle.recovery.specs.declared.Recovery.{Recovery}
-use Rattle.recovery.specs.Recovery.{Layer, Recovered, stopped, recovered, thenLay, levelsOver, stripesOver, records}
+use Rattle.recovery.specs.Recovery.{Layer, Recovered, thenLay, levelsOver, stripesOver, records}
 use Rattle.recovery.specs.Origins.{originsSize, origins, explain}
 use Rattle.recovery.specs.RecoveryCall.{recoverEarly, unnamed, answerOf, recoveredWords}
 use Rattle.explanation.specs.Counts.{countsSize, left, shortfall, countsOf}
 use Rattle.explanation.specs.ExplainCall.{explainEarly, explainCounts}
 use Rattle.vault.specs.Promises.{marks, Needed, Agrees, CountsAre, CountsSharp, ExplainLeaves}
-use Rattle.field.proofs.Booleans.{is-false, chosen-first, chosen-second}
+use Rattle.field.proofs.Booleans.{is-false}
 use Rattle.layout.proofs.Refusals.{if-taken, if-refused}
-use Rattle.laying.proofs.PairLoops.{length-pairs}
-use Rattle.vault.proofs.Pairs.{pair-at}
+use Rattle.laying.proofs.PairLoops.{length-pairs, pair-at}
+use Rattle.recovery.proofs.LevelsRecovery.{stopped-words}
+use Rattle.explanation.proofs.ExplainCall.{left-needed, left-none, short-needed, short-none}
 use Rattle.vault.proofs.StripeCall.{needed-passes, passes-needed, needed-within}
 
 -- WHAT IS LAID does not matter to the number and to the stripe
@@ -74,18 +75,16 @@ module _ (h : Header) (m e n o s : List ℕ) (taken : explainEarly h m e n o s �
   count-at l b = rw counted (pair-at (left h (erasuresIn e)) (shortfall h (erasuresIn e)) (suc (h .k)) l (omega arith))
 
   count-needed : (l : ℕ) → Needed h l → (getD counts (2 * l) 0 ≡ leftOf l) × (getD counts (2 * l + 1) 0 ≡ 2 ^ l - leftOf l)
-  unfolding left shortfall
   count-needed l need =
       let t = needed-passes h l need in
       let c = count-at l (needed-within h l need) in
-      (c .0 ∙ chosen-first (hasStripe h l) (leftOf l) 0 t, c .1 ∙ chosen-first (hasStripe h l) (2 ^ l - leftOf l) 0 t)
+      (c .0 ∙ left-needed h (erasuresIn e) l t, c .1 ∙ short-needed h (erasuresIn e) l t)
 
   count-other : (l : ℕ) → l ≤ h .k → (Needed h l → ⊥) → (getD counts (2 * l) 0 ≡ 0) × (getD counts (2 * l + 1) 0 ≡ 0)
-  unfolding left shortfall
   count-other l b d =
       let f = is-false (hasStripe h l) (λ t. d (passes-needed h l t)) in
       let c = count-at l b in
-      (c .0 ∙ chosen-second (hasStripe h l) (leftOf l) 0 f, c .1 ∙ chosen-second (hasStripe h l) (2 ^ l - leftOf l) 0 f)
+      (c .0 ∙ left-none h (erasuresIn e) l f, c .1 ∙ short-none h (erasuresIn e) l f)
 
 pub countsAre : CountsAre
 countsAre h m e n o s t = (
@@ -100,10 +99,6 @@ countsSharp h m e n o s l d ms r t need more =
     (λ q. omega (arith, few .0 q, c .0, c .1), λ b. few .1 (omega (arith, c .0, c .1)))
 
 -- WHAT IT LEAVES
-stopped-zeros : (x : Recovered) (n : ℕ) → (answerOf x .number ≡ 0 → ⊥) → recoveredWords x n ≡ replicate n 0
-stopped-zeros (stopped i l) n f = refl
-stopped-zeros (recovered r) n f = absurd (f refl)
-
 pub explainLeaves : ExplainLeaves
 explainLeaves h m e n o s =
     let x = explain h (decodeStripe h m (erasuresIn e)) in
@@ -111,7 +106,7 @@ explainLeaves h m e n o s =
       λ t. (
         if-taken (replicate (scratchSize h) 0) s t,
         λ f. if-taken (recoveredWords x (originsSize h)) o t
-            ∙ stopped-zeros x (originsSize h) (λ q. f (ap (λ (a : Recovery). a .number) (if-taken (answerOf x) (unnamed early) t) ∙ q)),
+            ∙ stopped-words x (originsSize h) (if-taken (answerOf x) (unnamed early) t) f,
       ),
       λ f. (
         if-refused (countsOf h (erasuresIn e)) n f,

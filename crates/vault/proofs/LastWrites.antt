@@ -2,17 +2,15 @@
 -- last write to it, and that of the round's start where the round has none. Assumes nothing.
 use mathlib.Core.Path.{_≡_, refl, sym, ap, _∙_}
 use mathlib.Core.Logic.{_⊎_, inl, inr, ⊎-elim}
-use mathlib.Core.List.{List, [], _∷_, append-assoc}
-use Prim.Native.Nat.{ℕ, zero, suc, _+_, _*_, _^_, _≤_, _<_}
+use mathlib.Core.List.{List, [], _∷_}
+use Prim.Native.Nat.{ℕ, zero, suc, _*_, _^_, _≤_, _<_}
 use native.Mathlib.Nat.{le-refl}
-use native.Mathlib.Decide.{decLt, ℕ-discrete}
+use native.Mathlib.Decide.{ℕ-discrete}
 use native.Mathlib.Omega.{arith}
-use lib.ListN.{length, getD, set, take, drop}
-use lib.Seq.{sets, sets-eq, length-sets, length-take-le, take-all, take-suc, take-at, drop-at, drop-set-lt}
-use Rattle.field.proofs.WordLists.{part-inside}
+use lib.ListN.{length, getD, take}
+use lib.Seq.{length-sets, take-all, take-suc}
 use Rattle.layout.specs.Records.{recordIn, replaced}
-use Rattle.layout.proofs.RecordWords.{record-end}
-use Rattle.store.proofs.Stores.{take-sets}
+use Rattle.layout.proofs.RecordWords.{record-end, record-same, record-other}
 use Rattle.vault.specs.Event.{Entry}
 use Rattle.vault.specs.Model.{Model, writes, writtenAt, LastWrite, NoWrite}
 use Rattle.vault.specs.Round.{Round, putAll, recordsIn, modelIn}
@@ -20,31 +18,6 @@ use Rattle.vault.specs.Promises.{LastIsRecord, ElseAtStart}
 use Rattle.vault.proofs.Laying.{noEntry, entry-at}
 use Rattle.vault.proofs.Rounds.{AllTaken, Good, put-append}
 use Rattle.vault.proofs.Histories.{histories, modelIs, round-sizes}
-
--- RECORDS REPLACED: the record itself, and any other
-drop-sets : (n : ℕ) (l : List ℕ) (at : ℕ) (ws : List ℕ) → at + length ws ≤ n → drop n (sets l at ws) ≡ drop n l
-drop-sets n l at [] h = refl
-drop-sets n l at (w ∷ ws) h = drop-sets n (set l at w) (suc at) ws (omega arith) ∙ drop-set-lt n l at w (omega arith)
-
-module _ (s : ℕ) (r : List ℕ) (j : ℕ) (b : List ℕ) (long : length b ≡ s) where
-  record-same : j * s + s ≤ length r → recordIn s (replaced s r j b) j ≡ b
-  record-same h =
-      rw (
-        sets-eq b r (j * s) (omega arith),
-        append-assoc (take (j * s) r) b (drop (j * s + length b) r),
-        drop-at (take (j * s) r) _ (j * s) (length-take-le (j * s) r (omega arith)),
-      )
-      (take-at b (drop (j * s + length b) r) s long)
-
-  record-other : (i : ℕ) → (j ≡ i → ⊥) → recordIn s (replaced s r j b) i ≡ recordIn s r i
-  record-other i d = at (decLt i j)
-    where
-      at : Dec (i < j) → recordIn s (replaced s r j b) i ≡ recordIn s r i
-      at (yes h) =
-          let e = record-end j s i h in
-          sym (part-inside (i * s) s (j * s) (sets r (j * s) b) e)
-          ∙ ap (λ (x : List ℕ). take s (drop (i * s) x)) (take-sets (j * s) r (j * s) b (le-refl (j * s))) ∙ part-inside (i * s) s (j * s) r e
-      at (no h) = ap (take s) (drop-sets (i * s) r (j * s) b (omega (arith, record-end i s j (omega arith))))
 
 -- WRITES with the numbers f 0, f 1, ..: the last to record i among the first n is write t, or none of them is to it
 pub record Last (f : ℕ → ℕ) (n i t : ℕ) : Type 0 where

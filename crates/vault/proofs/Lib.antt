@@ -8,7 +8,6 @@ pub mod Laying
 pub mod Levels
 pub mod Loading
 pub mod Origins
-pub mod Pairs
 pub mod Proved
 pub mod Rebuilding
 pub mod RoundDecoding

@@ -5,14 +5,12 @@ use mathlib.Core.Bool.{true}
 use mathlib.Core.Logic.{inl, inr, ⊎-elim}
 use mathlib.Core.List.{List, [], _∷_}
 use Prim.Native.Nat.{ℕ, zero, suc, _+_, _*_, _-_, _/_, _^_, _≤_, _<_}
-use native.Mathlib.Nat.{mul-assoc, add-zero, add-suc, div-mul-le-self, mul-le-mul-right, le-div-iff-mul-le, le-refl}
+use native.Mathlib.Nat.{add-zero, add-suc, le-refl}
 use native.Mathlib.Omega.{arith}
-use lib.Pow.{pow-pos, pow-add}
 use lib.ListN.{length, getD, drop}
 use lib.Seq.{getD-take, getD-drop}
 use Rattle.layout.specs.declared.Header.{Header}
 use Rattle.layout.specs.Header.{count, width, isFilled, firstOf}
-use Rattle.layout.specs.Records.{recordIn}
 use Rattle.rows.specs.Decoding.{blockNumber}
 use Rattle.laying.specs.Laid.{originsLaid}
 use Rattle.recovery.specs.Origins.{originsSize, fullOrigins, origins}
@@ -21,26 +19,17 @@ use Rattle.vault.specs.Event.{Entry}
 use Rattle.vault.specs.Round.{Round, rowsOf, modelIn, roundHeader, levelEntries}
 use Rattle.vault.specs.Promises.{KeepsHalf, HoldsWrite, Origin, OriginsTrue, OneOrigin}
 use Rattle.layout.proofs.StripePlaces.{first-level}
-use Rattle.laying.proofs.PairLoops.{length-pairs}
-use Rattle.vault.proofs.Pairs.{pair-at}
+use Rattle.laying.proofs.PairLoops.{length-pairs, pair-at, same-pair}
 use Rattle.vault.proofs.Levels.{filled-in}
 use Rattle.vault.proofs.Laying.{noEntry, entry-at, number-at}
 use Rattle.vault.proofs.Rounds.{Good, length-entries}
 use Rattle.vault.proofs.Histories.{modelIs}
 use Rattle.vault.proofs.RoundDecoding.{level-taken}
-use Rattle.vault.proofs.RoundRecovery.{multiple-filled, multiple-empty, multiple-all, multiple-none, stripes-keep}
+use Rattle.vault.proofs.RoundRecovery.{multiple-falls, multiple-filled, multiple-empty, multiple-all, multiple-none, stripes-keep}
 use Rattle.vault.proofs.ExplainedRounds.{OfRound, explained-header, explained-round}
 use Rattle.vault.proofs.LastWrites.{Written, written-none, written-more, one-last, numbers, last-write}
 
--- ONE ORIGIN. The multiple of 2^l below c is no less than that of a higher power
-multiple-falls : (c l m : ℕ) → l ≤ m → c / 2 ^ m * 2 ^ m ≤ c / 2 ^ l * 2 ^ l
-multiple-falls c l m b =
-    let e : 2 ^ (m - l) * 2 ^ l ≡ 2 ^ m = sym (pow-add 2 (m - l) l) ∙ ap (λ (x : ℕ). 2 ^ x) {x = m - l + l} {y = m} (omega arith) in
-    let same : c / 2 ^ m * 2 ^ (m - l) * 2 ^ l ≡ c / 2 ^ m * 2 ^ m = mul-assoc (c / 2 ^ m) (2 ^ (m - l)) (2 ^ l) ∙ ap (λ (x : ℕ). c / 2 ^ m * x) e in
-    let whole : c / 2 ^ m * 2 ^ (m - l) ≤ c / 2 ^ l = le-div-iff-mul-le (pow-pos l) .1 (rw same (div-mul-le-self c (2 ^ m))) in
-    rw same at (mul-le-mul-right (2 ^ l) whole)
-
--- so that of two filled levels the lower one holds later writes
+-- ONE ORIGIN. Of two filled levels the lower one holds later writes
 later : (h : Header) (l l′ : ℕ) → l < l′ → l′ < h .k → isFilled h l′ ≡ true → firstOf h l′ + 2 ^ l′ ≤ firstOf h l
 later h l l′ b b′ f =
     rw (first-level h l (λ q. omega arith), first-level h l′ (λ q. omega arith), multiple-filled (h .c) l′ f) (multiple-falls (h .c) (suc l) l′ b)
@@ -56,18 +45,6 @@ oneOrigin h x i l t l′ t′ (inl (a, b)) (inl (c, d)) = let e = one-last a c i
 oneOrigin h x i l t l′ t′ (inl (a, b)) (inr none) = absurd (none .0 t (a .among) (a .to))
 oneOrigin h x i l t l′ t′ (inr none) (inl (c, d)) = absurd (none .0 t′ (c .among) (c .to))
 oneOrigin h x i l t l′ t′ (inr (a, b, c)) (inr (d, e, f)) = (b ∙ sym e, c ∙ sym f)
-
--- PAIRS of words that are the same as records of two words are so word by word
-same-pair : (r r′ : List ℕ) (i i′ : ℕ) → recordIn 2 r i ≡ recordIn 2 r′ i′
-    → (getD r (2 * i) 0 ≡ getD r′ (2 * i′) 0) × (getD r (2 * i + 1) 0 ≡ getD r′ (2 * i′ + 1) 0)
-same-pair r r′ i i′ e = (rw (add-zero (2 * i), add-zero (2 * i′)) at (word 0 (omega arith)), word 1 (omega arith))
-  where
-    at : (r : List ℕ) (i j : ℕ) → j < 2 → getD (recordIn 2 r i) j 0 ≡ getD r (2 * i + j) 0
-    at r i j b =
-        getD-take 2 (drop (i * 2) r) j 0 b ∙ getD-drop (i * 2) r j 0 ∙ ap (λ (n : ℕ). getD r n 0) {x = i * 2 + j} {y = 2 * i + j} (omega arith)
-
-    word : (j : ℕ) → j < 2 → getD r (2 * i + j) 0 ≡ getD r′ (2 * i′ + j) 0
-    word j b = sym (at r i j b) ∙ ap (λ (x : List ℕ). getD x j 0) e ∙ at r′ i′ j b
 
 -- THE LEVELS of a round, from k down: when those from l on are laid, the pairs are those of the writes below the multiple of 2^l
 module _ {a : Round} (good : Good a) where

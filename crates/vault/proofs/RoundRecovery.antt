@@ -4,10 +4,11 @@ use mathlib.Core.Path.{_≡_, refl, sym, ap, _∙_}
 use mathlib.Core.Bool.{Bool, true, false}
 use mathlib.Core.Logic.{inl, inr}
 use mathlib.Core.List.{List, [], _++_}
-use Prim.Native.Nat.{ℕ, zero, suc, _+_, _*_, _/_, _%_, _^_, _≤_, _<_}
-use native.Mathlib.Nat.{pow-succ', div-one, mul-one, zero-mul, div-eq-of-lt, le-refl}
+use Prim.Native.Nat.{ℕ, zero, suc, _+_, _*_, _-_, _/_, _%_, _^_, _≤_, _<_}
+use native.Mathlib.Nat.{pow-succ', div-one, mul-one, zero-mul, mul-assoc, mul-le-mul-right, div-eq-of-lt, div-mul-le-self, le-div-iff-mul-le, le-refl}
 use native.Mathlib.Omega.{arith}
 use lib.Dec.{eqb}
+use lib.Pow.{pow-pos, pow-add}
 use lib.ListN.{length, take, drop, replicate, length-replicate}
 use lib.Seq.{take-all, take-add}
 use borrow.Author.Tests.{eqb-true, eqb-false, eq-eqb}
@@ -35,6 +36,14 @@ multiple c l = rw (next-bit, pow-succ') (go (c / 2 ^ l) (2 ^ l))
   where
     go : (d m : ℕ) → d / 2 * (2 * m) + d % 2 * m ≡ d * m
     go d m = omega (arith, ap (λ (x : ℕ). x * m) {x = d} {y = d / 2 * 2 + d % 2} (omega arith))
+
+-- it is no less than that of a higher power
+pub multiple-falls : (c l m : ℕ) → l ≤ m → c / 2 ^ m * 2 ^ m ≤ c / 2 ^ l * 2 ^ l
+multiple-falls c l m b =
+    let e : 2 ^ (m - l) * 2 ^ l ≡ 2 ^ m = sym (pow-add 2 (m - l) l) ∙ ap (λ (x : ℕ). 2 ^ x) {x = m - l + l} {y = m} (omega arith) in
+    let same : c / 2 ^ m * 2 ^ (m - l) * 2 ^ l ≡ c / 2 ^ m * 2 ^ m = mul-assoc (c / 2 ^ m) (2 ^ (m - l)) (2 ^ l) ∙ ap (λ (x : ℕ). c / 2 ^ m * x) e in
+    let whole : c / 2 ^ m * 2 ^ (m - l) ≤ c / 2 ^ l = le-div-iff-mul-le (pow-pos l) .1 (rw same (div-mul-le-self c (2 ^ m))) in
+    rw same at (mul-le-mul-right (2 ^ l) whole)
 
 pub multiple-filled : (c l : ℕ) → eqb (c / 2 ^ l % 2) 1 ≡ true → c / 2 ^ suc l * 2 ^ suc l + 2 ^ l ≡ c / 2 ^ l * 2 ^ l
 multiple-filled c l e = omega (arith, multiple c l, ap (λ (x : ℕ). x * 2 ^ l) (eqb-true (c / 2 ^ l % 2) 1 e))

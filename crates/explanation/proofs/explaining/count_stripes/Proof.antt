@@ -1,9 +1,8 @@
 -- `explanation::explaining::count_stripes` meets its contract. Assumes nothing.
-use mathlib.Core.Path.{_≡_, sym, ap, _∙_}
+use mathlib.Core.Path.{_≡_, _∙_}
 use Prim.Native.Nat.{suc, _-_}
 use native.Mathlib.Omega.{arith}
 use borrow.Author.Needs.{needs}
-use Rattle.layout.proofs.Bounds.{fits}
 use Rattle.image.specs.Erasures.{erasuresIn}
 use Rattle.explanation.specs.Counts.{left, shortfall}
 use Rattle.laying.proofs.PairLoops.{Filling, filling-start, filling-turn, filling-done, filled-whole}

@@ -1,5 +1,5 @@
 -- `explanation::explaining::explain` meets its contract. Assumes nothing.
-use mathlib.Core.Path.{_≡_, sym, _∙_}
+use mathlib.Core.Path.{sym, _∙_}
 use borrow.Author.Needs.{needs}
 use Rattle.explanation.proofs.ExplainCall.{explain-refused, explain-taken, Lent, lent}
 use Rattle.explanation.proofs.explaining.explain.Statement.{statement}

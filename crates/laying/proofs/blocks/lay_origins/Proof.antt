@@ -1,12 +1,9 @@
 -- `laying::blocks::lay_origins` meets its contract. The invariant: the origins of the first i blocks are laid. Assumes nothing.
-use mathlib.Core.Path.{_≡_, refl, sym, ap, _∙_}
-use mathlib.Core.List.{[], _∷_}
-use Prim.Native.Nat.{ℕ, suc, _+_, _*_, _-_, _^_, _≤_, _<_}
+use mathlib.Core.Path.{_∙_}
+use Prim.Native.Nat.{suc, _+_, _-_, _≤_, _<_}
 use native.Mathlib.Nat.{mul-le-mul-right}
 use native.Mathlib.Omega.{arith}
-use borrow.Author.Needs.{needs}
 use lib.ListN.{length}
-use lib.Pow.{pow-mono}
 use Rattle.code.specs.Stripe.{blockCount}
 use Rattle.laying.proofs.PairLoops.{Naming, naming-start, naming-turn, naming-done}
 use Rattle.laying.proofs.blocks.lay_origins.Statement.{statement}

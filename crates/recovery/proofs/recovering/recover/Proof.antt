@@ -1,5 +1,5 @@
 -- `recovery::recovering::recover` meets its contract. Assumes nothing.
-use mathlib.Core.Path.{_≡_, sym, _∙_}
+use mathlib.Core.Path.{sym, _∙_}
 use borrow.Author.Needs.{needs}
 use lib.ListN.{length}
 use Rattle.image.proofs.ImageRefusals.{lent}
