@@ -145,12 +145,8 @@ module _ (st : Stripe) (ms : List Bool) (r : List ℕ) where
       let z : st .width - 1 ≡ pred (st .width) = omega arith in
       q ∙ solved-leaves (decodedData st) _ _ (rw z) (λ n. rw z)
 
--- WHAT IS LENT: the stripe, and the room for all columns, all but the first, or none
+-- WHAT IS LENT: the room for all columns, all but the first, or none
 module _ (st : Stripe) where
-  pub decodable : {skip : ℕ} {bytes : List ℕ} {ms : List Bool} → Ready st ms (rowsIn st ms bytes) → (length bytes ≡ 4 * stripeWords st) × (st .level ≡ st .k)
-      → skip ≤ st .width → Decodable st skip bytes ms
-  decodable r l few = record { ready = r; long = l .0; full = l .1; few = few }
-
   module _ {n : ℕ} where
     pub lent-whole : n ≡ blockWords st → n ≡ blockCount st * (st .width - 0)
     lent-whole e = let z : st .width - 0 ≡ st .width = omega arith in e ∙ rw z
@@ -162,4 +158,4 @@ module _ (st : Stripe) where
   lent-none = let z : st .width - st .width ≡ 0 = omega arith in rw (z, mul-zero)
 
 -- what the needs of the functions that decode the full stripe follow from
-pub ruleset full-needs = (whole-left, data-left, decodable, lent-whole, lent-data, lent-none, needs)
+pub ruleset full-needs = (whole-left, data-left, lent-whole, lent-data, lent-none, needs)

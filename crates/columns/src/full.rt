@@ -3,13 +3,12 @@ use code::Stripe;
 ghost use mathlib.Core.Path.{_≡_};
 ghost use Prim.Native.Nat.{_*_, _-_, _≤_, pred};
 ghost use lib.ListN.{length, drop, replicate};
-ghost use Rattle.code.specs.Stripe.{blockCount, positionCount, blockWords, stripeWords};
+ghost use Rattle.code.specs.Stripe.{blockCount, positionCount, blockWords};
 ghost use Rattle.decoder.specs.steps.Decoder.{weightsIn};
 ghost use Rattle.layout.specs.Refusals.{ifTaken};
 ghost use Rattle.image.specs.steps.Loading.{rowsIn};
 ghost use Rattle.rows.specs.Decoding.{decodedNumber, decodedWords, solved};
 ghost use Rattle.rows.specs.StripeFits.{StripeFits};
-ghost use Rattle.rows.specs.steps.Ready.{Ready};
 ghost use Rattle.columns.specs.steps.Ranges.{Decodable, scratchWords, withoutFirst};
 ghost use Rattle.columns.specs.steps.Full.{decodedData};
 
@@ -58,8 +57,7 @@ pub fn decode_full(
     out: &mut [u32],
     scratch: &mut [u32],
 ) -> u32
-    requires { ⌜ Ready st (now marks) (rowsIn st (now marks) (now bytes)) ⌝ }
-    requires { ⌜ (length (now bytes) ≡ 4 * stripeWords st) × (st .level ≡ st .k) ⌝ }
+    requires { ⌜ Decodable st 0 (now bytes) (now marks) ⌝ }
     requires { ⌜ (length (now out) ≡ blockWords st) × (length (now scratch) ≡ scratchWords st) ⌝ }
     ensures { λ r. ⌜ r ≡ decodedNumber (solved st (now (marks .entry)) (rowsIn st (now (marks .entry)) (now (bytes .entry)))) ⌝ }
     ensures { λ _. ⌜ now (out .exit) ≡ decodedWords (solved st (now (marks .entry)) (rowsIn st (now (marks .entry)) (now (bytes .entry)))) (blockWords st) ⌝ }
@@ -76,8 +74,7 @@ pub fn recover_full(
     out: &mut [u32],
     scratch: &mut [u32],
 ) -> u32
-    requires { ⌜ Ready st (now marks) (rowsIn st (now marks) (now bytes)) ⌝ }
-    requires { ⌜ (length (now bytes) ≡ 4 * stripeWords st) × (st .level ≡ st .k) ⌝ }
+    requires { ⌜ Decodable st 1 (now bytes) (now marks) ⌝ }
     requires { ⌜ (length (now out) ≡ blockCount st * pred (st .width)) × (length (now scratch) ≡ scratchWords st) ⌝ }
     ensures { λ r. ⌜ r ≡ decodedNumber (solved st (now (marks .entry)) (rowsIn st (now (marks .entry)) (now (bytes .entry)))) ⌝ }
     ensures { λ _. ⌜ now (out .exit) ≡ decodedData st (solved st (now (marks .entry)) (rowsIn st (now (marks .entry)) (now (bytes .entry)))) ⌝ }
@@ -88,8 +85,7 @@ pub fn recover_full(
 
 // Whether the full stripe holds records: 9 or 10, or 0. It is lent no room for them. The scratch is zeros.
 pub fn check_full(st: Stripe, bytes: &[u8], marks: &[bool], scratch: &mut [u32]) -> u32
-    requires { ⌜ Ready st (now marks) (rowsIn st (now marks) (now bytes)) ⌝ }
-    requires { ⌜ (length (now bytes) ≡ 4 * stripeWords st) × (st .level ≡ st .k) ⌝ }
+    requires { ⌜ Decodable st (st .width) (now bytes) (now marks) ⌝ }
     requires { ⌜ length (now scratch) ≡ scratchWords st ⌝ }
     ensures { λ r. ⌜ r ≡ decodedNumber (solved st (now (marks .entry)) (rowsIn st (now (marks .entry)) (now (bytes .entry)))) ⌝ }
     ensures { λ _. ⌜ now (scratch .exit) ≡ replicate (scratchWords st) 0 ⌝ }

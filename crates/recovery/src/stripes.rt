@@ -5,12 +5,11 @@ use code::Stripe;
 ghost use mathlib.Core.Path.{_≡_};
 ghost use Prim.Native.Nat.{_*_, _<_};
 ghost use lib.ListN.{length, replicate};
-ghost use Rattle.code.specs.Stripe.{blockCount, stripeWords};
+ghost use Rattle.code.specs.Stripe.{blockCount};
 ghost use Rattle.layout.specs.Header.{scratchSize};
 ghost use Rattle.image.specs.steps.Loading.{rowsIn};
 ghost use Rattle.rows.specs.Decoding.{decodedNumber, solved};
-ghost use Rattle.rows.specs.steps.Ready.{Ready};
-ghost use Rattle.columns.specs.steps.Ranges.{scratchWords};
+ghost use Rattle.columns.specs.steps.Ranges.{Decodable, scratchWords};
 ghost use Rattle.laying.specs.Laid.{pairsTo};
 ghost use Rattle.laying.specs.steps.Blocks.{laidFrom};
 ghost use Rattle.recovery.specs.RecoveryCall.{answerOf, recoveredWords};
@@ -24,8 +23,7 @@ fn full_origins(
     out: &mut [u32],
     scratch: &mut [u32],
 ) -> u32
-    requires { ⌜ Ready st (now marks) (rowsIn st (now marks) (now bytes)) ⌝ }
-    requires { ⌜ (length (now bytes) ≡ 4 * stripeWords st) × (st .level ≡ st .k) ⌝ }
+    requires { ⌜ Decodable st (st .width) (now bytes) (now marks) ⌝ }
     requires { ⌜ (length (now out) ≡ blockCount st * 2) × (length (now scratch) ≡ scratchWords st) ⌝ }
     ensures { λ r. ⌜ r ≡ decodedNumber (solved st (now (marks .entry)) (rowsIn st (now (marks .entry)) (now (bytes .entry)))) ⌝ }
     ensures { λ _. ⌜ now (out .exit) ≡ pairsTo (λ i. st .k) (λ i. 0) (blockCount st) ⌝ }

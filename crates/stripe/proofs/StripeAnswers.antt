@@ -48,6 +48,9 @@ module _ (h : Header) (l : ℕ) {st : Stripe} (e : st ≡ stripeOf h l) where
   pub numbers-fit : headerFits h ≡ true → l ≤ h .k → StripeFits st
   numbers-fit f w = rw e (stripe-fits h l f w)
 
+  pub some-words : headerFits h ≡ true → l ≤ h .k → 1 ≤ st .width
+  some-words f w = omega (arith, numbers-fit f w .thick)
+
   pub is-full : l ≡ h .k → st .level ≡ st .k
   is-full f = rw e f
 
@@ -123,4 +126,4 @@ pub ruleset stripe-sizes = (is-full, is-level, not-full, full-out, full-scratch,
 
 pub ruleset stripe-answers = (unready-number, unready-words, same-number, is-ready, solved-number, full-words, level-words)
 
-pub ruleset handed-needs = (stripe-sizes, numbers-fit, marks-fit, bytes-fit, stripe-answers, needs)
+pub ruleset handed-needs = (stripe-sizes, numbers-fit, some-words, marks-fit, bytes-fit, stripe-answers, needs)

@@ -47,7 +47,8 @@ fn count_and_sum(count: usize, sum: u32) {
     number(sum);
 }
 
-fn each_word(part: &[u32]) {
+// All words of a buffer.
+pub fn each_word(part: &[u32]) {
     for i in 0..part.len() {
         number(part[i]);
     }

@@ -111,9 +111,7 @@ pub(crate) fn recover(h: Header, image: &[u8], list: &[u8], out: &mut [u32], scr
 // A line: a buffer's name and all of its words.
 fn all_words(name: &[u8], part: &[u32]) {
     output::text(name);
-    for i in 0..part.len() {
-        output::number(part[i]);
-    }
+    output::each_word(part);
     output::text(b"\n");
 }
 

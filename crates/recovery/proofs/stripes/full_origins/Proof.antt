@@ -23,7 +23,7 @@ returns c =
     let k = s .args .st .k in
     let o = s .args .out .now in (
       checked .check-full .ensures .0,
-      filled-whole (λ i. k) (λ i. 0) (blockCount (s .args .st)) o (s .pre .1 .1 .0)
+      filled-whole (λ i. k) (λ i. 0) (blockCount (s .args .st)) o (s .pre .1 .0)
           (filled .fill-pairs .ensures ∙ ap (λ (n : ℕ). pairsTo (λ i. k) (λ i. 0) n ++ drop (n * 2) o) (two .two-to .ensures)),
     )
 

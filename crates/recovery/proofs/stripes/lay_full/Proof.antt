@@ -16,12 +16,12 @@ start-at-bytes c = start-at-marks (c .before .before .before .before .before)
 full-origins-requires : tie.Need-full-origins-requires
 full-origins-requires c κs =
     let w = le-refl (start-at-bytes (c .before .before .before .before) .args .task .header .k) in
-    (search needs, ((search needs, search needs), (search needs, search needs)))
+    (record { ready = search needs; long = search needs; full = search needs; few = search needs }, (search needs, search needs))
 
 recover-full-requires : tie.Need-recover-full-requires
 recover-full-requires c κs =
     let w = le-refl (start-at-bytes (c .before .before .before .before) .args .task .header .k) in
-    (search needs, ((search needs, search needs), (search needs, search needs)))
+    (record { ready = search needs; long = search needs; full = search needs; few = search needs }, (search needs, search needs))
 
 -- the number is the stripe's; where it is 0, the words are its origins, or its data
 returns-2 : tie.Need-returns-2

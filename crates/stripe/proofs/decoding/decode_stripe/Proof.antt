@@ -18,7 +18,7 @@ decode-stripe-spec =
     (λ c. search needs)
     (λ c. search needs)
     (λ c. search needs)
-    (λ c κs. (search needs, ((search needs, search needs), (search needs, search needs))))
+    (λ c κs. (record { ready = search needs; long = search needs; full = search needs; few = search needs }, (search needs, search needs)))
     (λ c. search needs)
     (λ c. search needs)
     (λ c. (search needs, (search needs, search needs)))
