@@ -11,7 +11,7 @@ pub struct Recovery {
     pub stripe: u32,
 }
 
-// What is laid over the stripes of a vault: the data of their blocks, or their origins.
+// What the stripes of a vault lay one over the other: the data of their blocks, or their origins.
 pub struct Task {
     pub header: Header,
     pub origins: bool,

@@ -29,6 +29,8 @@
 --             `ExplainsWhy` an answer
 --   x         a model
 --   t         a write of the round, counted from 0
+--   d         a number of positions, in `CountsSharp`
+--   xs        from `CountsAre` on: the counts, or the origins, that the call leaves
 --   out, counts, origins, scratch   the buffers that a call is lent; they may hold anything
 --
 -- FROM THIS CRATE
@@ -63,9 +65,9 @@
 --              number of the call `decode` by its tests 1 to 6. decodeNumber, decodeLeaves, decodeScratch: the number that it gives, and what it leaves in the
 --              output and in the scratch
 --   recovery   recoverAnswer, recoverLeaves, recoverScratch: what the call `recover` answers and leaves. unnamed n: the number n, and no stripe is named.
---              atFault n l: the number n, and stripe l is named. explainEarly: the number of the call `explain` by its tests 1 to 3. explainAnswer,
---              explainCounts, explainOrigins, explainScratch: what it answers, and what it leaves in its buffers. countsSize, originsSize: how long the counts
---              and the origins are, a pair for each stripe from 0 to k, and a pair for each record
+--              atFault n l: the number n, and stripe l is named. originsSize: how long the origins are, a pair of words for each record
+--   explanation   explainEarly: the number of the call `explain` by its tests 1 to 3. explainAnswer, explainCounts, explainOrigins, explainScratch: what it
+--              answers, and what it leaves in its buffers. countsSize: how long the counts are, a pair of words for each stripe from 0 to k
 use mathlib.Core.Path.{_≡_}
 use mathlib.Core.Bool.{Bool, true, false}
 use mathlib.Core.Logic.{_⊎_, _↔_}
@@ -253,7 +255,7 @@ RecoversAll =
     (recoverAnswer h m e out scratch ≡ unnamed 0) × (recoverLeaves h m e out scratch ≡ modelOf o es .records) ×
     (recoverScratch h m e out scratch ≡ replicate (scratchSize h) 0)
 
--- no other history with the same header and surviving words ends with another model: records, count, and the records before each write of the round
+-- no other history with the same header and surviving words ends with another model: records, the writes of the round, and the records before each of them
 abbrev pub NoOther : Type 0
 NoOther =
     (o o′ : Opening) (es es′ : List Event) (e : List ℕ) → Opens o → Opens o′ → headerAfter o es ≡ headerAfter o′ es′ →
@@ -302,8 +304,8 @@ CountsAre =
     (Needed h l → (getD xs (2 * l) 0 ≡ length (survivors l (marks h e l))) × (getD xs (2 * l + 1) 0 ≡ 2 ^ l - length (survivors l (marks h e l)))) ×
     ((Needed h l → ⊥) → (getD xs (2 * l) 0 ≡ 0) × (getD xs (2 * l + 1) 0 ≡ 0)))
 
--- and the shortfall is sharp: with d positions more than are left, whichever they are and whatever words they have, the stripe is still too few if and only if
--- d is below it
+-- and the shortfall is sharp: with d positions more than are left, whichever they are (ms: any marks, those of another erasure list among them) and whatever
+-- words they have, the stripe is still too few if and only if d is below it
 abbrev pub CountsSharp : Type 0
 CountsSharp =
     (h : Header) (m e counts origins scratch : List ℕ) (l d : ℕ) (ms : List Bool) (r : List ℕ) → explainEarly h m e counts origins scratch ≡ 0 →
@@ -311,7 +313,8 @@ CountsSharp =
     Needed h l → length (survivors l ms) ≡ getD xs (2 * l) 0 + d →
     (decodeRows (stripeOf h l) ms r ≡ failed 7) ↔ (d < getD xs (2 * l + 1) 0)
 
--- it always leaves a scratch of zeros, and with a number from 7 to 10 origins of zeros; with 1 to 3 it leaves every buffer
+-- where no number from 1 to 3 applies it leaves a scratch of zeros, and with a number from 7 to 10 origins of zeros; with 1 to 3 it leaves every buffer as it
+-- is
 abbrev pub ExplainLeaves : Type 0
 ExplainLeaves =
     (h : Header) (m e counts origins scratch : List ℕ) →

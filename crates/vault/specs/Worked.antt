@@ -48,7 +48,7 @@ pair o n = little 4 o ++ little 4 n
 abbrev pub levelZero : (words : List ℕ) → List ℕ
 levelZero ws = imageOf (zeros 16) (ws ++ zeros 8)
 
--- recovery's number, whether it names a stripe, and which; then the output, and the scratch
+-- recovery's number, whether it names a stripe, and which; then the output
 abbrev pub flag : Bool → ℕ
 flag true = 1
 flag false = 0

@@ -1,4 +1,4 @@
--- `store::writing::put_row` meets its contract, by the loop that stores of proofs/Overwriting. Assumes nothing.
+-- `store::writing::put_row` meets its contract, by the loop that stores of code/proofs/RowLaws. Assumes nothing.
 use mathlib.Core.Path.{ap₂, _∙_}
 use Prim.Native.Nat.{ℕ, suc, _+_, _-_}
 use native.Mathlib.Omega.{arith}
