@@ -108,5 +108,9 @@ pub fn explain(
         header: header,
         origins: true,
     };
-    recovery::stripes::lay_stripes(task, image, erasures, origins, scratch)
+    let answer = recovery::stripes::lay_stripes(task, image, erasures, origins, scratch);
+    if answer.number != 0 {
+        layout::words::clear(origins);
+    }
+    answer
 }

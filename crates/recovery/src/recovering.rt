@@ -38,5 +38,9 @@ pub fn recover(
         header: header,
         origins: false,
     };
-    crate::stripes::lay_stripes(task, image, erasures, out, scratch)
+    let answer = crate::stripes::lay_stripes(task, image, erasures, out, scratch);
+    if answer.number != 0 {
+        layout::words::clear(out);
+    }
+    answer
 }

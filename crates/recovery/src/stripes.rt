@@ -120,8 +120,9 @@ fn lay_levels(
     }
 }
 
-// Lays the full stripe, and the filled levels over it.
-fn lay_all(
+// What all stripes come to: the number and the stripe at which they stop, or 0 and the words. Where they stop the output may hold anything. The scratch is
+// zeros.
+pub fn lay_stripes(
     task: Task,
     image: &[u8],
     erasures: &[u8],
@@ -132,37 +133,19 @@ fn lay_all(
     ensures { λ r. ⌜ r ≡ answerOf (stripesLaid task (now (image .entry)) (now (erasures .entry))) ⌝ }
     ensures { λ r. ⌜ (r .number ≡ 0 →
         now (out .exit) ≡ recoveredWords (stripesLaid task (now (image .entry)) (now (erasures .entry))) (laidSize (task .origins) (task .header))) ⌝ }
+    ensures { λ _. ⌜ now (scratch .exit) ≡ replicate (scratchSize (task .header)) 0 ⌝ }
 {
     let number = lay_full(task, image, erasures, out, scratch);
     if number != 0 {
         let header = task.header;
+        layout::words::clear(scratch);
         return Recovery {
             number: number,
             named: true,
             stripe: header.k,
         };
     }
-    lay_levels(task, image, erasures, out, scratch)
-}
-
-// What all stripes come to; zeros in the output where they stop. The scratch is zeros.
-pub fn lay_stripes(
-    task: Task,
-    image: &[u8],
-    erasures: &[u8],
-    out: &mut [u32],
-    scratch: &mut [u32],
-) -> Recovery
-    requires { ⌜ LayingFits task (now image) (now out) (now scratch) ⌝ }
-    ensures { λ r. ⌜ r ≡ answerOf (stripesLaid task (now (image .entry)) (now (erasures .entry))) ⌝ }
-    ensures { λ _. ⌜ now (out .exit) ≡
-        recoveredWords (stripesLaid task (now (image .entry)) (now (erasures .entry))) (laidSize (task .origins) (task .header)) ⌝ }
-    ensures { λ _. ⌜ now (scratch .exit) ≡ replicate (scratchSize (task .header)) 0 ⌝ }
-{
-    let answer = lay_all(task, image, erasures, out, scratch);
+    let answer = lay_levels(task, image, erasures, out, scratch);
     layout::words::clear(scratch);
-    if answer.number != 0 {
-        layout::words::clear(out);
-    }
     answer
 }
