@@ -8,7 +8,7 @@ ghost use Rattle.code.specs.Stripe.{blockCount, positionCount, blockWords, stri
 ghost use Rattle.image.specs.steps.Loading.{rowsIn};
 ghost use Rattle.rows.specs.Decoding.{blockNumber, decodedNumber, decodedWords, solved};
 ghost use Rattle.rows.specs.StripeFits.{StripeFits};
-ghost use Rattle.rows.specs.steps.Ready.{Ready};
+ghost use Rattle.rows.specs.steps.Ready.{LevelReady};
 ghost use Rattle.laying.specs.Laid.{laid, originsLaid};
 ghost use Rattle.laying.specs.steps.Blocks.{laidFrom, layBlocks, rowOf, NumbersInside};
 
@@ -70,8 +70,7 @@ pub fn decode_and_lay(
     out: &mut [u32],
     scratch: &mut [u32],
 ) -> u32
-    requires { ⌜ Ready st (now marks) (rowsIn st (now marks) (now bytes)) ⌝ }
-    requires { ⌜ (length (now bytes) ≡ 4 * stripeWords st) × (st .level < st .k) ⌝ }
+    requires { ⌜ LevelReady st (now bytes) (now marks) ⌝ }
     requires { ⌜ (length (now out) ≡ 2 ^ st .k * rowOf origins st) × (length (now scratch) ≡ 2 ^ st .k * st .width + 4 * 2 ^ st .k) ⌝ }
     ensures { λ r. ⌜ r ≡ decodedNumber (solved st (now (marks .entry)) (rowsIn st (now (marks .entry)) (now (bytes .entry)))) ⌝ }
     ensures { λ _. ⌜ now (out .exit) ≡

@@ -3,14 +3,13 @@ use code::Stripe;
 use layout::Header;
 ghost use mathlib.Core.Path.{_≡_};
 ghost use mathlib.Core.Bool.{true};
-ghost use Prim.Native.Nat.{_+_, _*_, _^_, _≤_, _<_};
+ghost use Prim.Native.Nat.{_+_, _*_, _^_, _≤_};
 ghost use lib.ListN.{length, replicate};
-ghost use Rattle.code.specs.Stripe.{stripeWords};
 ghost use Rattle.layout.specs.Header.{headerFits, outSize, scratchSize, imageSize};
 ghost use Rattle.image.specs.Erasures.{erasuresIn};
 ghost use Rattle.image.specs.steps.Loading.{rowsIn};
 ghost use Rattle.rows.specs.Decoding.{decodedNumber, decodedWords, solved};
-ghost use Rattle.rows.specs.steps.Ready.{Ready};
+ghost use Rattle.rows.specs.steps.Ready.{LevelReady};
 ghost use Rattle.stripe.specs.Decoding.{decodeStripe};
 ghost use Rattle.stripe.specs.StripeCall.{decodeEarly, decodeNumber, decodeLeaves, decodeScratch};
 
@@ -51,8 +50,7 @@ fn decode_level(
     out: &mut [u32],
     scratch: &mut [u32],
 ) -> u32
-    requires { ⌜ Ready st (now marks) (rowsIn st (now marks) (now bytes)) ⌝ }
-    requires { ⌜ (length (now bytes) ≡ 4 * stripeWords st) × (st .level < st .k) ⌝ }
+    requires { ⌜ LevelReady st (now bytes) (now marks) ⌝ }
     requires { ⌜ (length (now out) ≡ 2 ^ st .k * st .width) × (length (now scratch) ≡ 2 ^ st .k * st .width + 4 * 2 ^ st .k) ⌝ }
     ensures { λ r. ⌜ r ≡ decodedNumber (solved st (now (marks .entry)) (rowsIn st (now (marks .entry)) (now (bytes .entry)))) ⌝ }
     ensures { λ _. ⌜ now (out .exit) ≡

@@ -2,14 +2,15 @@
 use mathlib.Core.Path.{_≡_}
 use mathlib.Core.Bool.{Bool, true, false}
 use mathlib.Core.List.{List}
-use Prim.Native.Nat.{ℕ, _≤_}
+use Prim.Native.Nat.{ℕ, _*_, _≤_, _<_}
 use lib.Dec.{ltb}
 use lib.ListN.{length}
 use Rattle.code.specs.declared.Stripe.{Stripe}
-use Rattle.code.specs.Stripe.{modulusOf, blockCount, positionCount}
+use Rattle.code.specs.Stripe.{modulusOf, blockCount, positionCount, stripeWords}
 use Rattle.decoder.specs.Promises.{Enough}
 use Rattle.decoder.specs.Decoding.{survivors}
 use Rattle.image.specs.Loading.{areBelow}
+use Rattle.image.specs.steps.Loading.{rowsIn}
 use Rattle.rows.specs.StripeFits.{StripeFits}
 
 -- half of its positions survive, and its surviving words are words of the field; the rows have zeros at erased positions
@@ -18,6 +19,12 @@ pub record Ready (st : Stripe) (marks : List Bool) (rows : List ℕ) : Type 0 wh
   pub long : positionCount st ≤ length marks
   pub enough : Enough (st .level) marks
   pub below : areBelow (modulusOf st) rows ≡ true
+
+-- a level that can be decoded from its bytes
+pub record LevelReady (st : Stripe) (bytes : List ℕ) (marks : List Bool) : Type 0 where
+  pub ready : Ready st marks (rowsIn st marks bytes)
+  pub long : length bytes ≡ 4 * stripeWords st
+  pub low : st .level < st .k
 
 -- a stripe of so many of its columns
 abbrev pub narrow : Stripe → (cols : ℕ) → Stripe

@@ -14,7 +14,7 @@ start-at-stripe-of c = start-at-marks (c .before .before .before .before)
 decode-and-lay-requires : tie.Need-decode-and-lay-requires
 decode-and-lay-requires c κs =
     let w = le-of-lt (start-at-stripe-of (c .before .before .before .before) .pre .1) in
-    (search needs, ((search needs, search needs), (search needs, search needs)))
+    (record { ready = search needs; long = search needs; low = search needs }, (search needs, search needs))
 
 pub lay-level-spec : {M : Type 1} → statement M
 lay-level-spec =

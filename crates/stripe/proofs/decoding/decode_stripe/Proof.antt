@@ -23,7 +23,7 @@ decode-stripe-spec =
     (λ c. search needs)
     (λ c. (search needs, (search needs, search needs)))
     (λ c. search needs)
-    (λ c κs. (search needs, ((search needs, search needs), (search needs, search needs))))
+    (λ c κs. (record { ready = search needs; long = search needs; low = search needs }, (search needs, search needs)))
     (λ c. search needs)
     (λ c. search needs)
     (λ c. (search needs, (search needs, search needs))))
