@@ -1,5 +1,5 @@
 //! What several commands read or print: the header's numbers, images, gap lists, shelves, verdicts, and lines of words.
-use crate::arguments::{number, usage, Arguments};
+use crate::arguments::{number, usage, Arguments, Options};
 use crate::failure::Failure;
 use crate::files;
 use std::ffi::{OsStr, OsString};
@@ -15,15 +15,23 @@ pub fn header(arguments: &mut Arguments) -> Result<Header, Failure> {
     })
 }
 
-/// What a rack's records are to come back from.
+/// What a rack's records are to come back from, and whether the answer is to be JSON.
 pub struct Given {
     pub header: Header,
     pub image: Vec<u8>,
     pub gaps: Vec<u8>,
+    pub json: bool,
 }
 
-/// The arguments K, S, C, IMAGE and, if it is there, GAPS, and no more.
+/// The options that [`given`] reads.
+pub const GIVEN: Options = Options {
+    flags: &["--json"],
+    values: &[],
+};
+
+/// The arguments K, S, C, IMAGE and, if they are there, GAPS and --json, and no more.
 pub fn given(mut arguments: Arguments) -> Result<Given, Failure> {
+    let json = arguments.flag("--json");
     let header = header(&mut arguments)?;
     let path = arguments.needed("IMAGE")?;
     let list = arguments.next();
@@ -32,6 +40,7 @@ pub fn given(mut arguments: Arguments) -> Result<Given, Failure> {
         header,
         image: image(header, &path)?,
         gaps: gaps(header, list)?,
+        json,
     })
 }
 

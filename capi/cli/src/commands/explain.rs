@@ -1,7 +1,6 @@
 //! `vault explain`: what is left of a rack, and why its records come back or do not.
 use super::recover::{place, refused};
 use super::Command;
-use crate::arguments::{Arguments, Options};
 use crate::failure::Failure;
 use crate::picture::Picture;
 use crate::rack::{shelf_name, Given};
@@ -11,7 +10,8 @@ use vault_library::{stripes, Count, Explanation, Fault, Header, Origin};
 pub const COMMAND: Command = Command {
     name: "explain",
     line: "say why the records of a rack come back, or do not",
-    help: "\
+    help: concat!(
+        "\
 usage: vault explain K S C IMAGE [GAPS] [--json]
 
 Says what is left of a rack, and why its records come back or do not. It takes what recover
@@ -31,37 +31,24 @@ A record that was not written in the round came from shelf C, and its line has n
 If they do not, it prints the refusal's number and name with the first shelf at fault, and a
 line for each shelf that has too few positions left: how many more would be enough.
 
-  K S C   the plate's numbers: 2^K records of S words, C writes since the full shelf was
-          last built
-  IMAGE   a file, as 'vault image' writes it; what it holds in the gaps does not matter
-  GAPS    a gap list, as 'vault gaps' writes it; '-' or no argument: there are no gaps
-  --json  print one line of JSON instead, whether taken or refused, with these keys:
-            number   0, or the number in the table of refusals
-            name     \"taken\", or the name in that table
-            shelf    the shelf at fault, \"C\" or a level as \"0\"; null if none is named
-            counts   the needed shelves, C first, then the levels downward, each as
+",
+        given_help!(),
+        "            counts   the needed shelves, C first, then the levels downward, each as
                      {\"shelf\":\"C\",\"left\":3,\"needed\":4,\"shortfall\":1}; [] after 1 to 3
             origins  the 2^K records in order, each as {\"shelf\":\"0\",\"write\":2}, or as
                      {\"shelf\":\"C\",\"write\":null}; [] if refused
 
 Refused with exit status 1: 1 (plate), 2 (length), 3 (gap list), which print nothing else,
 and, naming the first shelf at fault, 7 (too few), 8 (stray), 9 (discord), 10 (no sheet).
-",
-    options: Options {
-        flags: &["--json"],
-        values: &[],
-    },
-    run,
+"
+    ),
+    options: rack::GIVEN,
+    run: |arguments| print_explanation(rack::given(arguments)?),
 };
 
-fn run(arguments: Arguments) -> Result<(), Failure> {
-    let json = arguments.flag("--json");
-    let Given {
-        header,
-        image,
-        gaps,
-    } = rack::given(arguments)?;
-    let explanation = match Explanation::new(header, &image, &gaps) {
+fn print_explanation(given: Given) -> Result<(), Failure> {
+    let Given { header, json, .. } = given;
+    let explanation = match Explanation::new(header, &given.image, &given.gaps) {
         // A line of JSON is printed also where nothing was counted.
         Err(refusal) if json => {
             let stripe = None;
@@ -77,7 +64,7 @@ fn run(arguments: Arguments) -> Result<(), Failure> {
         return explanation.origins.map(|_| ()).map_err(|_| Failure::Told);
     }
     let Explanation { counts, origins } = explanation;
-    let mut text = Picture::new(header, &gaps, &counts, holds).rack();
+    let mut text = Picture::new(header, &given.gaps, &counts, holds).rack();
     text += &match &origins {
         Ok(origins) => sources(header, origins),
         Err(fault) => failed(header, *fault) + &shortfalls(header, &counts),

@@ -1,4 +1,19 @@
 //! The subcommands, one file each.
+/// What the helps of recover and explain say of the arguments that `rack::given` reads, and of the keys that `rack::verdict` prints.
+macro_rules! given_help {
+    () => {
+        "  K S C   the plate's numbers: 2^K records of S words, C writes since the full shelf was
+          last built
+  IMAGE   a file, as 'vault image' writes it; what it holds in the gaps does not matter
+  GAPS    a gap list, as 'vault gaps' writes it; '-' or no argument: there are no gaps
+  --json  print one line of JSON instead, whether taken or refused, with these keys:
+            number   0, or the number in the table of refusals
+            name     \"taken\", or the name in that table
+            shelf    the shelf at fault, \"C\" or a level as \"0\"; null if none is named
+"
+    };
+}
+
 mod decode;
 mod demo;
 mod explain;

@@ -1,6 +1,5 @@
 //! `vault recover`: all records, from what is left of a rack.
 use super::Command;
-use crate::arguments::{Arguments, Options};
 use crate::failure::Failure;
 use crate::rack::Given;
 use crate::{files, rack};
@@ -9,42 +8,30 @@ use vault_library::{calls, sizes, Fault, Header};
 pub const COMMAND: Command = Command {
     name: "recover",
     line: "bring all records back from what is left of a rack",
-    help: "\
+    help: concat!(
+        "\
 usage: vault recover K S C IMAGE [GAPS] [--json]
 
 Prints all records of a vault, as they were last written: a line for each, its number and
 its S words in decimal, one space between. Half of each shelf may be lost.
 
-  K S C   the plate's numbers: 2^K records of S words, C writes since the full shelf was
-          last built
-  IMAGE   a file, as 'vault image' writes it; what it holds in the gaps does not matter
-  GAPS    a gap list, as 'vault gaps' writes it; '-' or no argument: there are no gaps
-  --json  print one line of JSON instead, whether taken or refused, with these keys:
-            number   0, or the number in the table of refusals
-            name     \"taken\", or the name in that table
-            shelf    the shelf at fault, \"C\" or a level as \"0\"; null if none is named
-            records  the 2^K records in order, each a list of S numbers; [] if refused
+",
+        given_help!(),
+        "            records  the 2^K records in order, each a list of S numbers; [] if refused
           as in {\"number\":7,\"name\":\"too few\",\"shelf\":\"C\",\"records\":[]}
 
 Refused with exit status 1: 1 (plate), 2 (length), 3 (gap list), and, naming the first shelf
 at fault, 7 (too few), 8 (stray), 9 (discord), 10 (no sheet).
-",
-    options: Options {
-        flags: &["--json"],
-        values: &[],
-    },
-    run,
+"
+    ),
+    options: rack::GIVEN,
+    run: |arguments| print_records(rack::given(arguments)?),
 };
 
-fn run(arguments: Arguments) -> Result<(), Failure> {
-    let json = arguments.flag("--json");
-    let Given {
-        header,
-        image,
-        gaps,
-    } = rack::given(arguments)?;
-    let answer = recovered(header, &image, &gaps);
-    if json {
+fn print_records(given: Given) -> Result<(), Failure> {
+    let header = given.header;
+    let answer = recovered(header, &given.image, &given.gaps);
+    if given.json {
         files::print(as_json(header, &answer).as_bytes())?;
         return answer.map(|_| ()).map_err(|_| Failure::Told);
     }
