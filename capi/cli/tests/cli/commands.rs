@@ -325,5 +325,12 @@ fn help_of_everything() {
         assert_eq!((help.status, &help.stderr[..]), (0, ""));
         assert_eq!(line(&format!("{command} 1 x --none -h")), help);
         assert!(help.text().lines().all(|line| line.len() <= 100));
+        // What stands in columns is set in.
+        let columns = |line: &&str| line.contains("  ");
+        assert!(help
+            .text()
+            .lines()
+            .filter(columns)
+            .all(|line| line.starts_with(' ')));
     }
 }
