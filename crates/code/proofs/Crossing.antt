@@ -18,11 +18,11 @@ use Rattle.field.specs.Residue.{plus, minus, times}
 use Rattle.field.specs.Power.{power}
 use Rattle.field.specs.Words.{Words}
 use Rattle.field.proofs.Laws.{plus-lt, minus-lt, times-lt, times-comm}
-use Rattle.field.proofs.Powers.{power-zero, power-suc, power-lt}
+use Rattle.field.proofs.Powers.{power-zero, power-suc}
 use Rattle.field.proofs.WordLists.{words-set}
 use Rattle.code.specs.Rows.{column, lifted}
 use Rattle.code.specs.Transform.{mixedHalves, unmixed}
-use Rattle.code.specs.steps.Mixing.{Crossing, mixing, unmixing, crossed, crossedRow}
+use Rattle.code.specs.steps.Mixing.{Crossing, mixing, unmixing, summing, crossed, crossedRow, Factors}
 use Rattle.code.proofs.Shapes.{mixed-low, mixed-high, unmixed-low, unmixed-high}
 use Rattle.code.proofs.Lifting.{column-at, length-column, is-lifted, row-in}
 
@@ -36,6 +36,9 @@ mixing-stores = record { low-lt = λ g a b. plus-lt 65537 (omega arith) a _; hig
 
 pub unmixing-stores : Stores 65537 (unmixing 65537)
 unmixing-stores = record { low-lt = λ g a b. plus-lt 65537 (omega arith) a b; high-lt = λ g a b. times-lt 65537 (omega arith) g _ }
+
+pub summing-stores : Stores 65537 (summing 65537)
+summing-stores = record { low-lt = λ g a b. plus-lt 65537 (omega arith) a b; high-lt = λ g a b. minus-lt 65537 (omega arith) a b }
 
 -- one crossing, word by word
 module _ (c : Crossing) (g x y : ℕ) (l : List ℕ) where
@@ -260,8 +263,9 @@ module _ {c : Crossing} {part₀ : List ℕ} {m width v : ℕ} where
       → Fits w64 (high + width)
   high-fits b h lt = record { fits = omega (arith, row-in width lt) }
 
-  pub factor-lt : {part : List ℕ} {g i low high : ℕ} → RowsLoop c part₀ m width v part g i low high → g < 65537
-  factor-lt h = rw (h .g-is) (power-lt 65537 (omega arith) v _)
+  -- row i's factor, since i is below m
+  pub factor-short : {part : List ℕ} {g i low high : ℕ} → Factors 65537 v m → RowsLoop c part₀ m width v part g i low high → i < m → g < 65536
+  factor-short f h lt = rw (h .g-is) (f .short _ lt)
 
   pub rows-turn : {part part′ : List ℕ} {g g′ i low high : ℕ} → Stores 65537 c → RowsLoop c part₀ m width v part g i low high → i < m
       → part′ ≡ crossedRow c g width low high part → g′ ≡ times 65537 g v → RowsLoop c part₀ m width v part′ g′ (i + 1) (low + width) (high + width)
@@ -290,4 +294,4 @@ module _ {c : Crossing} {part₀ : List ℕ} {m width v : ℕ} where
 -- what the needs of mixing's and of unmixing's loop over rows follow from
 pub ruleset crossings = (mixing-stores, unmixing-stores, mixing-crosses, unmixing-crosses)
 
-pub ruleset rows-needs = (rows-start, rows-turn, rows-end, low-in, high-in, low-fits, high-fits, factor-lt, crossings, needs)
+pub ruleset rows-needs = (rows-start, rows-turn, rows-end, low-in, high-in, low-fits, high-fits, factor-short, crossings, needs)

@@ -1,6 +1,7 @@
 pub mod Blocks
 pub mod CodedRows
 pub mod Crossing
+pub mod Factors
 pub mod Lifting
 pub mod RowLaws
 pub mod Shapes

@@ -2,9 +2,9 @@
 use crate::Stripe;
 ghost use mathlib.Core.Path.{_≡_};
 ghost use mathlib.Core.List.{_++_};
-ghost use Prim.Native.Nat.{_+_, _*_, _≤_, _<_};
+ghost use Prim.Native.Nat.{_+_, _*_, _-_, _≤_, _<_};
 ghost use lib.ListN.{length, take};
-ghost use Rattle.field.specs.Field.{fermat};
+ghost use Rattle.field.specs.Field.{fermat, Root};
 ghost use Rattle.field.specs.Words.{Words};
 ghost use Rattle.code.specs.Rows.{lifted};
 ghost use Rattle.code.specs.Transform.{turned};
@@ -24,11 +24,24 @@ pub fn scale_row(part: &mut [u32], at: usize, width: usize, g: u32)
     }
 }
 
+// Multiplies `width` words from index `at` by `g`, which is not -1.
+fn turn_row(part: &mut [u32], at: usize, width: usize, g: u32)
+    requires { ⌜ at + width ≤ length (now part) ⌝ }
+    requires { ⌜ g < fermat .modulus - 1 ⌝ }
+    requires { ⌜ Words (fermat .modulus) (now part) ⌝ }
+    ensures { λ _. ⌜ now (part .exit) ≡ scaleRow (fermat .modulus) width at g (now (part .entry)) ⌝ }
+{
+    for j in 0..width {
+        let x = at + j;
+        part[x] = field::mul_short(g, part[x]);
+    }
+}
+
 // Turns a half of a stripe: the row of write t is multiplied by w^rev(t). `w` is the stripe's root, or its inverse to turn back.
 pub fn turn(part: &mut [u32], st: Stripe, w: u32)
     requires { ⌜ Numbers st ⌝ }
     requires { ⌜ length (now part) ≡ blockWords st ⌝ }
-    requires { ⌜ w < modulusOf st ⌝ }
+    requires { ⌜ Root (modulusOf st) (st .k) w ⌝ }
     requires { ⌜ Words (modulusOf st) (now part) ⌝ }
     ensures { λ _. ⌜ now (part .exit) ≡ lifted (st .width) (blockCount st) (blockCount st) (turned (modulusOf st) w (st .k) (st .first)) (now (part .entry)) ⌝ }
 {
@@ -40,7 +53,7 @@ pub fn turn(part: &mut [u32], st: Stripe, w: u32)
     let mut at = 0;
     for j in 0..rows {
         let g = field::power(w, crate::number::reversed(k, first + j));
-        scale_row(part, at, width, g);
+        turn_row(part, at, width, g);
         at += width;
     }
 }

@@ -1,20 +1,40 @@
 // Mixing in place. All mixing goes through `mix`.
 use crate::Stripe;
 ghost use mathlib.Core.Path.{_≡_};
-ghost use Prim.Native.Nat.{_+_, _*_, _≤_, _<_};
+ghost use Prim.Native.Nat.{_+_, _*_, _-_, _≤_, _<_};
 ghost use lib.ListN.{length};
 ghost use Rattle.field.specs.Field.{fermat};
 ghost use Rattle.field.specs.Words.{Words};
 ghost use Rattle.code.specs.Rows.{lifted};
 ghost use Rattle.code.specs.Transform.{mixedHalves, transform};
 ghost use Rattle.code.specs.Stripe.{Numbers, modulusOf, blockCount, blockWords};
-ghost use Rattle.code.specs.steps.Mixing.{mixRow, eachBlock};
+ghost use Rattle.code.specs.steps.Mixing.{sumRow, mixRow, Factors, eachBlock};
 
-// Mixes `width` words from index `low` with as many from index `high`, under the factor `g`.
-fn mix_row(part: &mut [u32], low: usize, high: usize, width: usize, g: u32)
+// The sums of `width` words from index `low` and as many from index `high` in the place of the former, the differences in the place of the latter: mixing
+// and unmixing under the factor 1, with no product.
+pub(crate) fn sum_row(part: &mut [u32], low: usize, high: usize, width: usize)
     requires { ⌜ low + width ≤ high ⌝ }
     requires { ⌜ high + width ≤ length (now part) ⌝ }
-    requires { ⌜ g < fermat .modulus ⌝ }
+    requires { ⌜ Words (fermat .modulus) (now part) ⌝ }
+    ensures { λ _. ⌜ now (part .exit) ≡ sumRow (fermat .modulus) width low high (now (part .entry)) ⌝ }
+{
+    let mut j = 0;
+    while j < width {
+        let x = low + j;
+        let y = high + j;
+        let a = part[x];
+        let b = part[y];
+        part[x] = field::add(a, b);
+        part[y] = field::sub(a, b);
+        j += 1;
+    }
+}
+
+// Mixes `width` words from index `low` with as many from index `high`, under the factor `g`, by a product a word.
+fn mix_row_by(part: &mut [u32], low: usize, high: usize, width: usize, g: u32)
+    requires { ⌜ low + width ≤ high ⌝ }
+    requires { ⌜ high + width ≤ length (now part) ⌝ }
+    requires { ⌜ g < fermat .modulus - 1 ⌝ }
     requires { ⌜ Words (fermat .modulus) (now part) ⌝ }
     ensures { λ _. ⌜ now (part .exit) ≡ mixRow (fermat .modulus) width low high g (now (part .entry)) ⌝ }
 {
@@ -23,17 +43,32 @@ fn mix_row(part: &mut [u32], low: usize, high: usize, width: usize, g: u32)
         let x = low + j;
         let y = high + j;
         let a = part[x];
-        let t = field::mul(g, part[y]);
+        let t = field::mul_short(g, part[y]);
         part[x] = field::add(a, t);
         part[y] = field::sub(a, t);
         j += 1;
     }
 }
 
+// The same; no product where the factor is 1.
+fn mix_row(part: &mut [u32], low: usize, high: usize, width: usize, g: u32)
+    requires { ⌜ low + width ≤ high ⌝ }
+    requires { ⌜ high + width ≤ length (now part) ⌝ }
+    requires { ⌜ g < fermat .modulus - 1 ⌝ }
+    requires { ⌜ Words (fermat .modulus) (now part) ⌝ }
+    ensures { λ _. ⌜ now (part .exit) ≡ mixRow (fermat .modulus) width low high g (now (part .entry)) ⌝ }
+{
+    if g == 1 {
+        sum_row(part, low, high, width);
+    } else {
+        mix_row_by(part, low, high, width, g);
+    }
+}
+
 // Mixes the first m rows (older) with the next m rows (newer); row i of the newer has the factor v^i.
 pub fn mix(part: &mut [u32], m: usize, width: usize, v: u32)
     requires { ⌜ length (now part) ≡ (m + m) * width ⌝ }
-    requires { ⌜ v < fermat .modulus ⌝ }
+    requires { ⌜ (v < fermat .modulus) × Factors (fermat .modulus) v m ⌝ }
     requires { ⌜ Words (fermat .modulus) (now part) ⌝ }
     ensures { λ _. ⌜ now (part .exit) ≡ lifted width (m + m) (m + m) (mixedHalves (fermat .modulus) v m) (now (part .entry)) ⌝ }
 {
@@ -43,7 +78,7 @@ pub fn mix(part: &mut [u32], m: usize, width: usize, v: u32)
     let mut high = m * width;
     while i < m {
         mix_row(part, low, high, width, g);
-        g = field::mul(g, v);
+        g = field::mul_short(g, v);
         low += width;
         high += width;
         i += 1;
@@ -55,7 +90,7 @@ fn mix_each(half: &mut [u32], blocks: usize, m: usize, width: usize, v: u32)
     requires { ⌜ length (now half) ≡ blocks * ((m + m) * width) ⌝ }
     requires { ⌜ m < 4294967296 ⌝ }
     requires { ⌜ (m + m) * width < 9223372036854775808 ⌝ }
-    requires { ⌜ v < fermat .modulus ⌝ }
+    requires { ⌜ (v < fermat .modulus) × Factors (fermat .modulus) v m ⌝ }
     requires { ⌜ Words (fermat .modulus) (now half) ⌝ }
     ensures { λ _. ⌜ now (half .exit) ≡
         eachBlock blocks ((m + m) * width) (lifted width (m + m) (m + m) (mixedHalves (fermat .modulus) v m)) (now (half .entry)) ⌝ }

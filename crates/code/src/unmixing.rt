@@ -1,20 +1,20 @@
 // The inverse of mixing in place, but for a factor 2 a level.
 use crate::Stripe;
 ghost use mathlib.Core.Path.{_≡_};
-ghost use Prim.Native.Nat.{_+_, _*_, _≤_, _<_};
+ghost use Prim.Native.Nat.{_+_, _*_, _-_, _≤_, _<_};
 ghost use lib.ListN.{length};
-ghost use Rattle.field.specs.Field.{fermat};
+ghost use Rattle.field.specs.Field.{fermat, Root};
 ghost use Rattle.field.specs.Words.{Words};
 ghost use Rattle.code.specs.Rows.{lifted};
 ghost use Rattle.code.specs.Transform.{unmixed, untransform};
 ghost use Rattle.code.specs.Stripe.{Numbers, modulusOf, blockCount, blockWords};
-ghost use Rattle.code.specs.steps.Mixing.{unmixRow, eachBlock};
+ghost use Rattle.code.specs.steps.Mixing.{unmixRow, Factors, eachBlock};
 
-// Unmixes `width` words from index `low` and as many from index `high`, under the factor `g`.
-fn unmix_row(part: &mut [u32], low: usize, high: usize, width: usize, g: u32)
+// Unmixes `width` words from index `low` and as many from index `high`, under the factor `g`, by a product a word.
+fn unmix_row_by(part: &mut [u32], low: usize, high: usize, width: usize, g: u32)
     requires { ⌜ low + width ≤ high ⌝ }
     requires { ⌜ high + width ≤ length (now part) ⌝ }
-    requires { ⌜ g < fermat .modulus ⌝ }
+    requires { ⌜ g < fermat .modulus - 1 ⌝ }
     requires { ⌜ Words (fermat .modulus) (now part) ⌝ }
     ensures { λ _. ⌜ now (part .exit) ≡ unmixRow (fermat .modulus) width low high g (now (part .entry)) ⌝ }
 {
@@ -25,15 +25,30 @@ fn unmix_row(part: &mut [u32], low: usize, high: usize, width: usize, g: u32)
         let a = part[x];
         let b = part[y];
         part[x] = field::add(a, b);
-        part[y] = field::mul(g, field::sub(a, b));
+        part[y] = field::mul_short(g, field::sub(a, b));
         j += 1;
+    }
+}
+
+// The same; no product where the factor is 1.
+fn unmix_row(part: &mut [u32], low: usize, high: usize, width: usize, g: u32)
+    requires { ⌜ low + width ≤ high ⌝ }
+    requires { ⌜ high + width ≤ length (now part) ⌝ }
+    requires { ⌜ g < fermat .modulus - 1 ⌝ }
+    requires { ⌜ Words (fermat .modulus) (now part) ⌝ }
+    ensures { λ _. ⌜ now (part .exit) ≡ unmixRow (fermat .modulus) width low high g (now (part .entry)) ⌝ }
+{
+    if g == 1 {
+        crate::mixing::sum_row(part, low, high, width);
+    } else {
+        unmix_row_by(part, low, high, width, g);
     }
 }
 
 // Unmixes the first m rows and the next m rows; row i of the latter has the factor v^i.
 fn unmix(part: &mut [u32], m: usize, width: usize, v: u32)
     requires { ⌜ length (now part) ≡ (m + m) * width ⌝ }
-    requires { ⌜ v < fermat .modulus ⌝ }
+    requires { ⌜ (v < fermat .modulus) × Factors (fermat .modulus) v m ⌝ }
     requires { ⌜ Words (fermat .modulus) (now part) ⌝ }
     ensures { λ _. ⌜ now (part .exit) ≡ lifted width (m + m) (m + m) (unmixed (fermat .modulus) v m) (now (part .entry)) ⌝ }
 {
@@ -43,7 +58,7 @@ fn unmix(part: &mut [u32], m: usize, width: usize, v: u32)
     let mut high = m * width;
     while i < m {
         unmix_row(part, low, high, width, g);
-        g = field::mul(g, v);
+        g = field::mul_short(g, v);
         low += width;
         high += width;
         i += 1;
@@ -55,7 +70,7 @@ fn unmix_each(half: &mut [u32], blocks: usize, m: usize, width: usize, v: u32)
     requires { ⌜ length (now half) ≡ blocks * ((m + m) * width) ⌝ }
     requires { ⌜ m < 4294967296 ⌝ }
     requires { ⌜ (m + m) * width < 9223372036854775808 ⌝ }
-    requires { ⌜ v < fermat .modulus ⌝ }
+    requires { ⌜ (v < fermat .modulus) × Factors (fermat .modulus) v m ⌝ }
     requires { ⌜ Words (fermat .modulus) (now half) ⌝ }
     ensures { λ _. ⌜ now (half .exit) ≡
         eachBlock blocks ((m + m) * width) (lifted width (m + m) (m + m) (unmixed (fermat .modulus) v m)) (now (half .entry)) ⌝ }
@@ -73,7 +88,7 @@ fn unmix_each(half: &mut [u32], blocks: usize, m: usize, width: usize, v: u32)
 pub fn unmix_all(half: &mut [u32], st: Stripe, back: u32)
     requires { ⌜ Numbers st ⌝ }
     requires { ⌜ length (now half) ≡ blockWords st ⌝ }
-    requires { ⌜ back < modulusOf st ⌝ }
+    requires { ⌜ Root (modulusOf st) (st .k) back ⌝ }
     requires { ⌜ Words (modulusOf st) (now half) ⌝ }
     ensures { λ _. ⌜ now (half .exit) ≡
         lifted (st .width) (blockCount st) (blockCount st) (untransform (modulusOf st) back (st .k) (st .level)) (now (half .entry)) ⌝ }

@@ -8,7 +8,8 @@ use lib.Pow.{pow-pos, pow-add}
 use Rattle.field.specs.Residue.{minus, times}
 use Rattle.field.specs.Power.{power, inverse}
 use Rattle.field.specs.Field.{Prime, Root}
-use Rattle.field.proofs.Ring.{v, _⊖_, _⊗_, ring}
+use Rattle.field.proofs.Congruence.{of-eq}
+use Rattle.field.proofs.Ring.{v, _⊖_, _⊗_, ring, lin}
 use Rattle.field.proofs.Powers.{power-lt, power-add, power-mul, power-one, power-times, power-of-one}
 use Rattle.field.proofs.Divisors.{peel, not-one, one-of}
 use Rattle.field.proofs.Certificate.{differ, positive}
@@ -52,6 +53,12 @@ module _ (p k w : ℕ) (R : Root p k w) where
   pub root-positive : (i : ℕ) → i < 2 ^ suc k → 0 < power p w i
   root-positive = positive p (2 ^ suc k) w big (pow-pos (suc k)) root-full proper
 
+  -- below half of the order no power is -1
+  pub root-short : (i : ℕ) → i < 2 ^ k → power p w i < p - 1
+  root-short i b =
+      let n : power p w i ≢ p - 1 = λ e. root-distinct i (2 ^ k) b (omega (arith, pow-pos k)) (e ∙ sym (R .half)) in
+      omega (arith, power-lt p big w i, R .odd)
+
   -- the root of order 2 * 2 ^ l, for l ≤ k
   pub root-down : (l : ℕ) → l ≤ k → Root p l (power p w (2 ^ (k - l)))
   root-down l b = record {
@@ -73,3 +80,17 @@ module _ (p k w : ℕ) (P : Prime p) (R : Root p k w) where
 
   pub power-inverse : (i : ℕ) → times p (power p w i) (power p (inverse p w) i) ≡ 1
   power-inverse i = sym (power-times p (P .big) w (inverse p w) i) ∙ ap (λ t. power p t i) root-inverse ∙ power-of-one p (P .big) i
+
+  -- which is a root of the same order
+  pub root-back : Root p k (inverse p w)
+  unfolding inverse
+  root-back =
+      let h : 0 < p = omega (arith, R .odd) in
+      let x = v (power p (inverse p w) (2 ^ k)) in
+      let m = v 0 ⊖ v 1 in
+      let e = ap (λ (t : ℕ). times p t (power p (inverse p w) (2 ^ k))) (minus-one p (R .odd) ∙ sym (R .half)) ∙ power-inverse (2 ^ k) in
+      record {
+        odd = R .odd;
+        small = power-lt p (P .big) w (p - 2);
+        half = lin p h x m m (m ⊗ x) (v 1) (of-eq p e) (power-lt p (P .big) (inverse p w) (2 ^ k)) h (omega arith) ∙ minus-one p (R .odd);
+      }

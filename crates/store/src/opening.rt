@@ -23,7 +23,7 @@ fn block_row(full: &mut [u32], at: usize, raw: &[u32], i: usize, s: usize)
     let mut to = at + 1;
     let mut from = i * s;
     for j in 0..s {
-        full[to] = raw[from] % field::MODULUS;
+        full[to] = field::reduce(raw[from]);
         to += 1;
         from += 1;
     }

@@ -39,7 +39,7 @@ fn copy_reduced(log: &mut [u32], from: usize, to: usize, count: usize)
     for j in 0..count {
         let x = from + j;
         let y = to + j;
-        log[y] = log[x] % field::MODULUS;
+        log[y] = field::reduce(log[x]);
     }
 }
 
@@ -50,11 +50,11 @@ fn put_row(log: &mut [u32], at: usize, number: u32, block: &[u32], g: u32)
     requires { ⌜ Words (fermat .modulus) (number ∷ now block) ⌝ }
     ensures { λ _. ⌜ now (log .exit) ≡ sets (now (log .entry)) at (scaled (fermat .modulus) g (number ∷ now (block .entry))) ⌝ }
 {
-    log[at] = field::mul(g, number);
+    log[at] = field::mul_short(g, number);
     let first = at + 1;
     for j in 0..block.len() {
         let to = first + j;
-        log[to] = field::mul(g, block[j]);
+        log[to] = field::mul_short(g, block[j]);
     }
 }
 

@@ -1,8 +1,9 @@
 -- What the loops of mixing and unmixing make of a slice, step by step; the clauses of private functions cite it. Assumes nothing: these are definitions.
 use mathlib.Core.List.{List, _++_}
-use Prim.Native.Nat.{ℕ, zero, suc, _+_}
+use Prim.Native.Nat.{ℕ, zero, suc, _+_, _-_, _<_}
 use lib.ListN.{getD, set, take, drop}
 use Rattle.field.specs.Residue.{plus, minus, times}
+use Rattle.field.specs.Power.{power}
 
 -- A CROSSING of two words a and b under a factor g: what is stored in the place of each
 pub record Crossing : Type 0 where
@@ -14,6 +15,10 @@ mixing p = record { low = λ g a b. plus p a (times p g b); high = λ g a b. min
 
 abbrev pub unmixing : (p : ℕ) → Crossing
 unmixing p = record { low = λ g a b. plus p a b; high = λ g a b. times p g (minus p a b) }
+
+-- what both are under the factor 1: sum and difference
+abbrev pub summing : (p : ℕ) → Crossing
+summing p = record { low = λ g a b. plus p a b; high = λ g a b. minus p a b }
 
 -- the words at x and y crossed
 unfoldable pub crossed : (c : Crossing) → (g x y : ℕ) → List ℕ → List ℕ
@@ -29,6 +34,13 @@ mixRow p width low high g l = crossedRow (mixing p) g width low high l
 
 abbrev pub unmixRow : (p width low high g : ℕ) → List ℕ → List ℕ
 unmixRow p width low high g l = crossedRow (unmixing p) g width low high l
+
+abbrev pub sumRow : (p width low high : ℕ) → List ℕ → List ℕ
+sumRow p width low high l = crossedRow (summing p) 1 width low high l
+
+-- THE FACTORS of m rows, v ^ i for row i: none is -1, so that the product of a factor and a word fits 32 bits
+pub record Factors (p v m : ℕ) : Type 0 where
+  pub short : (i : ℕ) → i < m → power p v i < p - 1
 
 -- f done to each of the first b blocks of n words
 unfoldable pub eachBlock : (b n : ℕ) → (f : List ℕ → List ℕ) → List ℕ → List ℕ

@@ -1,45 +1,39 @@
 -- `field::mul` meets its contract. Assumes nothing.
-use mathlib.Core.Path.{_≡_, sym, ap, _∙_}
-use Prim.Native.Nat.{ℕ, _+_, _-_, _*_, _/_, _%_, _≤_, _<_}
-use native.Mathlib.Nat.{mul-le-mul, mod-eq-of-lt, add-mul-mod-self-left, add-mod-right}
+use mathlib.Core.Path.{_≡_, refl, sym, ap₂, _∙_}
+use mathlib.Core.Logic.{⊎-elim}
+use Prim.Native.Nat.{ℕ, _*_, _≤_}
+use native.Mathlib.Nat.{mul-le-mul}
 use native.Mathlib.Omega.{arith}
 use borrow.Author.Needs.{needs}
 use Rattle.field.specs.Residue.{times}
 use Rattle.field.proofs.mul.Statement.{statement}
 use Rattle.field.proofs.mul.Tie as tie
 
-fits : (c : tie.Start) → c .args .x * c .args .y ≤ 4294967296
-fits c = mul-le-mul {n₂ = 65536} {m₂ = 65536} (omega arith) (omega arith)
-
 -- 65536 is -1
-fold : (t : ℕ) → t ≤ 4294967296 → t % 65536 < t / 65536 → t % 65536 + (65537 - t / 65536) ≡ t % 65537
-fold t h l =
-    let s : ℕ = t % 65536 + (65537 - t / 65536) in
-    let e : s + 65537 * (t / 65536) ≡ t + 65537 = omega arith in
-    sym (mod-eq-of-lt (omega arith)) ∙ sym (add-mul-mod-self-left s 65537 (t / 65536)) ∙ ap (λ (n : ℕ). n % 65537) e ∙ add-mod-right t 65537
+square : 1 ≡ times 65537 65536 65536
+unfolding times
+square = refl
 
-mul-t : tie.Need-mul-t
-mul-t c = omega (arith, fits c)
-
-cast-lo : tie.Need-cast-lo
-cast-lo c = search needs
-
-cast-hi : tie.Need-cast-hi
-cast-hi c = omega (arith, fits c)
-
-sub-result : tie.Need-sub-result
-sub-result c = omega (arith, fits (c .before))
-
-add-result : tie.Need-add-result
-add-result c = search needs
+-- one of the two is not 65536
+fits : (c : tie.Joined1) → c .before .args .x * c .before .args .y ≤ 4294901760
+fits c =
+    ⊎-elim
+    (λ w. mul-le-mul {n₂ = 65536} {m₂ = 65535} (omega arith) (omega (arith, w .1 .left)))
+    (λ w. mul-le-mul {n₂ = 65535} {m₂ = 65536} (omega (arith, w .left)) (omega arith))
+    (c .if1 .came)
 
 returns : tie.Need-returns
-unfolding times
-returns c = search needs
+returns c = square ∙ sym (ap₂ (times 65537) (c .before .if1 .taken) (c .if2 .taken))
+
+mul-reduce : tie.Need-mul-reduce
+mul-reduce c = omega (arith, fits c)
+
+reduce-requires : tie.Need-reduce-requires
+reduce-requires c κs = search needs
 
 returns-2 : tie.Need-returns-2
 unfolding times
-returns-2 c = fold _ (fits (c .before)) (c .if1 .left)
+returns-2 c = c .reduce .ensures
 
 pub mul-spec : {M : Type 1} → statement M
-mul-spec = tie.close (tie.spec mul-t cast-lo cast-hi sub-result add-result returns returns-2)
+mul-spec = tie.close (tie.spec returns mul-reduce reduce-requires returns-2)

@@ -150,7 +150,7 @@ turn-requires c κs =
       pre .0,
       (
         ap length (lent-rest (mixed-parts at-mix)) ∙ length-blocks at-two ∙ half-is at-two,
-        (pre .0 .rooted .small, rw (lent-rest (mixed-parts at-mix)) (rw (half-is at-two) (pre .1 .1))),
+        (pre .0 .rooted, rw (lent-rest (mixed-parts at-mix)) (rw (half-is at-two) (pre .1 .1))),
       ),
     )
 

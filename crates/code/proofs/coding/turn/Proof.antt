@@ -9,7 +9,6 @@ use lib.Dec.{lit<}
 use lib.ListN.{length}
 use Rattle.field.specs.Residue.{times}
 use Rattle.field.specs.Power.{power}
-use Rattle.field.proofs.Powers.{power-lt}
 use Rattle.code.specs.Rows.{column, lifted}
 use Rattle.code.specs.Transform.{reversed, turned}
 use Rattle.code.specs.steps.Storing.{stored}
@@ -17,6 +16,7 @@ use Rattle.code.proofs.Shapes.{turned-at}
 use Rattle.code.proofs.Lifting.{length-column, column-at, table-lifted}
 use Rattle.code.proofs.RowLaws.{stored-last, StoringRows, storing-rows-start, storing-rows-room, storing-rows-done, scaledRowsWord, scaling-words}
 use Rattle.code.proofs.RowLaws.{scaling-turn}
+use Rattle.code.proofs.Factors.{turning-factor}
 use Rattle.code.proofs.coding.turn.Statement.{statement}
 use Rattle.code.proofs.coding.turn.Tie as tie
 
@@ -50,20 +50,20 @@ reversed-requires : tie.Need-reversed-requires Inv-loop μ-loop
 reversed-requires c κs = omega (arith, start c .pre .0 .small)
 
 power-requires : tie.Need-power-requires Inv-loop μ-loop
-power-requires c κs = start (c .before) .pre .1 .1 .0
+power-requires c κs = start (c .before) .pre .1 .1 .0 .small
 
 -- row j ends within the part
 room : (c : tie.In-loop Inv-loop μ-loop) → c .before .loop .at + start c .args .st .width ≤ length (c .before .loop .part)
 room c = omega (arith, storing-rows-room (c .before .loop .inv) (c .loop-test .taken), c .before .loop .inv .same, long c)
 
-scale-row-requires : tie.Need-scale-row-requires Inv-loop μ-loop
-scale-row-requires c κs =
+turn-row-requires : tie.Need-turn-row-requires Inv-loop μ-loop
+turn-row-requires c κs =
     let at-test = c .before .before .before in
     let s = start at-test in
     let st = s .args .st in (
       room at-test,
       (
-        rw (c .before .power .ensures) (power-lt 65537 (lit< tt) _ _),
+        rw (c .before .power .ensures, c .before .before .reversed .ensures) (turning-factor 65537 (st .k) (s .args .w) _ (s .pre .1 .1 .0)),
         scaling-words 65537 (st .width) (factor (s .args .w) (st .k) (st .first)) (at-test .before .loop .inv) (lit< tt) (s .pre .1 .1 .1),
       ),
     )
@@ -85,7 +85,7 @@ loop-again c =
     let at-test = at-power .before .before in
     let a = start at-test .args in
     scaling-turn 65537 (a .st .width) (factor (a .w) (a .st .k) (a .st .first)) (at-test .before .loop .inv) (at-test .loop-test .taken)
-    (at-power .power .ensures ∙ ap (power 65537 (a .w)) (at-power .before .reversed .ensures)) (at-row .scale-row .ensures)
+    (at-power .power .ensures ∙ ap (power 65537 (a .w)) (at-power .before .reversed .ensures)) (at-row .turn-row .ensures)
 
 -- all rows turned
 turned-rows : (rows first k width root : ℕ) (l : List ℕ) → length l ≡ rows * width
@@ -121,7 +121,7 @@ turn-spec =
     add-reversed
     reversed-requires
     power-requires
-    scale-row-requires
+    turn-row-requires
     add-at
     add-j
     loop-less

@@ -16,6 +16,7 @@ use Rattle.code.specs.Transform.{mixed, mixedHalves, transform}
 use Rattle.code.proofs.Shapes.{length-two, length-transform}
 use Rattle.field.proofs.Unity.{two-div}
 use Rattle.code.proofs.Blocks.{Level, level-at, pow-down, words-each, eachRows, rows-id, rows-one, both, rows-then, rows-double, mixing-block}
+use Rattle.code.proofs.Factors.{level-factors}
 use Rattle.code.proofs.mixing.mix_all.Statement.{statement}
 use Rattle.code.proofs.mixing.mix_all.Tie as tie
 
@@ -135,13 +136,12 @@ power-requires c κs = c .before .before .before .before .before .pre .0 .rooted
 
 mix-each-requires : tie.Need-mix-each-requires Inv-loop μ-loop
 mix-each-requires c κs =
-    let s = here (c .before .before) in (
-      s .rows,
-      (
-        omega (arith, s .m-few),
-        (omega (arith, s .fits), (rw (c .before .power .ensures) (power-lt 65537 (omega arith) _ _), c .before .before .before .loop .inv .words)),
-      ),
-    )
+    let at-test = c .before .before in
+    let i = at-test .before .loop .inv in
+    let s = here at-test in
+    let e = c .before .power .ensures in
+    let f = level-factors (at-test .before .before .before .before .before .pre .0 .rooted) (omega arith) (i .exponent-is) e (i .m-is) in
+    (s .rows, (omega (arith, s .m-few), (omega (arith, s .fits), ((rw e (power-lt 65537 (omega arith) _ _), f), i .words))))
 
 mul-m : tie.Need-mul-m Inv-loop μ-loop
 mul-m c = omega (arith, here (c .before .before .before .before .before) .m-few)

@@ -14,6 +14,7 @@ use Rattle.code.specs.Transform.{unmixed, untransform}
 use Rattle.code.proofs.Shapes.{length-unmixed, length-untransform}
 use Rattle.field.proofs.Unity.{two-div}
 use Rattle.code.proofs.Blocks.{Level, level-at, pow-down, words-each, eachRows, rows-id, rows-one, both, rows-then, rows-double, unmixing-block}
+use Rattle.code.proofs.Factors.{level-factors}
 use Rattle.code.proofs.unmixing.unmix_all.Statement.{statement}
 use Rattle.code.proofs.unmixing.unmix_all.Tie as tie
 
@@ -128,17 +129,15 @@ cast-power c = omega (
 )
 
 power-requires : tie.Need-power-requires Inv-loop μ-loop
-power-requires c κs = omega arith
+power-requires c κs = c .before .before .before .before .before .pre .1 .1 .0 .small
 
 unmix-each-requires : tie.Need-unmix-each-requires Inv-loop μ-loop
 unmix-each-requires c κs =
-    let s = here (c .before .before .before) in (
-      s .rows,
-      (
-        omega (arith, s .m-few),
-        (omega (arith, s .fits), (rw (c .before .power .ensures) (power-lt 65537 (omega arith) _ _), c .before .before .before .before .loop .inv .words)),
-      ),
-    )
+    let at-test = c .before .before .before in
+    let s = here at-test in
+    let e = c .before .power .ensures in
+    let f = level-factors (at-test .before .before .before .before .pre .1 .1 .0) (omega arith) (c .before .before .two-to2 .ensures) e (s .m-is) in
+    (s .rows, (omega (arith, s .m-few), (omega (arith, s .fits), ((rw e (power-lt 65537 (omega arith) _ _), f), at-test .before .loop .inv .words))))
 
 mul-blocks : tie.Need-mul-blocks Inv-loop μ-loop
 mul-blocks c = omega (arith, here (c .before .before .before .before .before .before) .blocks-few)
