@@ -2,8 +2,9 @@
 use mathlib.Core.Path.{_≡_, refl, sym, ap, ap₂, _∙_}
 use mathlib.Core.Bool.{Bool, true, false}
 use mathlib.Core.List.{List, _++_}
-use Prim.Native.Nat.{ℕ, suc, _+_, _*_, _-_, _/_, _^_, _≤_, _<_}
+use Prim.Native.Nat.{ℕ, zero, suc, _+_, _*_, _-_, _/_, _%_, _^_, _≤_, _<_}
 use native.Mathlib.Decide.{decLt}
+use native.Mathlib.Nat.{mod-eq-of-lt, add-mul-mod-self-left}
 use native.Mathlib.Omega.{arith}
 use borrow.Author.Needs.{needs}
 use borrow.Rule.Slice.PartMut.{putMid}
@@ -11,6 +12,7 @@ use mir.Syntax.{w64}
 use mir.Val.{Fits}
 use lib.Arith.{digits-lt, digits-div}
 use lib.ListN.{length, getD, take, drop, length-drop, take-append-drop}
+use lib.Pow.{pow-mono}
 use lib.Seq.{getD-take, length-take-le}
 use Rattle.field.specs.Residue.{plus, minus, times}
 use Rattle.field.specs.Power.{inverse}
@@ -22,7 +24,7 @@ use Rattle.code.specs.Rows.{column, lifted}
 use Rattle.decoder.specs.steps.Decoder.{evaluated, split, halfOf, derivedAt, derived, divisorAt, chosenAt, chosen, weighedAt, weighed}
 use Rattle.code.specs.steps.Storing.{stored}
 use Rattle.field.proofs.Booleans.{choice-lt}
-use Rattle.code.proofs.Shapes.{length-transform, length-untransform, words-untransform}
+use Rattle.code.proofs.Shapes.{reversed-lt, length-transform, length-untransform, words-untransform}
 use Rattle.code.proofs.Lifting.{length-lifted, words-lifted, words-column, lifted-then}
 use Rattle.code.proofs.Lifting.{length-column, column-at, is-lifted, lifted-append, table-lifted, two-halves}
 use Rattle.decoder.proofs.DecoderShapes.{derived-low, derived-high, chosen-at, weighed-at}
@@ -31,6 +33,18 @@ use Rattle.code.proofs.RowLaws.{Parts, length-parts, lent-rest, put-rest, lengt
 -- STEP 3, word q of the second half
 unfoldable pub deriveWord : (p level width : ℕ) → (rows : List ℕ) → (q : ℕ) → ℕ
 deriveWord p l width r q = minus p (times p (plus p (reversed l (q / width)) (halfOf p l)) (getD r q 0)) (times p (halfOf p l) (getD r (2 ^ l * width + q) 0))
+
+-- its two factors: neither is -1
+pub derive-factors : (l j : ℕ) → l ≤ 15 → (plus 65537 (reversed l j) (halfOf 65537 l) < 65536) × (halfOf 65537 l < 65536)
+unfolding plus halfOf times
+derive-factors zero j b = let r : reversed 0 j < 1 = reversed-lt 0 j in (omega arith, omega arith)
+derive-factors (suc l) j b =
+    let r : reversed (suc l) j < 2 ^ suc l = reversed-lt (suc l) j in
+    let m : 2 ^ l ≤ 16384 = pow-mono {i = l} {j = 14} (omega arith) in
+    let h : 32769 * 2 ^ suc l % 65537 ≡ 2 ^ l =
+    ap (λ (n : ℕ). n % 65537) {x = 32769 * 2 ^ suc l} {y = 2 ^ l + 65537 * 2 ^ l} (omega arith) ∙ add-mul-mod-self-left (2 ^ l) 65537 (2 ^ l)
+    ∙ mod-eq-of-lt (omega arith) in
+    (omega arith, omega arith)
 
 -- row 2 ^ l + a
 high-row : (l a width j : ℕ) → (2 ^ l + a) * width + j ≡ 2 ^ l * width + (a * width + j)

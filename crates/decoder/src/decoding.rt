@@ -5,7 +5,7 @@ ghost use mathlib.Core.Path.{_≡_};
 ghost use mathlib.Core.List.{_++_};
 ghost use Prim.Native.Nat.{_+_, _*_, _-_, _^_, _≤_, _<_, suc};
 ghost use lib.ListN.{length, take, drop, replicate};
-ghost use Rattle.field.specs.Field.{fermat};
+ghost use Rattle.field.specs.Field.{fermat, Root};
 ghost use Rattle.field.specs.Words.{Words};
 ghost use Rattle.code.specs.Rows.{lifted};
 ghost use Rattle.code.specs.Stripe.{Numbers, modulusOf, blockCount, positionCount, blockWords, stripeWords};
@@ -46,7 +46,7 @@ fn weigh(part: &mut [u32], marks: &[bool], level: usize, width: usize)
 fn split(part: &mut [u32], st: Stripe, back: u32)
     requires { ⌜ Numbers st ⌝ }
     requires { ⌜ length (now part) ≡ stripeWords st ⌝ }
-    requires { ⌜ back < modulusOf st ⌝ }
+    requires { ⌜ Root (modulusOf st) (st .k) back ⌝ }
     requires { ⌜ Words (modulusOf st) (now part) ⌝ }
     ensures { λ _. ⌜ now (part .exit) ≡
         lifted (st .width) (positionCount st) (positionCount st) (Decoder.split (modulusOf st) back (st .k) (st .level) (st .first)) (now (part .entry)) ⌝ }
@@ -96,7 +96,7 @@ fn is_low(part: &[u32], level: usize, width: usize, erased: usize) -> bool
 // a times the row at `low` less b times the row at `high`, in the latter's place.
 fn derive_row(part: &mut [u32], low: usize, high: usize, width: usize, a: u32, b: u32)
     requires { ⌜ (low + width ≤ high) × (high + width ≤ length (now part)) ⌝ }
-    requires { ⌜ (a < fermat .modulus) × (b < fermat .modulus) ⌝ }
+    requires { ⌜ (a < fermat .modulus - 1) × (b < fermat .modulus - 1) ⌝ }
     requires { ⌜ Words (fermat .modulus) (now part) ⌝ }
     ensures { λ _. ⌜ now (part .exit) ≡ stored high (deriveAt (fermat .modulus) low high a b (now (part .entry))) width (now (part .entry)) ⌝ }
 {

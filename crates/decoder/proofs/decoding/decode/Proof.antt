@@ -9,7 +9,9 @@ use lib.Dec.{lit<}
 use lib.ListN.{length, take, drop}
 use Rattle.field.specs.Words.{Words}
 use Rattle.field.proofs.Primes.{fermat-prime}
-use Rattle.field.proofs.Powers.{inverse-lt}
+use Rattle.field.specs.Field.{Root}
+use Rattle.field.proofs.Primes.{fermat-prime}
+use Rattle.field.proofs.Unity.{root-back}
 use Rattle.field.proofs.WordLists.{words-take, words-drop, length-table}
 use Rattle.code.proofs.Lifting.{two-halves}
 use Rattle.decoder.proofs.DecodeRows.{Decoding, Sound, AllRows, HalfRows, isConsistent, weightsOf, weighedOf, splitOf, derivedOf, evaluatedOf}
@@ -70,8 +72,8 @@ all-is c = ap₂ _+_ (half-is c) (half-is c) ∙ sym (two-halves (stripe c .leve
 total : (c : tie.After-two-to) → length (start c .args .part .now) ≡ half c + half c + positionCount (stripe c)
 total c = start c .pre .1 .1 .0 ∙ ap (λ (n : ℕ). n + positionCount (stripe c)) (sym (all-is c))
 
-back-lt : (c : tie.After-inverse) → c .inverse .result < 65537
-back-lt c = rw (c .inverse .ensures) (inverse-lt 65537 (lit< tt) (stripe (c .before) .root))
+back-root : (c : tie.After-inverse) → Root 65537 (stripe (c .before) .k) (c .inverse .result)
+back-root c = rw (c .inverse .ensures) (root-back 65537 _ _ fermat-prime (start (c .before) .pre .0 .rooted))
 
 -- THE PART after each step
 abbrev All : tie.After-two-to → (Decoding → List ℕ → List ℕ) → List ℕ → Type 0
@@ -192,7 +194,7 @@ split-requires c κs =
     let at = c .before .before .before in
     let s = start (weigh-inverse at .before) in
     let h = weigh-holds at in
-    (s .pre .0, (sized h, (back-lt (weigh-inverse at), words-lent h (sound s))))
+    (s .pre .0, (sized h, (back-root (weigh-inverse at), words-lent h (sound s))))
 
 count-erased-requires : tie.Need-count-erased-requires
 count-erased-requires c κs = search needs
@@ -265,7 +267,7 @@ unmix-all-requires c κs =
     let at = c .before .before .before in
     let s = start (choose-two at) in
     let h = choose-holds at in
-    (s .pre .0, (sized h, (back-lt (choose-inverse at), words-lent h (sound s))))
+    (s .pre .0, (sized h, (back-root (choose-inverse at), words-lent h (sound s))))
 
 clear-requires-2 : tie.Need-clear-requires-2
 clear-requires-2 c κs = (omega arith, omega (arith, unmix-long (c .before .before .before)))

@@ -14,12 +14,12 @@ use Rattle.code.specs.Transform as Transform
 use Rattle.decoder.specs.steps.Decoder.{halfOf}
 use Rattle.code.specs.steps.Storing.{stored}
 use Rattle.decoder.specs.steps.RowTests.{deriveAt}
-use Rattle.field.proofs.Laws.{plus-lt, minus-lt, times-lt}
+use Rattle.field.proofs.Laws.{minus-lt, times-lt}
 use Rattle.code.proofs.Lifting.{two-halves, row-next, row-in}
 use Rattle.code.proofs.Shapes.{reversed-lt}
 use Rattle.code.proofs.RowLaws.{StoringRows, storing-rows-start, storing-rows-room, storing-rows-front, storing-rows-rest, storing-rows-words}
 use Rattle.code.proofs.RowLaws.{storing-rows-turn, storing-rows-done}
-use Rattle.decoder.proofs.DecodeSteps.{deriveWord, derive-rows}
+use Rattle.decoder.proofs.DecodeSteps.{deriveWord, derive-factors, derive-rows}
 use Rattle.decoder.proofs.decoding.derive.Statement.{statement}
 use Rattle.decoder.proofs.decoding.derive.Tie as tie
 
@@ -124,11 +124,13 @@ derive-row-requires : tie.Need-derive-row-requires Inv-loop μ-loop
 derive-row-requires c κs =
     let at = c .before .before .before in
     let h = at .before .loop .inv in
-    let r = room h (at .loop-test .taken) in (
+    let r = room h (at .loop-test .taken) in
+    let s = at .before .before .before .before .before in
+    let f = derive-factors (s .args .level) (at .before .loop .j) (s .pre .0) in (
       (r .0, omega (arith, r .1, h .storing .same)),
       (
-        (rw (c .before .add .ensures) (plus-lt 65537 (lit< tt) _ _), factor (at .before .before)),
-        words h (at .before .before .before .before .before .pre .1 .1),
+        (rw (c .before .add .ensures, c .before .before .reversed .ensures, h .b-is) (f .0), rw (h .b-is) (f .1)),
+        words h (s .pre .1 .1),
       ),
     )
 
