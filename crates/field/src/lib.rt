@@ -38,7 +38,11 @@ pub fn reduce(t: u32) -> u32
 {
     let lo = t % 65536;
     let hi = t / 65536;
-    if hi <= lo { lo - hi } else { lo + (MODULUS - hi) }
+    if hi <= lo {
+        lo - hi
+    } else {
+        lo + (MODULUS - hi)
+    }
 }
 
 // The product with a factor that is not -1: it fits 32 bits.

@@ -7,7 +7,7 @@ ghost use mathlib.Core.List.{_∷_};
 ghost use Prim.Native.Nat.{suc, _+_, _*_, _-_, _^_, _≤_, _<_};
 ghost use lib.ListN.{length, take, drop};
 ghost use lib.Seq.{sets};
-ghost use Rattle.field.specs.Field.{fermat};
+ghost use Rattle.field.specs.Field.{fermat, Root};
 ghost use Rattle.field.specs.Words.{Words};
 ghost use Rattle.code.specs.Transform.{scaled};
 ghost use Rattle.layout.specs.Header.{headerOf, primeOf, headerFits, logSize};
@@ -46,7 +46,7 @@ fn copy_reduced(log: &mut [u32], from: usize, to: usize, count: usize)
 // Puts a block as a row from index `at` on: its number and its data, each times g.
 fn put_row(log: &mut [u32], at: usize, number: u32, block: &[u32], g: u32)
     requires { ⌜ at + suc (length (now block)) ≤ length (now log) ⌝ }
-    requires { ⌜ g < fermat .modulus ⌝ }
+    requires { ⌜ g < fermat .modulus - 1 ⌝ }
     requires { ⌜ Words (fermat .modulus) (number ∷ now block) ⌝ }
     ensures { λ _. ⌜ now (log .exit) ≡ sets (now (log .entry)) at (scaled (fermat .modulus) g (number ∷ now (block .entry))) ⌝ }
 {
@@ -72,7 +72,7 @@ fn half_at(level: usize, half: usize, width: usize) -> usize
 fn gather(log: &mut [u32], level: usize, half: usize, number: u32, block: &[u32], g: u32)
     requires { ⌜ (level ≤ 9) × (half ≤ 1) × (length (now block) ≤ 128) ⌝ }
     requires { ⌜ halfStart (suc (length (now block))) (suc level) 0 ≤ length (now log) ⌝ }
-    requires { ⌜ g < fermat .modulus ⌝ }
+    requires { ⌜ g < fermat .modulus - 1 ⌝ }
     requires { ⌜ Words (fermat .modulus) (number ∷ now block) ⌝ }
     ensures { λ _. ⌜ now (log .exit) ≡
         sets (now (log .entry)) (halfStart (suc (length (now (block .entry)))) level half)
@@ -95,7 +95,7 @@ fn gather(log: &mut [u32], level: usize, half: usize, number: u32, block: &[u32]
 fn fold(half: &mut [u32], level: usize, k: usize, width: usize, root: u32)
     requires { ⌜ (level ≤ k) × (k ≤ 15) ⌝ }
     requires { ⌜ length (now half) ≡ 2 ^ level * width ⌝ }
-    requires { ⌜ root < fermat .modulus ⌝ }
+    requires { ⌜ Root (fermat .modulus) k root ⌝ }
     requires { ⌜ Words (fermat .modulus) (now half) ⌝ }
     ensures { λ _. ⌜ now (half .exit) ≡ folded (fermat .modulus) root k width level (now (half .entry)) ⌝ }
 {

@@ -5,6 +5,7 @@ use Prim.Native.Nat.{ℕ, suc, _+_, _-_, _*_, _%_, _≤_, _<_}
 use native.Mathlib.Nat.{sub-zero}
 use native.Mathlib.Numerals.{add-one}
 use native.Mathlib.Omega.{arith}
+use borrow.Author.Needs.{needs}
 use lib.ListN.{length, getD, set, take, drop, length-set}
 use lib.Seq.{sets, drop-cons}
 use Rattle.layout.specs.Records.{recordIn}
@@ -39,8 +40,8 @@ start {full₀} {at} {raw} {i} {s} r q = record {
 }
 
 module _ {full₀ : List ℕ} {at : ℕ} {raw : List ℕ} {i s : ℕ} {full : List ℕ} {to from j : ℕ} where
-  turn : Inv full₀ at raw i s full to from j → j < s → Inv full₀ at raw i s (set full to (getD raw from 0 % 65537)) (to + 1) (from + 1) (j + 1)
-  turn h l =
+  turn : {x : ℕ} → Inv full₀ at raw i s full to from j → j < s → x ≡ getD raw from 0 % 65537 → Inv full₀ at raw i s (set full to x) (to + 1) (from + 1) (j + 1)
+  turn {x} h l ex =
       let e : s - j ≡ suc (s - (j + 1)) = omega arith in
       record {
         turns = omega arith;
@@ -48,8 +49,8 @@ module _ {full₀ : List ℕ} {at : ℕ} {raw : List ℕ} {i s : ℕ} {full : Li
         inside = h .inside;
         to-is = omega arith;
         from-is = omega arith;
-        same = length-set full to (getD raw from 0 % 65537) ∙ h .same;
-        whole = sym (next 65537 to from (s - (j + 1)) full raw (omega arith)) ∙ (rw e at (h .whole));
+        same = length-set full to x ∙ h .same;
+        whole = rw ex (sym (next 65537 to from (s - (j + 1)) full raw (omega arith)) ∙ (rw e at (h .whole)));
       }
 
   done : Inv full₀ at raw i s full to from j → s ≤ j → full ≡ sets full₀ (suc at) (reduced 65537 (recordIn s raw i))
@@ -79,17 +80,21 @@ mul-from c = omega arith
 
 loop-holds : tie.Need-loop-holds Inv-loop μ-loop
 loop-holds c =
-    let a = c .args in
-    start (rw (length-set (a .full .now) (a .at) (a .i)) (c .pre .0)) (c .pre .1 .0)
+    let s = c .before .before in
+    let a = s .args in
+    start (rw (length-set (a .full .now) (a .at) (a .i)) (s .pre .0)) (s .pre .1 .0)
+
+mul-reduce : tie.Need-mul-reduce Inv-loop μ-loop
+mul-reduce c = omega arith
+
+shared-slice-read-reduce : tie.Need-shared-slice-read-reduce Inv-loop μ-loop
+shared-slice-read-reduce c = omega arith
+
+reduce-requires : tie.Need-reduce-requires Inv-loop μ-loop
+reduce-requires c κs = search needs
 
 mul-full-2 : tie.Need-mul-full-2 Inv-loop μ-loop
 mul-full-2 c = omega arith
-
-shared-slice-read-full : tie.Need-shared-slice-read-full Inv-loop μ-loop
-shared-slice-read-full c = omega arith
-
-mul-full-3 : tie.Need-mul-full-3 Inv-loop μ-loop
-mul-full-3 c = omega arith
 
 slice-write-full-2 : tie.Need-slice-write-full-2 Inv-loop μ-loop
 slice-write-full-2 c = omega arith
@@ -107,10 +112,14 @@ loop-less : tie.Need-loop-less Inv-loop μ-loop
 loop-less c = omega arith
 
 loop-again : tie.Need-loop-again Inv-loop μ-loop
-loop-again c = turn (c .before .before .loop .inv) (c .before .loop-test .taken)
+loop-again c =
+    let at-test = c .before .before in
+    turn (at-test .before .loop .inv) (at-test .loop-test .taken) (c .reduce .ensures)
 
 same-length : tie.Need-same-length Inv-loop μ-loop
-same-length c = c .before .loop .inv .same ∙ length-set (c .before .before .args .full .now) (c .before .before .args .at) (c .before .before .args .i)
+same-length c =
+    let a = c .before .before .before .before .args in
+    c .before .loop .inv .same ∙ length-set (a .full .now) (a .at) (a .i)
 
 returns : tie.Need-returns Inv-loop μ-loop
 returns c = done (c .before .loop .inv) (c .loop-test .left)
@@ -127,9 +136,10 @@ block-row-spec =
     add-to
     mul-from
     loop-holds
+    mul-reduce
+    shared-slice-read-reduce
+    reduce-requires
     mul-full-2
-    shared-slice-read-full
-    mul-full-3
     slice-write-full-2
     add-to-2
     add-from

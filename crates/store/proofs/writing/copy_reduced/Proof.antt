@@ -2,6 +2,7 @@
 use mathlib.Core.Path.{ap, _∙_}
 use Prim.Native.Nat.{ℕ, _+_, _-_, _%_, _≤_}
 use native.Mathlib.Omega.{arith}
+use borrow.Author.Needs.{needs}
 use lib.ListN.{length, getD, take, drop}
 use Rattle.store.specs.Buffers.{reduced}
 use Rattle.code.proofs.RowLaws.{Storing, storing-start, storing-turn, storing-done, storing-front, stored-list}
@@ -24,14 +25,17 @@ add-x c = omega arith
 add-y : tie.Need-add-y Inv-loop μ-loop
 add-y c = omega arith
 
+mul-reduce : tie.Need-mul-reduce Inv-loop μ-loop
+mul-reduce c = omega arith
+
+slice-read-reduce : tie.Need-slice-read-reduce Inv-loop μ-loop
+slice-read-reduce c = omega arith
+
+reduce-requires : tie.Need-reduce-requires Inv-loop μ-loop
+reduce-requires c κs = search needs
+
 mul-log : tie.Need-mul-log Inv-loop μ-loop
 mul-log c = omega arith
-
-slice-read-log : tie.Need-slice-read-log Inv-loop μ-loop
-slice-read-log c = omega arith
-
-mul-log-2 : tie.Need-mul-log-2 Inv-loop μ-loop
-mul-log-2 c = omega arith
 
 slice-write-log : tie.Need-slice-write-log Inv-loop μ-loop
 slice-write-log c = omega arith
@@ -44,16 +48,17 @@ loop-less c = omega arith
 
 loop-again : tie.Need-loop-again Inv-loop μ-loop
 loop-again c =
-    let at-loop = c .before .before in
-    storing-turn (at-loop .loop .inv) (omega arith)
-    (ap (λ (x : ℕ). x % 65537) (storing-front (at-loop .loop .inv) (at-loop .before .args .from + at-loop .loop .j) (omega arith)))
+    let at-test = c .before .before in
+    let at-loop = at-test .before in
+    storing-turn (at-loop .loop .inv) (at-test .loop-test .taken)
+    (c .reduce .ensures ∙ ap (λ (x : ℕ). x % 65537) (storing-front (at-loop .loop .inv) (at-loop .before .before .args .from + at-loop .loop .j) (omega arith)))
 
 same-length : tie.Need-same-length Inv-loop μ-loop
 same-length c = c .before .loop .inv .same
 
 returns : tie.Need-returns Inv-loop μ-loop
 returns c =
-    let a = c .before .before .args in
+    let a = c .before .before .before .args in
     let h : a .from + a .count ≤ length (a .log .now) = omega arith in
     storing-done (c .before .loop .inv) (c .loop-test .left)
     ∙ stored-list (a .to) _ (a .count) (reduced 65537 (take (a .count) (drop (a .from) (a .log .now)))) (a .log .now)
@@ -68,9 +73,10 @@ copy-reduced-spec =
     loop-holds
     add-x
     add-y
+    mul-reduce
+    slice-read-reduce
+    reduce-requires
     mul-log
-    slice-read-log
-    mul-log-2
     slice-write-log
     add-j
     loop-less

@@ -6,6 +6,7 @@ use native.Mathlib.Nat.{mul-le-mul-right}
 use lib.Pow.{pow-pos, pow-mono}
 use lib.ListN.{length}
 use Rattle.field.proofs.Powers.{power-lt}
+use Rattle.code.proofs.Factors.{level-factors}
 use Rattle.store.proofs.Folding.{FoldLoop, fold-start, fold-turn, fold-done, room, lent-in, lent-long, lent-words}
 use Rattle.store.proofs.writing.fold.Statement.{statement}
 use Rattle.store.proofs.writing.fold.Tie as tie
@@ -37,7 +38,7 @@ cast-power : tie.Need-cast-power Inv-loop μ-loop
 cast-power c = omega (arith, pow-mono {i = c .before .before .before .before .args .k - c .before .loop .l} {j = 16} (omega arith))
 
 power-requires : tie.Need-power-requires Inv-loop μ-loop
-power-requires c κs = omega arith
+power-requires c κs = c .before .before .before .before .pre .1 .1 .0 .small
 
 mul-from : tie.Need-mul-from Inv-loop μ-loop
 mul-from c = omega (arith, row-room (c .before))
@@ -61,7 +62,9 @@ mix-requires : tie.Need-mix-requires Inv-loop μ-loop
 mix-requires c κs =
     let at-test = c .before .before in
     let inv = at-test .before .loop .inv in
-    (lent-long inv (at-test .loop-test .taken), (rw (c .before .power .ensures) (power-lt 65537 (lit< tt) _ _), lent-words inv (at-test .loop-test .taken)))
+    let e = c .before .power .ensures in
+    let f = level-factors (at-test .before .before .before .before .pre .1 .1 .0) (omega arith) (inv .exponent-is) e (inv .m-is) in
+    (lent-long inv (at-test .loop-test .taken), ((rw e (power-lt 65537 (lit< tt) _ _), f), lent-words inv (at-test .loop-test .taken)))
 
 mul-m : tie.Need-mul-m Inv-loop μ-loop
 mul-m c = omega (arith, pow-mono {i = c .before .before .before .before .before .before .loop .l} {j = 16} (omega arith))

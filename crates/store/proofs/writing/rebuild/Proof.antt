@@ -7,9 +7,10 @@ use native.Mathlib.Omega.{arith}
 use borrow.Rule.Slice.PartMut.{putMid}
 use lib.Dec.{lit<}
 use lib.ListN.{length}
-use Rattle.field.specs.Field.{rootOf}
+use Rattle.field.specs.Field.{Root}
 use Rattle.field.specs.Power.{power}
-use Rattle.field.proofs.Powers.{power-lt}
+use Rattle.field.proofs.Primes.{is-root}
+use Rattle.code.proofs.Factors.{turning-factor}
 use Rattle.code.specs.Transform.{scaled}
 use Rattle.code.proofs.Shapes.{length-scaled, words-scaled}
 use Rattle.layout.specs.Header.{width}
@@ -60,9 +61,8 @@ half c y g = gathered 65537 (width (c .args .header)) (c .args .log .now) y (row
 length-row : (c : tie.Start) (g : ℕ) → length (row c g) ≡ width (c .args .header)
 length-row c g = length-scaled 65537 g (c .args .number ∷ c .args .block .now) ∙ ap suc (c .pre .1 .0 .1)
 
-root-lt : (c : tie.After-root) → c .root .result < 65537
-unfolding rootOf
-root-lt c = rw (c .root .ensures) (power-lt 65537 (lit< tt) _ _)
+rooted : (c : tie.After-root) → Root 65537 (start-at-root c .args .header .k) (c .root .result)
+rooted c = is-root (omega (arith, fit (start-at-root c))) (c .root .ensures)
 
 -- where the level stands
 level-at : (c : tie.After-half-at3) → let a = entry (to-power (to-gather c)) .args in
@@ -140,7 +140,7 @@ reversed-requires : tie.Need-reversed-requires
 reversed-requires c κs = omega (arith, fit (c .before .before .before .before .before .before))
 
 power-requires : tie.Need-power-requires
-power-requires c κs = root-lt (c .before .before)
+power-requires c κs = rooted (c .before .before) .small
 
 gather-requires : tie.Need-gather-requires
 gather-requires c κs =
@@ -153,7 +153,10 @@ gather-requires-2 c κs =
     let t = c₁ .before .before in
     let s = entry t in (
       omega (arith, fit s, s .pre .0 .1, s .pre .1 .0 .1),
-      (rw (s .pre .1 .0 .1) (omega (arith, room s, c₁ .gather .kept .0)), (rw (t .power .ensures) (power-lt 65537 (lit< tt) _ _), s .pre .1 .1)),
+      (
+        rw (s .pre .1 .0 .1) (omega (arith, room s, c₁ .gather .kept .0)),
+        (rw (t .power .ensures, t .before .reversed .ensures) (turning-factor 65537 _ _ _ (rooted (t .before .before .before))), s .pre .1 .1),
+      ),
     )
 
 half-at-requires : tie.Need-half-at-requires
@@ -188,7 +191,7 @@ fold-requires c κs =
       (omega (arith, s .pre .0 .1), omega (arith, fit s)),
       (
         ap length (lent-x h) ∙ rw add-one (h .long-x),
-        (root-lt (to-power (to-gather c₃) .before .before .before), rw (lent-x h) (words-gathered 65537 _ (lit< tt) _ _ _ (words-scaled 65537 (lit< tt) _ _))),
+        (rooted (to-power (to-gather c₃) .before .before .before), rw (lent-x h) (words-gathered 65537 _ (lit< tt) _ _ _ (words-scaled 65537 (lit< tt) _ _))),
       ),
     )
 
@@ -213,7 +216,7 @@ fold-requires-2 c κs =
       (omega (arith, s .pre .0 .1), omega (arith, fit s)),
       (
         ap length (lent-y h) ∙ rw add-one (h .long-y),
-        (root-lt (t .before .before .before), rw (lent-y h) (words-gathered 65537 _ (lit< tt) _ _ _ (words-scaled 65537 (lit< tt) _ _))),
+        (rooted (t .before .before .before), rw (lent-y h) (words-gathered 65537 _ (lit< tt) _ _ _ (words-scaled 65537 (lit< tt) _ _))),
       ),
     )
 
