@@ -33,7 +33,7 @@ fn turn_row(part: &mut [u32], at: usize, width: usize, g: u32)
 {
     for j in 0..width {
         let x = at + j;
-        part[x] = field::mul_short(g, part[x]);
+        part[x] = field::short::mul(g, part[x]);
     }
 }
 

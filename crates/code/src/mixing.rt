@@ -43,7 +43,7 @@ fn mix_row_by(part: &mut [u32], low: usize, high: usize, width: usize, g: u32)
         let x = low + j;
         let y = high + j;
         let a = part[x];
-        let t = field::mul_short(g, part[y]);
+        let t = field::short::mul(g, part[y]);
         part[x] = field::add(a, t);
         part[y] = field::sub(a, t);
         j += 1;
@@ -78,7 +78,7 @@ pub fn mix(part: &mut [u32], m: usize, width: usize, v: u32)
     let mut high = m * width;
     while i < m {
         mix_row(part, low, high, width, g);
-        g = field::mul_short(g, v);
+        g = field::short::mul(g, v);
         low += width;
         high += width;
         i += 1;

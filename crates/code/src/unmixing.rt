@@ -25,7 +25,7 @@ fn unmix_row_by(part: &mut [u32], low: usize, high: usize, width: usize, g: u32)
         let a = part[x];
         let b = part[y];
         part[x] = field::add(a, b);
-        part[y] = field::mul_short(g, field::sub(a, b));
+        part[y] = field::short::mul(g, field::sub(a, b));
         j += 1;
     }
 }
@@ -58,7 +58,7 @@ fn unmix(part: &mut [u32], m: usize, width: usize, v: u32)
     let mut high = m * width;
     while i < m {
         unmix_row(part, low, high, width, g);
-        g = field::mul_short(g, v);
+        g = field::short::mul(g, v);
         low += width;
         high += width;
         i += 1;

@@ -103,8 +103,8 @@ fn derive_row(part: &mut [u32], low: usize, high: usize, width: usize, a: u32, b
     for j in 0..width {
         let x = low + j;
         let y = high + j;
-        let s = field::mul_short(a, part[x]);
-        part[y] = field::sub(s, field::mul_short(b, part[y]));
+        let s = field::short::mul(a, part[x]);
+        part[y] = field::sub(s, field::short::mul(b, part[y]));
     }
 }
 

@@ -1,7 +1,9 @@
 // Arithmetic on words of the field of p = 65537 elements: a word is a u32 below p, each result is the definition's, modulo p, and every number on the way
 // to it is held in 32 bits.
+pub mod short;
+
 ghost use mathlib.Core.Path.{_≡_};
-ghost use Prim.Native.Nat.{_-_, _%_, _≤_, _<_};
+ghost use Prim.Native.Nat.{_%_, _≤_, _<_};
 ghost use Rattle.field.specs.Residue.{plus, minus, times};
 ghost use Rattle.field.specs.Power;
 ghost use Rattle.field.specs.Field.{fermat};
@@ -43,14 +45,6 @@ pub fn reduce(t: u32) -> u32
     } else {
         lo + (MODULUS - hi)
     }
-}
-
-// The product with a factor that is not -1: it fits 32 bits.
-pub fn mul_short(g: u32, y: u32) -> u32
-    requires { ⌜ (g < fermat .modulus - 1) × (y < fermat .modulus) ⌝ }
-    ensures { λ r. ⌜ r ≡ times (fermat .modulus) g y ⌝ }
-{
-    reduce(g * y)
 }
 
 // The product of any two words. Only -1 times -1 leaves 32 bits, and it is 1.

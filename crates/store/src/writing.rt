@@ -50,11 +50,11 @@ fn put_row(log: &mut [u32], at: usize, number: u32, block: &[u32], g: u32)
     requires { ⌜ Words (fermat .modulus) (number ∷ now block) ⌝ }
     ensures { λ _. ⌜ now (log .exit) ≡ sets (now (log .entry)) at (scaled (fermat .modulus) g (number ∷ now (block .entry))) ⌝ }
 {
-    log[at] = field::mul_short(g, number);
+    log[at] = field::short::mul(g, number);
     let first = at + 1;
     for j in 0..block.len() {
         let to = first + j;
-        log[to] = field::mul_short(g, block[j]);
+        log[to] = field::short::mul(g, block[j]);
     }
 }
 

@@ -20,14 +20,14 @@ loop-holds c = storing-start _ _ _ _
 add-x : tie.Need-add-x Inv-loop μ-loop
 add-x c = omega arith
 
-mul-mul-short : tie.Need-mul-mul-short Inv-loop μ-loop
-mul-mul-short c = omega arith
+mul-mul : tie.Need-mul-mul Inv-loop μ-loop
+mul-mul c = omega arith
 
-slice-read-mul-short : tie.Need-slice-read-mul-short Inv-loop μ-loop
-slice-read-mul-short c = omega arith
+slice-read-mul : tie.Need-slice-read-mul Inv-loop μ-loop
+slice-read-mul c = omega arith
 
-mul-short-requires : tie.Need-mul-short-requires Inv-loop μ-loop
-mul-short-requires c κs =
+mul-requires : tie.Need-mul-requires Inv-loop μ-loop
+mul-requires c κs =
     let at-loop = c .before .before in (
       omega arith,
       rw (storing-rest (at-loop .loop .inv) (at-loop .before .before .args .at + at-loop .loop .j) (omega arith))
@@ -53,7 +53,7 @@ loop-again c =
     let at-loop = at-test .before in
     let a = at-loop .before .before .args in
     storing-turn (at-loop .loop .inv) (at-test .loop-test .taken)
-    (c .mul-short .ensures ∙ ap (times 65537 (a .g)) (storing-rest (at-loop .loop .inv) (a .at + at-loop .loop .j) (omega arith)))
+    (c .mul .ensures ∙ ap (times 65537 (a .g)) (storing-rest (at-loop .loop .inv) (a .at + at-loop .loop .j) (omega arith)))
 
 same-length : tie.Need-same-length Inv-loop μ-loop
 same-length c = c .before .loop .inv .same
@@ -70,9 +70,9 @@ turn-row-spec =
     μ-loop
     loop-holds
     add-x
-    mul-mul-short
-    slice-read-mul-short
-    mul-short-requires
+    mul-mul
+    slice-read-mul
+    mul-requires
     mul-part
     slice-write-part
     add-j

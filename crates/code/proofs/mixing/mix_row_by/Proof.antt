@@ -31,17 +31,17 @@ mul-a c = omega arith
 slice-read-a : tie.Need-slice-read-a Inv-loop μ-loop
 slice-read-a c = omega arith
 
-mul-mul-short : tie.Need-mul-mul-short Inv-loop μ-loop
-mul-mul-short c = omega arith
+mul-mul : tie.Need-mul-mul Inv-loop μ-loop
+mul-mul c = omega arith
 
-slice-read-mul-short : tie.Need-slice-read-mul-short Inv-loop μ-loop
-slice-read-mul-short c = omega arith
+slice-read-mul : tie.Need-slice-read-mul Inv-loop μ-loop
+slice-read-mul c = omega arith
 
-mul-short-requires : tie.Need-mul-short-requires Inv-loop μ-loop
-mul-short-requires c κs = (omega arith, c .before .before .before .loop .inv .words .word _)
+mul-requires : tie.Need-mul-requires Inv-loop μ-loop
+mul-requires c κs = (omega arith, c .before .before .before .loop .inv .words .word _)
 
 add-requires : tie.Need-add-requires Inv-loop μ-loop
-add-requires c κs = (c .before .before .before .before .loop .inv .words .word _, rw (c .mul-short .ensures) (times-lt 65537 (omega arith) _ _))
+add-requires c κs = (c .before .before .before .before .loop .inv .words .word _, rw (c .mul .ensures) (times-lt 65537 (omega arith) _ _))
 
 mul-part : tie.Need-mul-part Inv-loop μ-loop
 mul-part c = omega arith
@@ -50,7 +50,7 @@ slice-write-part : tie.Need-slice-write-part Inv-loop μ-loop
 slice-write-part c = omega arith
 
 sub-requires : tie.Need-sub-requires Inv-loop μ-loop
-sub-requires c κs = (c .before .before .before .before .before .loop .inv .words .word _, rw (c .before .mul-short .ensures) (times-lt 65537 (omega arith) _ _))
+sub-requires c κs = (c .before .before .before .before .before .loop .inv .words .word _, rw (c .before .mul .ensures) (times-lt 65537 (omega arith) _ _))
 
 mul-part-2 : tie.Need-mul-part-2 Inv-loop μ-loop
 mul-part-2 c = omega arith
@@ -70,7 +70,7 @@ loop-again c =
     let at-test = at-mul .before .before .before in
     let a = getD (at-test .before .loop .part) (at-test .before .before .before .args .low + at-test .before .loop .j) 0 in
     row-turn mixing-stores (at-test .before .loop .inv) (at-test .loop-test .taken)
-    (c .before .add .ensures ∙ ap (plus 65537 a) (at-mul .mul-short .ensures)) (c .sub .ensures ∙ ap (minus 65537 a) (at-mul .mul-short .ensures))
+    (c .before .add .ensures ∙ ap (plus 65537 a) (at-mul .mul .ensures)) (c .sub .ensures ∙ ap (minus 65537 a) (at-mul .mul .ensures))
 
 same-length : tie.Need-same-length Inv-loop μ-loop
 same-length c = c .before .loop .inv .same
@@ -89,9 +89,9 @@ mix-row-by-spec =
     add-y
     mul-a
     slice-read-a
-    mul-mul-short
-    slice-read-mul-short
-    mul-short-requires
+    mul-mul
+    slice-read-mul
+    mul-requires
     add-requires
     mul-part
     slice-write-part

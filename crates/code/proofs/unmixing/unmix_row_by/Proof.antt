@@ -53,8 +53,8 @@ sub-requires c κs =
     let w = c .before .before .before .before .loop .inv .words in
     (w .word _, w .word _)
 
-mul-short-requires : tie.Need-mul-short-requires Inv-loop μ-loop
-mul-short-requires c κs = (omega arith, rw (c .sub .ensures) (minus-lt 65537 (omega arith) _ _))
+mul-requires : tie.Need-mul-requires Inv-loop μ-loop
+mul-requires c κs = (omega arith, rw (c .sub .ensures) (minus-lt 65537 (omega arith) _ _))
 
 mul-part-2 : tie.Need-mul-part-2 Inv-loop μ-loop
 mul-part-2 c = omega arith
@@ -73,7 +73,7 @@ loop-again c =
     let at-add = c .before .before in
     let at-test = at-add .before .before .before in
     row-turn unmixing-stores (at-test .before .loop .inv) (at-test .loop-test .taken) (at-add .add .ensures)
-    (c .mul-short .ensures ∙ ap (times 65537 (at-test .before .before .before .args .g)) (c .before .sub .ensures))
+    (c .mul .ensures ∙ ap (times 65537 (at-test .before .before .before .args .g)) (c .before .sub .ensures))
 
 same-length : tie.Need-same-length Inv-loop μ-loop
 same-length c = c .before .loop .inv .same
@@ -98,7 +98,7 @@ unmix-row-by-spec =
     mul-part
     slice-write-part
     sub-requires
-    mul-short-requires
+    mul-requires
     mul-part-2
     slice-write-part-2
     add-j

@@ -44,31 +44,31 @@ add-x c = omega arith
 add-y : tie.Need-add-y Inv-loop μ-loop
 add-y c = omega arith
 
-mul-mul-short : tie.Need-mul-mul-short Inv-loop μ-loop
-mul-mul-short c = omega arith
+mul-mul : tie.Need-mul-mul Inv-loop μ-loop
+mul-mul c = omega arith
 
-slice-read-mul-short : tie.Need-slice-read-mul-short Inv-loop μ-loop
-slice-read-mul-short c = omega arith
+slice-read-mul : tie.Need-slice-read-mul Inv-loop μ-loop
+slice-read-mul c = omega arith
 
-mul-short-requires : tie.Need-mul-short-requires Inv-loop μ-loop
-mul-short-requires c κs =
+mul-requires : tie.Need-mul-requires Inv-loop μ-loop
+mul-requires c κs =
     let at = c .before in
     let s = at .before .before .before in
     (omega arith, rw (low-word (at .before .loop .inv) (at .loop-test .taken) (s .pre .0 .0)) (s .pre .1 .1 .word _))
 
-mul-mul-short-2 : tie.Need-mul-mul-short-2 Inv-loop μ-loop
-mul-mul-short-2 c = omega arith
+mul-mul-2 : tie.Need-mul-mul-2 Inv-loop μ-loop
+mul-mul-2 c = omega arith
 
-slice-read-mul-short-2 : tie.Need-slice-read-mul-short-2 Inv-loop μ-loop
-slice-read-mul-short-2 c = omega arith
+slice-read-mul-2 : tie.Need-slice-read-mul-2 Inv-loop μ-loop
+slice-read-mul-2 c = omega arith
 
-mul-short-requires-2 : tie.Need-mul-short-requires-2 Inv-loop μ-loop
-mul-short-requires-2 c κs =
+mul-requires-2 : tie.Need-mul-requires-2 Inv-loop μ-loop
+mul-requires-2 c κs =
     let at = c .before .before .before in
     (omega arith, rw (high-word (at .before .loop .inv) (at .loop-test .taken)) (at .before .before .before .pre .1 .1 .word _))
 
 sub-requires : tie.Need-sub-requires Inv-loop μ-loop
-sub-requires c κs = (rw (c .before .before .mul-short .ensures) (times-lt 65537 (lit< tt) _ _), rw (c .mul-short2 .ensures) (times-lt 65537 (lit< tt) _ _))
+sub-requires c κs = (rw (c .before .before .mul .ensures) (times-lt 65537 (lit< tt) _ _), rw (c .mul2 .ensures) (times-lt 65537 (lit< tt) _ _))
 
 mul-part : tie.Need-mul-part Inv-loop μ-loop
 mul-part c = omega arith
@@ -85,8 +85,8 @@ loop-less c = omega arith
 loop-again : tie.Need-loop-again Inv-loop μ-loop
 loop-again c =
     let at = c .before .before .before .before .before in
-    turn (at .before .loop .inv) (at .loop-test .taken) (at .before .before .before .pre .0 .0) (c .before .before .before .mul-short .ensures)
-    (c .before .mul-short2 .ensures) (c .sub .ensures)
+    turn (at .before .loop .inv) (at .loop-test .taken) (at .before .before .before .pre .0 .0) (c .before .before .before .mul .ensures)
+    (c .before .mul2 .ensures) (c .sub .ensures)
 
 same-length : tie.Need-same-length Inv-loop μ-loop
 same-length c = c .before .loop .inv .storing .same
@@ -103,12 +103,12 @@ derive-row-spec =
     loop-holds
     add-x
     add-y
-    mul-mul-short
-    slice-read-mul-short
-    mul-short-requires
-    mul-mul-short-2
-    slice-read-mul-short-2
-    mul-short-requires-2
+    mul-mul
+    slice-read-mul
+    mul-requires
+    mul-mul-2
+    slice-read-mul-2
+    mul-requires-2
     sub-requires
     mul-part
     slice-write-part

@@ -18,8 +18,8 @@ Inv-loop log₀ at number block g first j₀ j-end log j = Storing first (λ i. 
 abbrev μ-loop : tie.MeasureT-loop
 μ-loop log₀ at number block g first j₀ j-end log j = length block - j
 
-mul-short-requires : tie.Need-mul-short-requires Inv-loop μ-loop
-mul-short-requires c κs = (c .before .before .pre .1 .0, c .before .before .pre .1 .1 .word 0)
+mul-requires : tie.Need-mul-requires Inv-loop μ-loop
+mul-requires c κs = (c .before .before .pre .1 .0, c .before .before .pre .1 .1 .word 0)
 
 mul-log : tie.Need-mul-log Inv-loop μ-loop
 mul-log c = omega arith
@@ -36,14 +36,14 @@ loop-holds c = storing-start _ _ _ _
 add-to : tie.Need-add-to Inv-loop μ-loop
 add-to c = omega arith
 
-mul-mul-short : tie.Need-mul-mul-short Inv-loop μ-loop
-mul-mul-short c = omega arith
+mul-mul : tie.Need-mul-mul Inv-loop μ-loop
+mul-mul c = omega arith
 
-shared-slice-read-mul-short : tie.Need-shared-slice-read-mul-short Inv-loop μ-loop
-shared-slice-read-mul-short c = omega arith
+shared-slice-read-mul : tie.Need-shared-slice-read-mul Inv-loop μ-loop
+shared-slice-read-mul c = omega arith
 
-mul-short-requires-2 : tie.Need-mul-short-requires-2 Inv-loop μ-loop
-mul-short-requires-2 c κs =
+mul-requires-2 : tie.Need-mul-requires-2 Inv-loop μ-loop
+mul-requires-2 c κs =
     let p = c .before .before .before .before .before .before .pre in
     (p .1 .0, p .1 .1 .word (suc (c .before .before .loop .j)))
 
@@ -62,7 +62,7 @@ loop-less : tie.Need-loop-less Inv-loop μ-loop
 loop-less c = omega arith
 
 loop-again : tie.Need-loop-again Inv-loop μ-loop
-loop-again c = storing-turn (c .before .before .before .loop .inv) (c .before .before .loop-test .taken) (c .mul-short2 .ensures)
+loop-again c = storing-turn (c .before .before .before .loop .inv) (c .before .before .loop-test .taken) (c .mul2 .ensures)
 
 same-length : tie.Need-same-length Inv-loop μ-loop
 same-length c = c .before .loop .inv .same ∙ simp length-set
@@ -74,9 +74,9 @@ returns c =
     let a = at-mul .before .before .before .args in
     let row = scaled 65537 (a .g) (a .block .now) in
     storing-done (c .before .loop .inv) (c .loop-test .left)
-    ∙ stored-list (a .at + 1) _ (length (a .block .now)) row (set (a .log .now) (a .at) (at-mul .mul-short .result))
+    ∙ stored-list (a .at + 1) _ (length (a .block .now)) row (set (a .log .now) (a .at) (at-mul .mul .result))
     (length-scaled 65537 (a .g) (a .block .now)) (scaled-at 65537 (a .g) (a .block .now))
-    ∙ ap₂ (λ (n x : ℕ). sets (set (a .log .now) (a .at) x) n row) (add-one (a .at)) (at-mul .mul-short .ensures)
+    ∙ ap₂ (λ (n x : ℕ). sets (set (a .log .now) (a .at) x) n row) (add-one (a .at)) (at-mul .mul .ensures)
 
 pub put-row-spec : {M : Type 1} → statement M
 put-row-spec =
@@ -84,15 +84,15 @@ put-row-spec =
     (tie.spec
     Inv-loop
     μ-loop
-    mul-short-requires
+    mul-requires
     mul-log
     slice-write-log
     add-first
     loop-holds
     add-to
-    mul-mul-short
-    shared-slice-read-mul-short
-    mul-short-requires-2
+    mul-mul
+    shared-slice-read-mul
+    mul-requires-2
     mul-log-2
     slice-write-log-2
     add-j
