@@ -22,7 +22,7 @@ use Rattle.field.proofs.Powers.{power-zero, power-suc}
 use Rattle.field.proofs.WordLists.{words-set}
 use Rattle.code.specs.Rows.{column, lifted}
 use Rattle.code.specs.Transform.{mixedHalves, unmixed}
-use Rattle.code.specs.steps.Mixing.{Crossing, mixing, unmixing, summing, crossed, crossedRow, Factors}
+use Rattle.code.specs.steps.Mixing.{Crossing, mixing, unmixing, summing, crossed, crossedRow, ShortFactors}
 use Rattle.code.proofs.Shapes.{mixed-low, mixed-high, unmixed-low, unmixed-high}
 use Rattle.code.proofs.Lifting.{column-at, length-column, is-lifted, row-in}
 
@@ -264,7 +264,7 @@ module _ {c : Crossing} {part₀ : List ℕ} {m width v : ℕ} where
   high-fits b h lt = record { fits = omega (arith, row-in width lt) }
 
   -- row i's factor, since i is below m
-  pub factor-short : {part : List ℕ} {g i low high : ℕ} → Factors 65537 v m → RowsLoop c part₀ m width v part g i low high → i < m → g < 65536
+  pub factor-short : {part : List ℕ} {g i low high : ℕ} → ShortFactors 65537 v m → RowsLoop c part₀ m width v part g i low high → i < m → g < 65536
   factor-short f h lt = rw (h .g-is) (f .short _ lt)
 
   pub rows-turn : {part part′ : List ℕ} {g g′ i low high : ℕ} → Stores 65537 c → RowsLoop c part₀ m width v part g i low high → i < m

@@ -9,15 +9,15 @@ use Rattle.field.specs.Field.{Root}
 use Rattle.field.proofs.Ring.{v, _⊕_, _⊖_, _⊗_, ring}
 use Rattle.field.proofs.Unity.{root-short, root-down, two-div}
 use Rattle.code.specs.Transform.{reversed}
-use Rattle.code.specs.steps.Mixing.{Crossing, mixing, unmixing, summing, crossed, crossedRow, mixRow, unmixRow, sumRow, Factors}
+use Rattle.code.specs.steps.Mixing.{Crossing, mixing, unmixing, summing, crossed, crossedRow, mixRow, unmixRow, sumRow, ShortFactors}
 use Rattle.code.proofs.Shapes.{reversed-lt}
 
 -- the factors under which `transform` mixes 2 ^ l words with 2 ^ l words, and `untransform` unmixes them: the inverse of a root is a root (`root-back`)
-pub mixing-factors : (p k w l : ℕ) → Root p k w → l ≤ k → Factors p (power p w (2 ^ k / 2 ^ l)) (2 ^ l)
+pub mixing-factors : (p k w l : ℕ) → Root p k w → l ≤ k → ShortFactors p (power p w (2 ^ k / 2 ^ l)) (2 ^ l)
 mixing-factors p k w l R b = record { short = rw (two-div k l b) (root-short p l (power p w (2 ^ (k - l))) (root-down p k w R l b)) }
 
 -- the same, of the numbers that a loop over levels has
-pub level-factors : {p k w l e u m : ℕ} → Root p k w → l ≤ k → e ≡ 2 ^ (k - l) → u ≡ power p w e → m ≡ 2 ^ l → Factors p u m
+pub level-factors : {p k w l e u m : ℕ} → Root p k w → l ≤ k → e ≡ 2 ^ (k - l) → u ≡ power p w e → m ≡ 2 ^ l → ShortFactors p u m
 level-factors {p} {k} {w} {l} R b ee eu em = rw (em, eu ∙ ap (power p w) (ee ∙ sym (two-div k l b))) (mixing-factors p k w l R b)
 
 -- the factor by which `turned` turns the word of write number t

@@ -8,7 +8,7 @@ ghost use Rattle.field.specs.Words.{Words};
 ghost use Rattle.code.specs.Rows.{lifted};
 ghost use Rattle.code.specs.Transform.{mixedHalves, transform};
 ghost use Rattle.code.specs.Stripe.{Numbers, modulusOf, blockCount, blockWords};
-ghost use Rattle.code.specs.steps.Mixing.{sumRow, mixRow, Factors, eachBlock};
+ghost use Rattle.code.specs.steps.Mixing.{sumRow, mixRow, ShortFactors, eachBlock};
 
 // The sums of `width` words from index `low` and as many from index `high` in the place of the former, the differences in the place of the latter: mixing
 // and unmixing under the factor 1, with no product.
@@ -68,7 +68,7 @@ fn mix_row(part: &mut [u32], low: usize, high: usize, width: usize, g: u32)
 // Mixes the first m rows (older) with the next m rows (newer); row i of the newer has the factor v^i.
 pub fn mix(part: &mut [u32], m: usize, width: usize, v: u32)
     requires { ⌜ length (now part) ≡ (m + m) * width ⌝ }
-    requires { ⌜ (v < fermat .modulus) × Factors (fermat .modulus) v m ⌝ }
+    requires { ⌜ (v < fermat .modulus) × ShortFactors (fermat .modulus) v m ⌝ }
     requires { ⌜ Words (fermat .modulus) (now part) ⌝ }
     ensures { λ _. ⌜ now (part .exit) ≡ lifted width (m + m) (m + m) (mixedHalves (fermat .modulus) v m) (now (part .entry)) ⌝ }
 {
@@ -90,7 +90,7 @@ fn mix_each(half: &mut [u32], blocks: usize, m: usize, width: usize, v: u32)
     requires { ⌜ length (now half) ≡ blocks * ((m + m) * width) ⌝ }
     requires { ⌜ m < 4294967296 ⌝ }
     requires { ⌜ (m + m) * width < 9223372036854775808 ⌝ }
-    requires { ⌜ (v < fermat .modulus) × Factors (fermat .modulus) v m ⌝ }
+    requires { ⌜ (v < fermat .modulus) × ShortFactors (fermat .modulus) v m ⌝ }
     requires { ⌜ Words (fermat .modulus) (now half) ⌝ }
     ensures { λ _. ⌜ now (half .exit) ≡
         eachBlock blocks ((m + m) * width) (lifted width (m + m) (m + m) (mixedHalves (fermat .modulus) v m)) (now (half .entry)) ⌝ }
