@@ -26,6 +26,13 @@ use Rattle.code.specs.steps.Mixing.{Crossing, mixing, unmixing, summing,
 use Rattle.code.proofs.Shapes.{mixed-low, mixed-high, unmixed-low, unmixed-high}
 use Rattle.code.proofs.Lifting.{column-at, length-column, is-lifted, row-in}
 
+-- what a product or a difference gives is a word of the field
+pub product-word : (g y : ℕ) {r : ℕ} → r ≡ times 65537 g y → r < 65537
+product-word g y e = rw e (times-lt 65537 (omega arith) g y)
+
+pub difference-word : (x y : ℕ) {r : ℕ} → r ≡ minus 65537 x y → r < 65537
+difference-word x y e = rw e (minus-lt 65537 (omega arith) x y)
+
 -- both words stored are words of the field
 pub record Stores (p : ℕ) (c : Crossing) : Type 0 where
   pub low-lt : (g a b : ℕ) → c .low g a b < p
@@ -86,6 +93,9 @@ module _ {c : Crossing} {part₀ : List ℕ} {low high width g : ℕ} where
   pub row-start : Words 65537 part₀ → RowLoop c part₀ low high width g part₀ 0
   unfolding crossedRow
   row-start w = record { turns = omega arith; same = refl; words = w; now = refl }
+
+  pub row-word : {part : List ℕ} {j : ℕ} → RowLoop c part₀ low high width g part j → (i : ℕ) → getD part i 0 < 65537
+  row-word h i = h .words .word i
 
   pub row-turn : {part : List ℕ} {j r s : ℕ} → Stores 65537 c → RowLoop c part₀ low high width g part j → j < width
       → r ≡ c .low g (getD part (low + j) 0) (getD part (high + j) 0) → s ≡ c .high g (getD part (low + j) 0) (getD part (high + j) 0)
@@ -295,3 +305,6 @@ module _ {c : Crossing} {part₀ : List ℕ} {m width v : ℕ} where
 pub ruleset crossings = (mixing-stores, unmixing-stores, mixing-crosses, unmixing-crosses)
 
 pub ruleset rows-needs = (rows-start, rows-turn, rows-end, low-in, high-in, low-fits, high-fits, factor-short, crossings, needs)
+
+-- and of the loop over a row
+pub ruleset row-needs = (product-word, difference-word, row-start, row-word, row-turn, row-end, mixing-stores, unmixing-stores, summing-stores, needs)

@@ -9,6 +9,7 @@ use native.Mathlib.Nat.{add-zero, zero-add, zero-mul}
 use native.Mathlib.Numerals.{add-one}
 use native.Mathlib.Decide.{decLt}
 use native.Mathlib.Omega.{arith}
+use borrow.Author.Needs.{needs}
 use borrow.Rule.Slice.PartMut.{putMid}
 use lib.ListN.{length, getD, set, take, drop, replicate, drop-of-length-le, length-replicate, getD-replicate, length-set, length-append, List·getD-append}
 use lib.Seq.{sets, sets-eq, length-sets, take-all, take-at, drop-at, set-comm, drop-length, getD-set-other, getD-append-add, length-take-le, ext-getD}
@@ -135,6 +136,28 @@ storing-rest {a} {f} {l₀ = l₀} {i = i} h k b = ap (λ (m : List ℕ). getD m
 
 pub storing-front : {a : ℕ} {f : ℕ → ℕ} {n : ℕ} {l₀ l : List ℕ} {i : ℕ} → Storing a f n l₀ l i → (k : ℕ) → k < a → getD l k 0 ≡ getD l₀ k 0
 storing-front {a} {f} {l₀ = l₀} {i = i} h k b = ap (λ (m : List ℕ). getD m k 0) (h .now) ∙ stored-before a f i l₀ k b
+
+-- A LOOP THAT SCALES A ROW by g: the first i of its n words, from index a on
+pub record Scaling (p a g n : ℕ) (l₀ l : List ℕ) (i : ℕ) : Type 0 where
+  pub storing : Storing a (scaledWord p a g l₀) n l₀ l i
+
+pub scale-start : (p a g n : ℕ) (l : List ℕ) → Scaling p a g n l l 0
+scale-start p a g n l = record { storing = storing-start a (scaledWord p a g l) n l }
+
+module _ {p a g n : ℕ} {l₀ l : List ℕ} {i : ℕ} where
+  pub scale-word : Words p l₀ → Scaling p a g n l₀ l i → getD l (a + i) 0 < p
+  scale-word w h = rw (storing-rest (h .storing) (a + i) (omega arith)) (w .word (a + i))
+
+  pub scale-turn : {x : ℕ} → Scaling p a g n l₀ l i → i < n → x ≡ times p g (getD l (a + i) 0) → Scaling p a g n l₀ (set l (a + i) x) (i + 1)
+  unfolding scaledWord
+  scale-turn h b e = record { storing = storing-turn (h .storing) b (e ∙ ap (times p g) (storing-rest (h .storing) (a + i) (omega arith))) }
+
+  pub scale-end : Scaling p a g n l₀ l i → n ≤ i → l ≡ scaleRow p n a g l₀
+  unfolding scaleRow
+  scale-end h b = storing-done (h .storing) b
+
+-- what the needs of such a loop follow from
+pub ruleset scale-needs = (scale-start, scale-word, scale-turn, scale-end, needs)
 
 -- A LOOP THAT STORES A ROW A TURN: i of m rows of `width` words, from index a on, and the next at `at`
 pub record StoringRows (a : ℕ) (f : ℕ → ℕ) (m width : ℕ) (l₀ l : List ℕ) (at i : ℕ) : Type 0 where
