@@ -94,6 +94,9 @@ module _ {c : Crossing} {part₀ : List ℕ} {low high width g : ℕ} where
   unfolding crossedRow
   row-start w = record { turns = omega arith; same = refl; words = w; now = refl }
 
+  pub row-room : {part : List ℕ} {j : ℕ} → high + width ≤ length part₀ → RowLoop c part₀ low high width g part j → j < width → high + j < length part
+  row-room b h lt = omega arith
+
   pub row-word : {part : List ℕ} {j : ℕ} → RowLoop c part₀ low high width g part j → (i : ℕ) → getD part i 0 < 65537
   row-word h i = h .words .word i
 
@@ -307,4 +310,4 @@ pub ruleset crossings = (mixing-stores, unmixing-stores, mixing-crosses, unmixin
 pub ruleset rows-needs = (rows-start, rows-turn, rows-end, low-in, high-in, low-fits, high-fits, factor-short, crossings, needs)
 
 -- and of the loop over a row
-pub ruleset row-needs = (product-word, difference-word, row-start, row-word, row-turn, row-end, mixing-stores, unmixing-stores, summing-stores, needs)
+pub ruleset row-needs = (product-word, difference-word, row-start, row-room, row-word, row-turn, row-end, mixing-stores, unmixing-stores, summing-stores, needs)

@@ -14,7 +14,9 @@ use Rattle.code.proofs.Shapes.{reversed-lt}
 
 -- the factors under which `transform` mixes 2 ^ l words with 2 ^ l words, and `untransform` unmixes them: the inverse of a root is a root (`root-back`)
 pub mixing-factors : (p k w l : ℕ) → Root p k w → l ≤ k → ShortFactors p (power p w (2 ^ k / 2 ^ l)) (2 ^ l)
-mixing-factors p k w l R b = record { short = rw (two-div k l b) (root-short p l (power p w (2 ^ (k - l))) (root-down p k w R l b)) }
+mixing-factors p k w l R b =
+    let d : Root p l (power p w (2 ^ k / 2 ^ l)) = rw (two-div k l b) (root-down p k w R l b) in
+    record { small = d .small; short = root-short p l (power p w (2 ^ k / 2 ^ l)) d }
 
 -- the same, of the numbers that a loop over levels has
 pub level-factors : {p k w l e u m : ℕ} → Root p k w → l ≤ k → e ≡ 2 ^ (k - l) → u ≡ power p w e → m ≡ 2 ^ l → ShortFactors p u m

@@ -38,8 +38,9 @@ unmixRow p width low high g l = crossedRow (unmixing p) g width low high l
 abbrev pub sumRow : (p width low high : ℕ) → List ℕ → List ℕ
 sumRow p width low high l = crossedRow (summing p) 1 width low high l
 
--- THE FACTORS of m rows, v ^ i for row i: none is -1, so that the product of a factor and a word fits 32 bits
+-- THE FACTORS of m rows, v ^ i for row i, v a word: none is -1, so that the product of a factor and a word fits 32 bits
 pub record ShortFactors (p v m : ℕ) : Type 0 where
+  pub small : v < p
   pub short : (i : ℕ) → i < m → power p v i < p - 1
 
 -- f done to each of the first b blocks of n words

@@ -10,7 +10,6 @@ use lib.ListN.{length, take, drop, length-drop}
 use lib.Seq.{take-at, drop-at, length-take-le}
 use Rattle.field.specs.Power.{power}
 use Rattle.field.specs.Words.{Words}
-use Rattle.field.proofs.Powers.{power-lt}
 use Rattle.code.specs.Rows.{lifted}
 use Rattle.code.specs.Transform.{mixed, mixedHalves, transform}
 use Rattle.code.proofs.Shapes.{length-two, length-transform}
@@ -139,9 +138,9 @@ mix-each-requires c κs =
     let at-test = c .before .before in
     let i = at-test .before .loop .inv in
     let s = here at-test in
-    let e = c .before .power .ensures in
-    let f = level-factors (at-test .before .before .before .before .before .pre .0 .rooted) (omega arith) (i .exponent-is) e (i .m-is) in
-    (s .rows, (omega (arith, s .m-few), (omega (arith, s .fits), ((rw e (power-lt 65537 (omega arith) _ _), f), i .words))))
+    let f =
+    level-factors (at-test .before .before .before .before .before .pre .0 .rooted) (omega arith) (i .exponent-is) (c .before .power .ensures) (i .m-is) in
+    (s .rows, (omega (arith, s .m-few), (omega (arith, s .fits), (f, i .words))))
 
 mul-m : tie.Need-mul-m Inv-loop μ-loop
 mul-m c = omega (arith, here (c .before .before .before .before .before) .m-few)

@@ -1,8 +1,7 @@
 -- `code::mixing::mix_row_by` meets its contract: each need is among the laws of the loop over a row of proofs/Crossing. Assumes nothing.
 use mathlib.Core.Path.{ap, _∙_}
 use Prim.Native.Nat.{_+_, _-_}
-use native.Mathlib.Omega.{arith}
-use lib.ListN.{getD, length-set}
+use lib.ListN.{getD}
 use Rattle.field.specs.Residue.{plus, minus}
 use Rattle.code.specs.steps.Mixing.{mixing}
 use Rattle.code.proofs.Crossing.{RowLoop, row-turn, mixing-stores, row-needs as needs}
@@ -42,7 +41,7 @@ mix-row-by-spec =
     (λ c. search needs)
     (λ c κs. search needs)
     (λ c. search needs)
-    (λ c. simp length-set (omega arith))
+    (λ c. search needs)
     (λ c. search needs)
     (λ c. search needs)
     loop-again

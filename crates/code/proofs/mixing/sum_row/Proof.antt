@@ -1,7 +1,5 @@
 -- `code::mixing::sum_row` meets its contract: each need is among the laws of the loop over a row of proofs/Crossing. Assumes nothing.
 use Prim.Native.Nat.{_-_}
-use native.Mathlib.Omega.{arith}
-use lib.ListN.{length-set}
 use Rattle.code.specs.steps.Mixing.{summing}
 use Rattle.code.proofs.Crossing.{RowLoop, row-needs as needs}
 use Rattle.code.proofs.mixing.sum_row.Statement.{statement}
@@ -31,7 +29,7 @@ sum-row-spec =
     (λ c. search needs)
     (λ c κs. search needs)
     (λ c. search needs)
-    (λ c. simp length-set (omega arith))
+    (λ c. search needs)
     (λ c. search needs)
     (λ c. search needs)
     (λ c. search needs)

@@ -8,7 +8,6 @@ use lib.Pow.{pow-mono}
 use lib.ListN.{length}
 use Rattle.field.specs.Power.{power}
 use Rattle.field.specs.Words.{Words}
-use Rattle.field.proofs.Powers.{power-lt}
 use Rattle.code.specs.Rows.{lifted}
 use Rattle.code.specs.Transform.{unmixed, untransform}
 use Rattle.code.proofs.Shapes.{length-unmixed, length-untransform}
@@ -135,9 +134,9 @@ unmix-each-requires : tie.Need-unmix-each-requires Inv-loop μ-loop
 unmix-each-requires c κs =
     let at-test = c .before .before .before in
     let s = here at-test in
-    let e = c .before .power .ensures in
-    let f = level-factors (at-test .before .before .before .before .pre .1 .1 .0) (omega arith) (c .before .before .two-to2 .ensures) e (s .m-is) in
-    (s .rows, (omega (arith, s .m-few), (omega (arith, s .fits), ((rw e (power-lt 65537 (omega arith) _ _), f), at-test .before .loop .inv .words))))
+    let root = at-test .before .before .before .before .pre .1 .1 .0 in
+    let f = level-factors root (omega arith) (c .before .before .two-to2 .ensures) (c .before .power .ensures) (s .m-is) in
+    (s .rows, (omega (arith, s .m-few), (omega (arith, s .fits), (f, at-test .before .loop .inv .words))))
 
 mul-blocks : tie.Need-mul-blocks Inv-loop μ-loop
 mul-blocks c = omega (arith, here (c .before .before .before .before .before .before) .blocks-few)

@@ -1,8 +1,6 @@
 -- `code::unmixing::unmix_row_by` meets its contract: each need is among the laws of the loop over a row of proofs/Crossing. Assumes nothing.
 use mathlib.Core.Path.{ap, _∙_}
 use Prim.Native.Nat.{_-_}
-use native.Mathlib.Omega.{arith}
-use lib.ListN.{length-set}
 use Rattle.field.specs.Residue.{times}
 use Rattle.code.specs.steps.Mixing.{unmixing}
 use Rattle.code.proofs.Crossing.{RowLoop, row-turn, unmixing-stores, row-needs as needs}
@@ -41,7 +39,7 @@ unmix-row-by-spec =
     (λ c κs. search needs)
     (λ c κs. search needs)
     (λ c. search needs)
-    (λ c. simp length-set (omega arith))
+    (λ c. search needs)
     (λ c. search needs)
     (λ c. search needs)
     loop-again

@@ -1,11 +1,9 @@
 -- `store::writing::fold` meets its contract, by the loop of a fold of proofs/Folding. Assumes nothing.
 use Prim.Native.Nat.{_*_, _-_, _≤_}
 use native.Mathlib.Omega.{arith}
-use lib.Dec.{lit<}
 use native.Mathlib.Nat.{mul-le-mul-right}
 use lib.Pow.{pow-pos, pow-mono}
 use lib.ListN.{length}
-use Rattle.field.proofs.Powers.{power-lt}
 use Rattle.code.proofs.Factors.{level-factors}
 use Rattle.store.proofs.Folding.{FoldLoop, fold-start, fold-turn, fold-done, room, lent-in, lent-long, lent-words}
 use Rattle.store.proofs.writing.fold.Statement.{statement}
@@ -62,9 +60,9 @@ mix-requires : tie.Need-mix-requires Inv-loop μ-loop
 mix-requires c κs =
     let at-test = c .before .before in
     let inv = at-test .before .loop .inv in
-    let e = c .before .power .ensures in
-    let f = level-factors (at-test .before .before .before .before .pre .1 .1 .0) (omega arith) (inv .exponent-is) e (inv .m-is) in
-    (lent-long inv (at-test .loop-test .taken), ((rw e (power-lt 65537 (lit< tt) _ _), f), lent-words inv (at-test .loop-test .taken)))
+    let root = at-test .before .before .before .before .pre .1 .1 .0 in
+    let f = level-factors root (omega arith) (inv .exponent-is) (c .before .power .ensures) (inv .m-is) in
+    (lent-long inv (at-test .loop-test .taken), (f, lent-words inv (at-test .loop-test .taken)))
 
 mul-m : tie.Need-mul-m Inv-loop μ-loop
 mul-m c = omega (arith, pow-mono {i = c .before .before .before .before .before .before .loop .l} {j = 16} (omega arith))
