@@ -262,12 +262,40 @@ fn large(random: &mut Random, cases: &mut Vec<Case>) {
     }
 }
 
+/// Halves of the positions of level 4 that a search found, for decoders that multiply the differences of a position's point and the erased points. On the first
+/// these products meet -1 times -1, the one product of two words that leaves 32 bits; on the second the product is -1 for a survivor, and its words are
+/// multiplied by it.
+const MINUS_ONES: [[usize; 16]; 2] = [
+    [2, 4, 5, 6, 8, 13, 14, 16, 17, 19, 20, 23, 25, 26, 29, 31],
+    [1, 3, 6, 7, 10, 11, 12, 13, 17, 20, 23, 24, 27, 28, 29, 31],
+];
+
+/// Stripes with these positions erased, in which every other word is -1.
+fn minus_ones(random: &mut Random, cases: &mut Vec<Case>) {
+    let shape = Shape {
+        level: 4,
+        k: 4,
+        first: 0,
+        width: 8,
+    };
+    for erased in MINUS_ONES {
+        let mut words = words(random, 2 * shape.size() * shape.width);
+        words.iter_mut().step_by(2).for_each(|x| *x = P - 1);
+        cases.push(Case {
+            shape,
+            erased: Some(marks(shape, erased)),
+            words,
+        });
+    }
+}
+
 fn cases() -> Vec<Case> {
     let mut random = Random::new(2013);
     let mut cases = Vec::new();
     worked(&mut cases);
     small(&mut random, &mut cases);
     large(&mut random, &mut cases);
+    minus_ones(&mut random, &mut cases);
     cases
 }
 
@@ -281,4 +309,27 @@ pub fn stripe_cases() -> (Vec<u8>, String) {
         words.join(" ") + "\n"
     };
     (input, cases.iter().map(line).collect())
+}
+
+#[cfg(test)]
+mod tests {
+    use super::*;
+    use crate::field::{mul, pow, root, sub};
+
+    /// For each survivor of the stripe: the differences of its point and the erased points, in their order. The points are those of docs/FORMAT.md, section 4.
+    fn differences(erased: [usize; 16]) -> Vec<Vec<u64>> {
+        let point = |i: usize| pow(root(4), if i < 16 { 2 * i } else { 2 * i - 31 } as u64);
+        let survivors = (0..32).filter(|i| !erased.contains(i));
+        let of = |i| erased.map(|j| sub(point(i), point(j))).to_vec();
+        survivors.map(of).collect()
+    }
+
+    #[test]
+    fn products_meet_minus_one_times_minus_one() {
+        let product = |d: &[u64]| d.iter().fold(1, |x, &y| mul(x, y));
+        let [first, second] = MINUS_ONES.map(differences);
+        let meets = |d: &Vec<u64>| (0..16).any(|i| d[i] == P - 1 && product(&d[..i]) == P - 1);
+        assert!(first.iter().any(meets));
+        assert!(second.iter().any(|d| product(d) == P - 1));
+    }
 }
