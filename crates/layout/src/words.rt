@@ -21,14 +21,15 @@ pub fn copy_row(out: &mut [u32], to: usize, words: &[u32], from: usize, count: u
 pub fn all_data(words: &[u32]) -> bool
     ensures { λ r. ⌜ r ≡ areData (now (words .entry)) ⌝ }
 {
+    let mut fit = true;
     let mut i = 0;
     while i < words.len() {
         if 65535 < words[i] {
-            return false;
+            fit = false;
         }
         i += 1;
     }
-    true
+    fit
 }
 
 // Test 5 of n records of s words: whether each holds such data.

@@ -1,7 +1,8 @@
--- `layout::words::all_data` meets its contract. The invariant: all words are data words if those from i on are. Assumes nothing.
+-- `layout::words::all_data` meets its contract. The invariant: all words are data words if those before i are (`fit`) and those from i on. Assumes nothing.
 use mathlib.Core.Path.{_≡_, refl, sym, ap, _∙_}
 use mathlib.Core.Bool.{Bool, true, false, _&&_}
 use mathlib.Core.List.{List}
+use mathlib.Core.Logic.{⊎-elim}
 use Prim.Native.Nat.{ℕ, _+_, _-_, _≤_, _<_}
 use native.Mathlib.Numerals.{add-one}
 use native.Mathlib.Omega.{arith}
@@ -9,35 +10,41 @@ use borrow.Author.Tests.{le-leb, lt-leb}
 use lib.Dec.{leb}
 use lib.ListN.{length, getD, drop}
 use lib.Seq.{drop-cons, drop-length}
+use Rattle.field.proofs.Booleans.{second-false, only-first}
 use Rattle.layout.specs.Records.{areData}
 use Rattle.layout.proofs.words.all_data.Statement.{statement}
 use Rattle.layout.proofs.words.all_data.Tie as tie
+
+record Inv (words : List ℕ) (fit : Bool) (i : ℕ) : Type 0 where
+  turns : i ≤ length words
+  now : areData words ≡ (fit && areData (drop i words))
 
 -- the next word decides whether the words from i on are data words
 step : (l : List ℕ) (i : ℕ) (b : Bool) → i < length l → leb (getD l i 0) 65535 ≡ b → areData (drop i l) ≡ (b && areData (drop (i + 1) l))
 unfolding areData
 step l i b h e = rw (add-one i, drop-cons l i 0, e)
 
+module _ {words : List ℕ} {fit : Bool} {i : ℕ} (h : Inv words fit i) (l : i < length words) where
+  large : 65535 < getD words i 0 → Inv words false (i + 1)
+  large b = record { turns = omega arith; now = h .now ∙ second-false fit (step words i false l (lt-leb _ 65535 b)) }
+
+  small : getD words i 0 ≤ 65535 → Inv words fit (i + 1)
+  small b = record { turns = omega arith; now = h .now ∙ ap (λ (r : Bool). fit && r) (step words i true l (le-leb _ 65535 b)) }
+
 abbrev Inv-loop : tie.InvT-loop
-Inv-loop words i₀ i = (i ≤ length words) × (areData words ≡ areData (drop i words))
+Inv-loop words fit₀ i₀ fit i = Inv words fit i
 
 abbrev μ-loop : tie.MeasureT-loop
-μ-loop words i₀ i = length words - i
+μ-loop words fit₀ i₀ fit i = length words - i
 
 loop-holds : tie.Need-loop-holds Inv-loop μ-loop
-loop-holds c = (omega arith, refl)
+loop-holds c = record { turns = omega arith; now = refl }
 
 mul-if1 : tie.Need-mul-if1 Inv-loop μ-loop
 mul-if1 c = omega arith
 
 shared-slice-read-if1 : tie.Need-shared-slice-read-if1 Inv-loop μ-loop
 shared-slice-read-if1 c = omega arith
-
-returns : tie.Need-returns Inv-loop μ-loop
-returns c =
-    let l = c .before .before .before .loop in
-    let d = c .before .before .before .before .args .words .now in
-    sym (l .inv .1 ∙ step d (l .i) false (omega arith) (lt-leb (getD d (l .i) 0) 65535 (omega arith)))
 
 add-i : tie.Need-add-i Inv-loop μ-loop
 add-i c = omega arith
@@ -47,29 +54,17 @@ loop-less c = omega arith
 
 loop-again : tie.Need-loop-again Inv-loop μ-loop
 loop-again c =
-    let l = c .before .before .before .loop in
-    let d = c .before .before .before .before .args .words .now in
-    (omega arith, l .inv .1 ∙ step d (l .i) true (omega arith) (le-leb (getD d (l .i) 0) 65535 (omega arith)))
+    let h = c .before .before .before .loop .inv in
+    let l = c .before .before .loop-test .taken in
+    ⊎-elim (λ w. rw (w .1) (large h l (w .0 .taken))) (λ w. rw (w .1) (small h l (w .0 .left))) (c .if1 .came)
 
-returns-2 : tie.Need-returns-2 Inv-loop μ-loop
+returns : tie.Need-returns Inv-loop μ-loop
 unfolding areData
-returns-2 c =
-    let l = c .before .loop in
+returns c =
+    let h = c .before .loop .inv in
     let d = c .before .before .args .words .now in
-    let e : l .i ≡ length d = omega arith in
-    sym (l .inv .1 ∙ ap (λ (n : ℕ). areData (drop n d)) e ∙ ap areData (drop-length d))
+    let e : c .before .loop .i ≡ length d = omega (arith, h .turns, c .loop-test .left) in
+    sym (h .now ∙ only-first (c .before .loop .fit) (ap (λ (n : ℕ). areData (drop n d)) e ∙ ap areData (drop-length d)))
 
 pub all-data-spec : {M : Type 1} → statement M
-all-data-spec =
-    tie.close
-    (tie.spec
-    Inv-loop
-    μ-loop
-    loop-holds
-    mul-if1
-    shared-slice-read-if1
-    returns
-    add-i
-    loop-less
-    loop-again
-    returns-2)
+all-data-spec = tie.close (tie.spec Inv-loop μ-loop loop-holds mul-if1 shared-slice-read-if1 add-i loop-less loop-again returns)
