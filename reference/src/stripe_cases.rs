@@ -262,9 +262,8 @@ fn large(random: &mut Random, cases: &mut Vec<Case>) {
     }
 }
 
-/// Halves of the positions of level 4 that a search found, for decoders that multiply the differences of a position's point and the erased points. On the first
-/// these products meet -1 times -1, the one product of two words that leaves 32 bits; on the second the product is -1 for a survivor, and its words are
-/// multiplied by it.
+/// Halves of the positions of level 4, for decoders that multiply the differences of a position's point and the erased points. On the first these products
+/// meet -1 times -1, the one product of two words that leaves 32 bits; on the second the product is -1 for a survivor, and its words are multiplied by it.
 const MINUS_ONES: [[usize; 16]; 2] = [
     [2, 4, 5, 6, 8, 13, 14, 16, 17, 19, 20, 23, 25, 26, 29, 31],
     [1, 3, 6, 7, 10, 11, 12, 13, 17, 20, 23, 24, 27, 28, 29, 31],

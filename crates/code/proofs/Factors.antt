@@ -7,7 +7,7 @@ use native.Mathlib.Omega.{arith}
 use Rattle.field.specs.Power.{power}
 use Rattle.field.specs.Field.{Root}
 use Rattle.field.proofs.Ring.{v, _⊕_, _⊖_, _⊗_, ring}
-use Rattle.field.proofs.Unity.{root-short, root-down, two-div}
+use Rattle.field.proofs.Unity.{root-short, root-down, two-div, level-power}
 use Rattle.code.specs.Transform.{reversed}
 use Rattle.code.specs.steps.Mixing.{Crossing, mixing, unmixing, summing, crossed, crossedRow, mixRow, unmixRow, sumRow, ShortFactors}
 use Rattle.code.proofs.Shapes.{reversed-lt}
@@ -20,7 +20,7 @@ mixing-factors p k w l R b =
 
 -- the same, of the numbers that a loop over levels has
 pub level-factors : {p k w l e u m : ℕ} → Root p k w → l ≤ k → e ≡ 2 ^ (k - l) → u ≡ power p w e → m ≡ 2 ^ l → ShortFactors p u m
-level-factors {p} {k} {w} {l} R b ee eu em = rw (em, eu ∙ ap (power p w) (ee ∙ sym (two-div k l b))) (mixing-factors p k w l R b)
+level-factors {p} {k} {w} {l} R b ee eu em = rw (em, level-power p k w l b ee eu) (mixing-factors p k w l R b)
 
 -- the factor by which `turned` turns the word of write number t
 pub turning-factor : (p k w t : ℕ) → Root p k w → power p w (reversed k t) < p - 1

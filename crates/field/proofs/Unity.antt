@@ -10,7 +10,7 @@ use Rattle.field.specs.Power.{power, inverse}
 use Rattle.field.specs.Field.{Prime, Root}
 use Rattle.field.proofs.Congruence.{of-eq}
 use Rattle.field.proofs.Ring.{v, _⊖_, _⊗_, ring, lin}
-use Rattle.field.proofs.Powers.{power-lt, power-add, power-mul, power-one, power-times, power-of-one}
+use Rattle.field.proofs.Powers.{power-lt, inverse-lt, power-add, power-mul, power-one, power-times, power-of-one}
 use Rattle.field.proofs.Divisors.{peel, not-one, one-of}
 use Rattle.field.proofs.Certificate.{differ, positive}
 
@@ -73,6 +73,10 @@ pub two-div : (k l : ℕ) → l ≤ k → 2 ^ k / 2 ^ l ≡ 2 ^ (k - l)
 two-div k l b =
     ap (λ t. t / 2 ^ l) (ap (λ t. 2 ^ t) {x = k} {y = k - l + l} (omega arith) ∙ pow-add 2 (k - l) l) ∙ mul-div-cancel (2 ^ (k - l)) (pow-pos l)
 
+-- w ^ (n / 2 ^ l), of an exponent that is computed
+pub level-power : (p k w l : ℕ) {e u : ℕ} → l ≤ k → e ≡ 2 ^ (k - l) → u ≡ power p w e → u ≡ power p w (2 ^ k / 2 ^ l)
+level-power p k w l b ee eu = eu ∙ ap (power p w) (ee ∙ sym (two-div k l b))
+
 -- the inverse of a root, and of each of its powers
 module _ (p k w : ℕ) (P : Prime p) (R : Root p k w) where
   pub root-inverse : times p w (inverse p w) ≡ 1
@@ -83,7 +87,6 @@ module _ (p k w : ℕ) (P : Prime p) (R : Root p k w) where
 
   -- which is a root of the same order
   pub root-back : Root p k (inverse p w)
-  unfolding inverse
   root-back =
       let h : 0 < p = omega (arith, R .odd) in
       let x = v (power p (inverse p w) (2 ^ k)) in
@@ -91,6 +94,6 @@ module _ (p k w : ℕ) (P : Prime p) (R : Root p k w) where
       let e = ap (λ (t : ℕ). times p t (power p (inverse p w) (2 ^ k))) (minus-one p (R .odd) ∙ sym (R .half)) ∙ power-inverse (2 ^ k) in
       record {
         odd = R .odd;
-        small = power-lt p (P .big) w (p - 2);
+        small = inverse-lt p (P .big) w;
         half = lin p h x m m (m ⊗ x) (v 1) (of-eq p e) (power-lt p (P .big) (inverse p w) (2 ^ k)) h (omega arith) ∙ minus-one p (R .odd);
       }

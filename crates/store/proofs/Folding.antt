@@ -15,7 +15,7 @@ use Rattle.field.specs.Words.{Words}
 use Rattle.field.proofs.WordLists.{words-take, words-part, words-append}
 use Rattle.code.specs.Rows.{lifted}
 use Rattle.code.specs.Transform.{mixedHalves}
-use Rattle.field.proofs.Unity.{two-div}
+use Rattle.field.proofs.Unity.{level-power}
 use Rattle.code.proofs.Blocks.{pow-down, mixing-block}
 use Rattle.code.proofs.Lifting.{length-lifted}
 use Rattle.code.proofs.RowLaws.{Parts, length-parts, lent-front, lent-rest, put-rest}
@@ -99,7 +99,7 @@ module _ {half₀ : List ℕ} {level k width root : ℕ} {half : List ℕ} {expo
   unfolding folded
   folded-more {v} e =
       let mm : m + m ≡ 2 ^ suc l = omega (arith, h .m-is) in
-      let x : v ≡ power 65537 root (2 ^ k / 2 ^ l) = e ∙ ap (power 65537 root) (h .exponent-is ∙ sym (two-div k l (omega (arith, h .within)))) in
+      let x : v ≡ power 65537 root (2 ^ k / 2 ^ l) = level-power 65537 k root l (omega (arith, h .within)) (h .exponent-is) e in
       rw (mm, x, h .m-is)
 
   pub fold-turn : {ys : List ℕ} {v : ℕ} → v ≡ power 65537 root exponent

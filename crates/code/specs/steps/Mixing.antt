@@ -1,4 +1,4 @@
--- What the loops of mixing and unmixing make of a slice, step by step; the clauses of private functions cite it. Assumes nothing: these are definitions.
+-- What the loops of mixing and unmixing make of a slice, step by step, and what they ask of their factors. Assumes nothing: these are definitions.
 use mathlib.Core.List.{List, _++_}
 use Prim.Native.Nat.{ℕ, zero, suc, _+_, _-_, _<_}
 use lib.ListN.{getD, set, take, drop}

@@ -13,7 +13,7 @@ use Rattle.field.specs.Words.{Words}
 use Rattle.code.specs.Rows.{lifted}
 use Rattle.code.specs.Transform.{mixed, mixedHalves, transform}
 use Rattle.code.proofs.Shapes.{length-two, length-transform}
-use Rattle.field.proofs.Unity.{two-div}
+use Rattle.field.proofs.Unity.{level-power}
 use Rattle.code.proofs.Blocks.{Level, level-at, pow-down, words-each, eachRows, rows-id, rows-one, both, rows-then, rows-double, mixing-block}
 use Rattle.code.proofs.Factors.{level-factors}
 use Rattle.code.proofs.mixing.mix_all.Statement.{statement}
@@ -84,7 +84,7 @@ module _ {half₀ : List ℕ} {level k width root : ℕ} {half : List ℕ} {bloc
   turn {half′} {v} h lt el ev eh =
       let s : Level width level l (length half) (blocks / 2) m = level-in h lt in
       let d : 2 ^ (k - l) ≡ 2 ^ (k - suc l) * 2 = pow-down (omega arith) in
-      let u : v ≡ power 65537 root (2 ^ k / 2 ^ l) = ev ∙ ap (power 65537 root) (h .exponent-is ∙ sym (two-div k l (omega arith))) in
+      let u : v ≡ power 65537 root (2 ^ k / 2 ^ l) = level-power 65537 k root l (omega arith) (h .exponent-is) ev in
       let r : length half ≡ 2 ^ (level - suc l) * ((2 ^ l + 2 ^ l) * width) = rw (s .blocks-is, s .m-is) at (s .rows) in
       rw add-one (record {
         turns = omega arith;

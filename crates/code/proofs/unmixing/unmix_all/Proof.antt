@@ -11,7 +11,7 @@ use Rattle.field.specs.Words.{Words}
 use Rattle.code.specs.Rows.{lifted}
 use Rattle.code.specs.Transform.{unmixed, untransform}
 use Rattle.code.proofs.Shapes.{length-unmixed, length-untransform}
-use Rattle.field.proofs.Unity.{two-div}
+use Rattle.field.proofs.Unity.{level-power}
 use Rattle.code.proofs.Blocks.{Level, level-at, pow-down, words-each, eachRows, rows-id, rows-one, both, rows-then, rows-double, unmixing-block}
 use Rattle.code.proofs.Factors.{level-factors}
 use Rattle.code.proofs.unmixing.unmix_all.Statement.{statement}
@@ -71,7 +71,7 @@ module _ {half₀ : List ℕ} {level k width root : ℕ} {half : List ℕ} {bloc
   turn {half′} {exponent} {v} h lt el ee ev eh =
       let s : left ≡ suc (left - 1) = omega arith in
       let q : Level width level (left - 1) (length half) blocks (m / 2) = level-in h lt in
-      let u : v ≡ power 65537 root (2 ^ k / 2 ^ (left - 1)) = ev ∙ ap (power 65537 root) (ee ∙ sym (two-div k (left - 1) (omega arith))) in
+      let u : v ≡ power 65537 root (2 ^ k / 2 ^ (left - 1)) = level-power 65537 k root (left - 1) (omega arith) ee ev in
       let r : length half ≡ blocks * ((2 ^ (left - 1) + 2 ^ (left - 1)) * width) = rw (q .m-is) at (q .rows) in
       record {
         turns = omega arith;

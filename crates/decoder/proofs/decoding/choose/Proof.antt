@@ -13,7 +13,7 @@ use lib.Seq.{getD-drop}
 use Rattle.field.specs.Residue.{times}
 use Rattle.field.specs.Power.{power, inverse}
 use Rattle.field.specs.Words.{Words}
-use Rattle.field.proofs.Unity.{two-div}
+use Rattle.field.proofs.Unity.{level-power}
 use Rattle.field.proofs.Powers.{power-lt, inverse-lt}
 use Rattle.decoder.specs.Decoding.{pointAt}
 use Rattle.decoder.specs.steps.Decoder.{divisorAt}
@@ -187,7 +187,7 @@ loop-holds c =
       rows-is = two .two-to .ensures;
       long = long two;
       square-is = c .before .before .mul .ensures ∙ rw (two .two-to .ensures);
-      u-is = c .power .ensures ∙ ap (power 65537 (a .st .root)) (c .before .two-to2 .ensures ∙ sym (two-div (a .st .k) (a .st .level) (s .pre .0 .within)));
+      u-is = level-power 65537 (a .st .k) (a .st .root) (a .st .level) (s .pre .0 .within) (c .before .two-to2 .ensures) (c .power .ensures);
       words₀ = s .pre .1 .1 .1;
       storing = storing-rows-start 0 (chooseWord 65537 (a .st .root) (a .st .k) (a .st .level) (a .st .width) (a .marks .now) (a .part .now))
           (two .two-to .result) (a .st .width) (a .part .now);

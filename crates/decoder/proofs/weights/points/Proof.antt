@@ -13,7 +13,7 @@ use Rattle.field.specs.Power.{power}
 use Rattle.field.specs.Words.{table}
 use Rattle.field.proofs.Laws.{times-lt}
 use Rattle.field.proofs.Powers.{power-lt, power-zero, power-suc}
-use Rattle.field.proofs.Unity.{two-div}
+use Rattle.field.proofs.Unity.{level-power}
 use Rattle.decoder.specs.Decoding.{pointAt}
 use Rattle.code.specs.steps.Storing.{stored}
 use Rattle.decoder.proofs.Points.{point-low-square, point-high-square}
@@ -70,7 +70,7 @@ start : (part : List ℕ) (level k root half u v e : ℕ) → level ≤ k → ha
 start part level k root half u v e b eh ee eu ev = record {
   turns = omega arith;
   half-is = eh;
-  u-is = eu ∙ ap (power 65537 root) (ee ∙ sym (two-div k level b));
+  u-is = level-power 65537 k root level b ee eu;
   v-is = ev;
   x-is = sym (power-zero 65537 (lit< tt) v);
   u-lt = rw eu (power-lt 65537 (lit< tt) root e);
