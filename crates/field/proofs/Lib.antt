@@ -11,3 +11,4 @@ pub mod WordLists
 pub mod Polynomials
 pub mod PowersOfTwo
 pub mod Unity
+pub mod PowerTables
