@@ -3,7 +3,7 @@
 use mathlib.Core.Path.{_≡_, refl, sym, ap, ap₂, _∙_, subst}
 use mathlib.Core.Logic.{⊎-elim, _≢_}
 use mathlib.Core.List.{List}
-use Prim.Native.Nat.{ℕ, zero, suc, _+_, _-_, _*_, _/_, _^_, _≤_, _<_}
+use Prim.Native.Nat.{ℕ, zero, suc, _+_, _-_, _*_, _/_, _%_, _^_, _≤_, _<_}
 use native.Mathlib.Nat.{eq-or-lt-of-le, add-zero, add-suc, add-mul, zero-mul}
 use native.Mathlib.Numerals.{add-one}
 use native.Mathlib.Decide.{decLt}
@@ -17,12 +17,11 @@ use mir.Val.{Fits}
 use Rattle.field.specs.Residue.{plus, minus, times}
 use Rattle.field.specs.Power.{power}
 use Rattle.field.specs.Words.{Words}
-use Rattle.field.proofs.Laws.{plus-lt, minus-lt, times-lt, times-comm}
-use Rattle.field.proofs.Powers.{power-zero, power-suc}
+use Rattle.field.proofs.Laws.{plus-lt, minus-lt, times-lt}
 use Rattle.field.proofs.WordLists.{words-set}
 use Rattle.code.specs.Rows.{column, lifted}
 use Rattle.code.specs.Transform.{mixedHalves, unmixed}
-use Rattle.code.specs.steps.Mixing.{Crossing, mixing, unmixing, summing, crossed, crossedRow, ShortFactors}
+use Rattle.code.specs.steps.Mixing.{Crossing, mixing, unmixing, summing, crossed, crossedRow, RowFactors}
 use Rattle.code.proofs.Shapes.{mixed-low, mixed-high, unmixed-low, unmixed-high}
 use Rattle.code.proofs.Lifting.{column-at, length-column, is-lifted, row-in}
 
@@ -236,54 +235,65 @@ module _ (c : Crossing) (v m width : ℕ) (d : List ℕ → List ℕ) (t : Cross
           let s : m + (i - m) ≡ i = omega arith in
           subst (λ (k : ℕ). getD whole (k * width + j) 0 ≡ getD (d (column width (m + m) j l)) k 0) s (pairs-at (i - m) j (omega arith) b .1)
 
--- THE LOOP OVER ROWS: the first i rows are crossed
-pub record RowsLoop (c : Crossing) (part₀ : List ℕ) (m width v : ℕ) (part : List ℕ) (g i low high : ℕ) : Type 0 where
+-- THE LOOP OVER ROWS: the first i rows are crossed, under powers of entry `step` of a table
+pub record RowsLoop (c : Crossing) (part₀ : List ℕ) (m width : ℕ) (powers : List ℕ) (step : ℕ) (part : List ℕ) (e i low high : ℕ) : Type 0 where
   pub turns : i ≤ m
   pub same : length part ≡ length part₀
   pub long : length part₀ ≡ m * width + m * width
   pub words : Words 65537 part
-  pub g-is : g ≡ power 65537 v i
+  pub e-is : e ≡ i * step
   pub low-is : low ≡ i * width
   pub high-is : high ≡ m * width + i * width
-  pub now : part ≡ pairs c (factor v width) (m * width) (i * width) part₀
+  pub now : part ≡ pairs c (factor (getD powers step 0) width) (m * width) (i * width) part₀
 
-module _ {c : Crossing} {part₀ : List ℕ} {m width v : ℕ} where
-  pub rows-start : length part₀ ≡ (m + m) * width → Words 65537 part₀ → RowsLoop c part₀ m width v part₀ 1 0 0 (m * width)
+module _ {c : Crossing} {part₀ : List ℕ} {m width : ℕ} {powers : List ℕ} {step : ℕ} where
+  pub rows-start : length part₀ ≡ (m + m) * width → Words 65537 part₀ → RowsLoop c part₀ m width powers step part₀ 0 0 0 (m * width)
   unfolding pairs
   rows-start e w = record {
     turns = omega arith;
     same = refl;
     long = e ∙ add-mul m m width;
     words = w;
-    g-is = sym (power-zero 65537 (omega arith) v);
+    e-is = sym (zero-mul step);
     low-is = sym (zero-mul width);
     high-is = omega (arith, zero-mul width);
     now = rw zero-mul refl;
   }
 
   -- row i is within its half, and that one within the part
-  pub low-in : {part : List ℕ} {g i low high : ℕ} → RowsLoop c part₀ m width v part g i low high → i < m → low + width ≤ high
+  pub low-in : {part : List ℕ} {e i low high : ℕ} → RowsLoop c part₀ m width powers step part e i low high → i < m → low + width ≤ high
   low-in h lt = omega (arith, row-in width lt)
 
-  pub high-in : {part : List ℕ} {g i low high : ℕ} → RowsLoop c part₀ m width v part g i low high → i < m → high + width ≤ length part
+  pub high-in : {part : List ℕ} {e i low high : ℕ} → RowsLoop c part₀ m width powers step part e i low high → i < m → high + width ≤ length part
   high-in h lt = omega (arith, row-in width lt)
 
   -- and where the next row starts is a `usize`
-  pub low-fits : {part : List ℕ} {g i low high : ℕ} → length part₀ * 4 < 2 ^ 63 → RowsLoop c part₀ m width v part g i low high → i < m → Fits w64 (low + width)
+  pub low-fits : {part : List ℕ} {e i low high : ℕ} → length part₀ * 4 < 2 ^ 63 → RowsLoop c part₀ m width powers step part e i low high → i < m → Fits w64 (low + width)
   low-fits b h lt = record { fits = omega (arith, row-in width lt) }
 
-  pub high-fits : {part : List ℕ} {g i low high : ℕ} → length part₀ * 4 < 2 ^ 63 → RowsLoop c part₀ m width v part g i low high → i < m
-      → Fits w64 (high + width)
+  pub high-fits : {part : List ℕ} {e i low high : ℕ} → length part₀ * 4 < 2 ^ 63 → RowsLoop c part₀ m width powers step part e i low high → i < m → Fits w64 (high + width)
   high-fits b h lt = record { fits = omega (arith, row-in width lt) }
 
-  -- row i's factor, since i is below m
-  pub factor-short : {part : List ℕ} {g i low high : ℕ} → ShortFactors 65537 v m → RowsLoop c part₀ m width v part g i low high → i < m → g < 65536
-  factor-short f h lt = rw (h .g-is) (f .short _ lt)
+  -- row i's factor, since i is below m: its place in the table, which power it is, and that it is not -1
+  pub factor-in : {part : List ℕ} {e i low high : ℕ} → RowFactors 65537 m step powers → RowsLoop c part₀ m width powers step part e i low high → i < m → e % 2048 < length powers
+  factor-in f h lt = rw (h .e-is) (f .within _ lt)
 
-  pub rows-turn : {part part′ : List ℕ} {g g′ i low high : ℕ} → Stores 65537 c → RowsLoop c part₀ m width v part g i low high → i < m
-      → part′ ≡ crossedRow c g width low high part → g′ ≡ times 65537 g v → RowsLoop c part₀ m width v part′ g′ (i + 1) (low + width) (high + width)
-  rows-turn {part} {part′} {g} {g′} {i} {low} {high} s h lt ep eg =
-      let e : (i + 1) * width ≡ i * width + width = omega arith in
+  factor-is : {part : List ℕ} {e i low high : ℕ} → RowFactors 65537 m step powers → RowsLoop c part₀ m width powers step part e i low high → i < m
+      → getD powers (e % 2048) 0 ≡ power 65537 (getD powers step 0) i
+  factor-is f h lt = rw (h .e-is) (f .entry _ lt)
+
+  pub factor-short : {part : List ℕ} {e i low high : ℕ} → RowFactors 65537 m step powers → RowsLoop c part₀ m width powers step part e i low high → i < m → getD powers (e % 2048) 0 < 65536
+  factor-short f h lt = rw (factor-is f h lt) (f .short _ lt)
+
+  pub factor-fits : {part : List ℕ} {e i low high : ℕ} → RowFactors 65537 m step powers → RowsLoop c part₀ m width powers step part e i low high → i < m → Fits w64 (e + step)
+  factor-fits f h lt = record { fits = omega (arith, row-in step lt, f .room) }
+
+  pub rows-turn : {part part′ : List ℕ} {e i low high : ℕ} → Stores 65537 c → RowFactors 65537 m step powers → RowsLoop c part₀ m width powers step part e i low high → i < m
+      → part′ ≡ crossedRow c (getD powers (e % 2048) 0) width low high part → RowsLoop c part₀ m width powers step part′ (e + step) (i + 1) (low + width) (high + width)
+  rows-turn {part} {part′} {e} {i} {low} {high} s f h lt ep =
+      let v = getD powers step 0 in
+      let g = getD powers (e % 2048) 0 in
+      let n : (i + 1) * width ≡ i * width + width = omega arith in
       let r : crossedRow c (power 65537 v i) width (i * width) (m * width + i * width) (pairs c (factor v width) (m * width) (i * width) part₀) ≡ pairs c
       (factor v width) (m * width) (i * width + width) part₀ =
       row-pairs c (factor v width) (m * width) (power 65537 v i) width (i * width) part₀ (λ j b. ap (power 65537 v) (digits-div i b)) in
@@ -292,22 +302,22 @@ module _ {c : Crossing} {part₀ : List ℕ} {m width v : ℕ} where
         same = ap length ep ∙ length-row c g width low high part ∙ h .same;
         long = h .long;
         words = rw ep (words-row (omega arith) s g width low high (h .words));
-        g-is = eg ∙ rw (h .g-is, add-one) (times-comm 65537 (omega arith) _ v ∙ sym (power-suc 65537 (omega arith) v i));
+        e-is = omega arith;
         low-is = omega arith;
         high-is = omega arith;
-        now = ep ∙ rw (h .low-is, h .high-is, h .g-is, h .now, e) r;
+        now = ep ∙ ap (λ (x : ℕ). crossedRow c x width low high part) (factor-is f h lt) ∙ rw (h .low-is, h .high-is, h .now, n) r;
       }
 
-  pub rows-end : {d : List ℕ → List ℕ} {part : List ℕ} {g i low high : ℕ} → Crosses c v m d → RowsLoop c part₀ m width v part g i low high → m ≤ i
+  pub rows-end : {d : List ℕ → List ℕ} {part : List ℕ} {e i low high : ℕ} → Crosses c (getD powers step 0) m d → RowsLoop c part₀ m width powers step part e i low high → m ≤ i
       → part ≡ lifted width (m + m) (m + m) d part₀
-  rows-end {d} {part} {g} {i} t h le =
-      let e : i ≡ m = omega arith in
-      (rw e at (h .now)) ∙ all-pairs c v m width d t part₀ (h .long)
+  rows-end {d} {part} {e} {i} t h le =
+      let q : i ≡ m = omega arith in
+      (rw q at (h .now)) ∙ all-pairs c (getD powers step 0) m width d t part₀ (h .long)
 
 -- what the needs of mixing's and of unmixing's loop over rows follow from
 pub ruleset crossings = (mixing-stores, unmixing-stores, mixing-crosses, unmixing-crosses)
 
-pub ruleset rows-needs = (rows-start, rows-turn, rows-end, low-in, high-in, low-fits, high-fits, factor-short, crossings, needs)
+pub ruleset rows-needs = (rows-start, rows-turn, rows-end, low-in, high-in, low-fits, high-fits, factor-in, crossings, needs)
 
 -- and of the loop over a row
 pub ruleset row-needs = (product-word, difference-word, row-start, row-room, row-word, row-turn, row-end, mixing-stores, unmixing-stores, summing-stores, needs)

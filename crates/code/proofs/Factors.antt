@@ -1,26 +1,68 @@
--- The factors of mixing, unmixing and turning: they are powers of a root of order 2n at exponents below n, half of its order, so that none is -1; and what
--- mixing and unmixing are under the factor 1. Assumes nothing.
+-- The factors of mixing, unmixing and turning: they are entries of the table of powers, powers of a root of order 2n at exponents below n, half of its
+-- order, so that none is -1; and what mixing and unmixing are under the factor 1. Assumes nothing.
 use mathlib.Core.Path.{_≡_, refl, sym, ap, _∙_}
 use mathlib.Core.List.{List}
-use Prim.Native.Nat.{ℕ, zero, suc, _-_, _/_, _^_, _≤_, _<_}
+use Prim.Native.Nat.{ℕ, zero, suc, _*_, _-_, _/_, _%_, _^_, _≤_, _<_}
+use native.Mathlib.Nat.{mod-lt, mul-le-mul}
 use native.Mathlib.Omega.{arith}
-use Rattle.field.specs.Power.{power}
-use Rattle.field.specs.Field.{Root}
+use lib.Dec.{lit<}
+use lib.Pow.{pow-mono, pow-pos}
+use lib.ListN.{length, getD}
+use Rattle.field.specs.Power.{power, inverse}
+use Rattle.field.specs.Field.{Root, fermat, rootOf, powerTable}
 use Rattle.field.proofs.Ring.{v, _⊕_, _⊖_, _⊗_, ring}
-use Rattle.field.proofs.Unity.{root-short, root-down, two-div, level-power}
+use Rattle.field.proofs.Unity.{root-short, root-back}
+use Rattle.field.proofs.Primes.{fermat-prime, fermat-root}
+use Rattle.field.proofs.PowerTables.{length-table-of-powers, table-power, table-root, table-back, level-root, level-inverse}
 use Rattle.code.specs.Transform.{reversed}
-use Rattle.code.specs.steps.Mixing.{Crossing, mixing, unmixing, summing, crossed, crossedRow, mixRow, unmixRow, sumRow, ShortFactors}
+use Rattle.code.specs.steps.Mixing.{Crossing, mixing, unmixing, summing, crossed, crossedRow, mixRow, unmixRow, sumRow, RowFactors}
 use Rattle.code.proofs.Shapes.{reversed-lt}
 
--- the factors under which `transform` mixes 2 ^ l words with 2 ^ l words, and `untransform` unmixes them: the inverse of a root is a root (`root-back`)
-pub mixing-factors : (p k w l : ℕ) → Root p k w → l ≤ k → ShortFactors p (power p w (2 ^ k / 2 ^ l)) (2 ^ l)
-mixing-factors p k w l R b =
-    let d : Root p l (power p w (2 ^ k / 2 ^ l)) = rw (two-div k l b) (root-down p k w R l b) in
-    record { small = d .small; short = root-short p l (power p w (2 ^ k / 2 ^ l)) d }
+-- the powers of an entry that is a root of order 2 * 2 ^ l are factors of 2 ^ l rows
+table-factors : (l step : ℕ) → l ≤ 10 → step < 2048 → Root 65537 l (getD powerTable step 0) → RowFactors 65537 (2 ^ l) step powerTable
+table-factors l step b s R = record {
+  room = omega (arith, mul-le-mul {n₁ = 2 ^ l} {m₁ = step} {n₂ = 1024} {m₂ = 2048} (pow-mono {i = l} {j = 10} b) (omega arith));
+  within = λ i _. rw length-table-of-powers (mod-lt (i * step) (lit< tt));
+  entry = λ i _. table-power step i s;
+  short = root-short 65537 l (getD powerTable step 0) R;
+}
 
--- the same, of the numbers that a loop over levels has
-pub level-factors : {p k w l e u m : ℕ} → Root p k w → l ≤ k → e ≡ 2 ^ (k - l) → u ≡ power p w e → m ≡ 2 ^ l → ShortFactors p u m
-level-factors {p} {k} {w} {l} R b ee eu em = rw (em, level-power p k w l b ee eu) (mixing-factors p k w l R b)
+-- THE FACTORS OF A LEVEL, 2 ^ l rows mixed with 2 ^ l rows, by the numbers that a loop over levels has: entry `step` is the power of the root that
+-- `transform` mixes them under
+pub record LevelFactors (w k l m step : ℕ) (powers : List ℕ) : Type 0 where
+  pub rows : RowFactors 65537 m step powers
+  pub entry : getD powers step 0 ≡ power 65537 w (2 ^ k / 2 ^ l)
+
+module _ {k l m step : ℕ} {powers : List ℕ} (is : powers ≡ powerTable) (b : l ≤ k) (t : k ≤ 10) (em : m ≡ 2 ^ l) where
+  pub mixing-factors : step ≡ 2 ^ (10 - l) → LevelFactors (rootOf fermat k) k l m step powers
+  mixing-factors e =
+      let R : Root 65537 l (getD powerTable (2 ^ (10 - l)) 0) = rw (table-root l (omega arith)) (fermat-root l (omega arith)) in
+      rw (is, em, e) (record {
+        rows = table-factors l (2 ^ (10 - l)) (omega arith) (omega (arith, pow-mono {i = 10 - l} {j = 10} (omega arith))) R;
+        entry = table-root l (omega arith) ∙ sym (level-root k l b (omega arith));
+      })
+
+  -- `untransform` unmixes under the inverse
+  pub unmixing-factors : step ≡ 2048 - 2 ^ (10 - l) → LevelFactors (inverse 65537 (rootOf fermat k)) k l m step powers
+  unmixing-factors e =
+      let R : Root 65537 l (getD powerTable (2048 - 2 ^ (10 - l)) 0) =
+      rw (table-back l (omega arith)) (root-back 65537 l (rootOf fermat l) fermat-prime (fermat-root l (omega arith))) in
+      rw (is, em, e) (record {
+        rows = table-factors l (2048 - 2 ^ (10 - l)) (omega arith) (omega (arith, pow-pos (10 - l))) R;
+        entry = table-back l (omega arith) ∙ sym (level-inverse k l b (omega arith));
+      })
+
+-- the root of a vault, and its inverse, in a table that is lent
+pub root-entry : {powers : List ℕ} {k step : ℕ} → powers ≡ powerTable → k ≤ 10 → step ≡ 2 ^ (10 - k) → getD powers step 0 ≡ rootOf fermat k
+root-entry {powers} {k} e b es = rw (e, es) (table-root k b)
+
+pub back-entry : {powers : List ℕ} {k step : ℕ} → powers ≡ powerTable → k ≤ 10 → step ≡ 2048 - 2 ^ (10 - k)
+    → getD powers step 0 ≡ inverse 65537 (rootOf fermat k)
+back-entry {powers} {k} e b es = rw (e, es) (table-back k b)
+
+-- the power r of entry `step`
+pub power-entry : {powers : List ℕ} {step r e : ℕ} → powers ≡ powerTable → step < 2048 → r ≡ e → getD powers (r * step % 2048) 0 ≡ power 65537 (getD powers step 0) e
+power-entry {powers} {step} {r} {e} is b q = rw (is, q) (table-power step e b)
 
 -- the factor by which `turned` turns the word of write number t
 pub turning-factor : (p k w t : ℕ) → Root p k w → power p w (reversed k t) < p - 1

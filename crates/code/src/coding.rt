@@ -3,8 +3,8 @@ use crate::Stripe;
 ghost use mathlib.Core.Path.{_≡_};
 ghost use mathlib.Core.List.{_++_};
 ghost use Prim.Native.Nat.{_+_, _*_, _-_, _≤_, _<_};
-ghost use lib.ListN.{length, take};
-ghost use Rattle.field.specs.Field.{fermat, Root};
+ghost use lib.ListN.{length, getD, take};
+ghost use Rattle.field.specs.Field.{fermat, Root, powerTable};
 ghost use Rattle.field.specs.Words.{Words};
 ghost use Rattle.code.specs.Rows.{lifted};
 ghost use Rattle.code.specs.Transform.{turned};
@@ -37,13 +37,17 @@ fn turn_row(part: &mut [u32], at: usize, width: usize, g: u32)
     }
 }
 
-// Turns a half of a stripe: the row of write t is multiplied by w^rev(t). `w` is the stripe's root, or its inverse to turn back.
-pub fn turn(part: &mut [u32], st: Stripe, w: u32)
+// Turns a half of a stripe: the row of write t is multiplied by w^rev(t), where w is entry `step` of the powers: the stripe's root, or its inverse to turn
+// back.
+pub fn turn(part: &mut [u32], st: Stripe, powers: &[u32], step: usize)
     requires { ⌜ Numbers st ⌝ }
     requires { ⌜ length (now part) ≡ blockWords st ⌝ }
-    requires { ⌜ Root (modulusOf st) (st .k) w ⌝ }
+    requires { ⌜ (now powers ≡ powerTable) × (step < 2048) ⌝ }
+    requires { ⌜ Root (modulusOf st) (st .k) (getD (now powers) step 0) ⌝ }
     requires { ⌜ Words (modulusOf st) (now part) ⌝ }
-    ensures { λ _. ⌜ now (part .exit) ≡ lifted (st .width) (blockCount st) (blockCount st) (turned (modulusOf st) w (st .k) (st .first)) (now (part .entry)) ⌝ }
+    ensures { λ _. ⌜ now (part .exit) ≡
+        lifted (st .width) (blockCount st) (blockCount st)
+        (turned (modulusOf st) (getD (now (powers .entry)) step 0) (st .k) (st .first)) (now (part .entry)) ⌝ }
 {
     // locals of their own, since the loop's invariant speaks of them
     let first = st.first;
@@ -52,8 +56,8 @@ pub fn turn(part: &mut [u32], st: Stripe, w: u32)
     let rows = crate::number::two_to(st.level);
     let mut at = 0;
     for j in 0..rows {
-        let g = field::power(w, crate::number::reversed(k, first + j));
-        turn_row(part, at, width, g);
+        let e = crate::number::reversed(k, first + j) as usize * step;
+        turn_row(part, at, width, powers[e % 2048]);
         at += width;
     }
 }
@@ -77,8 +81,10 @@ pub fn code(part: &mut [u32], st: Stripe)
     ensures { λ _. ⌜ now (part .exit) ≡ codedStripe st (take (blockWords st) (now (part .entry))) ⌝ }
 {
     let half = crate::number::two_to(st.level) * st.width;
+    let step = 1024 / crate::number::two_to(st.k);
+    let powers = crate::table::powers();
     copy_half(part, half);
-    crate::mixing::mix_all(&mut part[..half], st);
-    turn(&mut part[half..], st, st.root);
-    crate::mixing::mix_all(&mut part[half..], st);
+    crate::mixing::mix_all(&mut part[..half], st, &powers);
+    turn(&mut part[half..], st, &powers, step);
+    crate::mixing::mix_all(&mut part[half..], st, &powers);
 }

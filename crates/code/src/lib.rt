@@ -3,13 +3,13 @@
 pub mod coding;
 pub mod mixing;
 pub mod number;
+pub mod table;
 pub mod unmixing;
 
-// The numbers of a stripe: 2^level blocks of `width` words in a vault of 2^k records whose root is `root`; `first` is t0, the write number of the first block.
+// The numbers of a stripe: 2^level blocks of `width` words in a vault of 2^k records; `first` is t0, the write number of the first block.
 pub struct Stripe {
     pub level: usize,
     pub k: usize,
     pub first: usize,
-    pub root: u32,
     pub width: usize,
 }

@@ -2,13 +2,13 @@
 use crate::Stripe;
 ghost use mathlib.Core.Path.{_≡_};
 ghost use Prim.Native.Nat.{_+_, _*_, _-_, _≤_, _<_};
-ghost use lib.ListN.{length};
-ghost use Rattle.field.specs.Field.{fermat};
+ghost use lib.ListN.{length, getD};
+ghost use Rattle.field.specs.Field.{fermat, powerTable};
 ghost use Rattle.field.specs.Words.{Words};
 ghost use Rattle.code.specs.Rows.{lifted};
 ghost use Rattle.code.specs.Transform.{mixedHalves, transform};
-ghost use Rattle.code.specs.Stripe.{Numbers, modulusOf, blockCount, blockWords};
-ghost use Rattle.code.specs.steps.Mixing.{sumRow, mixRow, ShortFactors, eachBlock};
+ghost use Rattle.code.specs.Stripe.{Numbers, modulusOf, rootIn, blockCount, blockWords};
+ghost use Rattle.code.specs.steps.Mixing.{sumRow, mixRow, RowFactors, eachBlock};
 
 // The sums of `width` words from index `low` and as many from index `high` in the place of the former, the differences in the place of the latter: mixing
 // and unmixing under the factor 1, with no product.
@@ -65,20 +65,22 @@ fn mix_row(part: &mut [u32], low: usize, high: usize, width: usize, g: u32)
     }
 }
 
-// Mixes the first m rows (older) with the next m rows (newer); row i of the newer has the factor v^i.
-pub fn mix(part: &mut [u32], m: usize, width: usize, v: u32)
+// Mixes the first m rows (older) with the next m rows (newer). Row i of the newer has the factor v^i, where v is entry `step` of the powers: v^i is the entry
+// i steps on, around the table.
+pub fn mix(part: &mut [u32], m: usize, width: usize, powers: &[u32], step: usize)
     requires { ⌜ length (now part) ≡ (m + m) * width ⌝ }
-    requires { ⌜ ShortFactors (fermat .modulus) v m ⌝ }
+    requires { ⌜ RowFactors (fermat .modulus) m step (now powers) ⌝ }
     requires { ⌜ Words (fermat .modulus) (now part) ⌝ }
-    ensures { λ _. ⌜ now (part .exit) ≡ lifted width (m + m) (m + m) (mixedHalves (fermat .modulus) v m) (now (part .entry)) ⌝ }
+    ensures { λ _. ⌜ now (part .exit) ≡
+        lifted width (m + m) (m + m) (mixedHalves (fermat .modulus) (getD (now (powers .entry)) step 0) m) (now (part .entry)) ⌝ }
 {
-    let mut g: u32 = 1;
+    let mut e = 0;
     let mut i = 0;
     let mut low = 0;
     let mut high = m * width;
     while i < m {
-        mix_row(part, low, high, width, g);
-        g = field::short::mul(g, v);
+        mix_row(part, low, high, width, powers[e % 2048]);
+        e += step;
         low += width;
         high += width;
         i += 1;
@@ -86,45 +88,45 @@ pub fn mix(part: &mut [u32], m: usize, width: usize, v: u32)
 }
 
 // Mixes each of `blocks` blocks of 2m rows.
-fn mix_each(half: &mut [u32], blocks: usize, m: usize, width: usize, v: u32)
+fn mix_each(half: &mut [u32], blocks: usize, m: usize, width: usize, powers: &[u32], step: usize)
     requires { ⌜ length (now half) ≡ blocks * ((m + m) * width) ⌝ }
     requires { ⌜ m < 4294967296 ⌝ }
     requires { ⌜ (m + m) * width < 9223372036854775808 ⌝ }
-    requires { ⌜ ShortFactors (fermat .modulus) v m ⌝ }
+    requires { ⌜ RowFactors (fermat .modulus) m step (now powers) ⌝ }
     requires { ⌜ Words (fermat .modulus) (now half) ⌝ }
     ensures { λ _. ⌜ now (half .exit) ≡
-        eachBlock blocks ((m + m) * width) (lifted width (m + m) (m + m) (mixedHalves (fermat .modulus) v m)) (now (half .entry)) ⌝ }
+        eachBlock blocks ((m + m) * width)
+        (lifted width (m + m) (m + m) (mixedHalves (fermat .modulus) (getD (now (powers .entry)) step 0) m)) (now (half .entry)) ⌝ }
 {
     let size = (m + m) * width;
     let mut at = 0;
     for b in 0..blocks {
         let to = at + size;
-        mix(&mut half[at..to], m, width, v);
+        mix(&mut half[at..to], m, width, powers, step);
         at = to;
     }
 }
 
-// All mixing of a half of a stripe, from single rows up.
-pub fn mix_all(half: &mut [u32], st: Stripe)
+// All mixing of a half of a stripe, from single rows up. The root of 2^l records, under which 2^l rows are mixed with 2^l rows, is entry 1024 / 2^l.
+pub fn mix_all(half: &mut [u32], st: Stripe, powers: &[u32])
     requires { ⌜ Numbers st ⌝ }
     requires { ⌜ length (now half) ≡ blockWords st ⌝ }
+    requires { ⌜ now powers ≡ powerTable ⌝ }
     requires { ⌜ Words (modulusOf st) (now half) ⌝ }
     ensures { λ _. ⌜ now (half .exit) ≡
-        lifted (st .width) (blockCount st) (blockCount st) (transform (modulusOf st) (st .root) (st .k) (st .level)) (now (half .entry)) ⌝ }
+        lifted (st .width) (blockCount st) (blockCount st) (transform (modulusOf st) (rootIn st) (st .k) (st .level)) (now (half .entry)) ⌝ }
 {
     // locals of their own, since the loop's invariant speaks of them
     let level = st.level;
     let k = st.k;
     let width = st.width;
-    let root = st.root;
     let mut blocks = crate::number::two_to(level);
-    let mut exponent = crate::number::two_to(k);
+    let mut step: usize = 1024;
     let mut m: usize = 1;
     for l in 0..level {
         blocks = blocks / 2;
-        let v = field::power(root, exponent as u32);
-        mix_each(half, blocks, m, width, v);
-        exponent = exponent / 2;
+        mix_each(half, blocks, m, width, powers, step);
+        step = step / 2;
         m = m * 2;
     }
 }

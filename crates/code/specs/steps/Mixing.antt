@@ -1,7 +1,8 @@
 -- What the loops of mixing and unmixing make of a slice, step by step, and what they ask of their factors. Assumes nothing: these are definitions.
+use mathlib.Core.Path.{_≡_}
 use mathlib.Core.List.{List, _++_}
-use Prim.Native.Nat.{ℕ, zero, suc, _+_, _-_, _<_}
-use lib.ListN.{getD, set, take, drop}
+use Prim.Native.Nat.{ℕ, zero, suc, _+_, _*_, _-_, _%_, _<_}
+use lib.ListN.{length, getD, set, take, drop}
 use Rattle.field.specs.Residue.{plus, minus, times}
 use Rattle.field.specs.Power.{power}
 
@@ -38,10 +39,13 @@ unmixRow p width low high g l = crossedRow (unmixing p) g width low high l
 abbrev pub sumRow : (p width low high : ℕ) → List ℕ → List ℕ
 sumRow p width low high l = crossedRow (summing p) 1 width low high l
 
--- THE FACTORS of m rows, v ^ i for row i, v a word: none is -1, so that the product of a factor and a word fits 32 bits
-pub record ShortFactors (p v m : ℕ) : Type 0 where
-  pub small : v < p
-  pub short : (i : ℕ) → i < m → power p v i < p - 1
+-- THE FACTORS of m rows in a table of powers, v ^ i for row i where v is entry `step`: they stand `step` apart, around the table of 2,048; none is -1, so
+-- that the product of a factor and a word fits 32 bits
+pub record RowFactors (p m step : ℕ) (powers : List ℕ) : Type 0 where
+  pub room : m * step < 4294967296
+  pub within : (i : ℕ) → i < m → i * step % 2048 < length powers
+  pub entry : (i : ℕ) → i < m → getD powers (i * step % 2048) 0 ≡ power p (getD powers step 0) i
+  pub short : (i : ℕ) → i < m → power p (getD powers step 0) i < p - 1
 
 -- f done to each of the first b blocks of n words
 unfoldable pub eachBlock : (b n : ℕ) → (f : List ℕ → List ℕ) → List ℕ → List ℕ

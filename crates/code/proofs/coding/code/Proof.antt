@@ -1,13 +1,18 @@
 -- `code::coding::code` meets its contract: the blocks are copied, each half is mixed in its place, the second turned before. Assumes nothing.
 use mathlib.Core.Path.{_≡_, sym, ap, ap₂, _∙_}
 use mathlib.Core.List.{List, _++_}
-use Prim.Native.Nat.{ℕ, suc, _+_, _*_, _-_, _^_}
+use Prim.Native.Nat.{ℕ, suc, _+_, _*_, _-_, _/_, _^_, _≤_, _<_}
+use native.Mathlib.Nat.{div-le-self}
 use native.Mathlib.Omega.{arith}
 use borrow.Author.Needs.{needs}
 use borrow.Rule.Slice.PartMut.{putMid}
 use lib.Dec.{lit<}
-use lib.ListN.{length, take, drop}
+use lib.Pow.{pow-pos}
+use lib.ListN.{length, getD, take, drop}
 use lib.Seq.{length-take-le}
+use Rattle.field.specs.Field.{fermat, rootOf, powerTable}
+use Rattle.field.proofs.Unity.{two-div}
+use Rattle.field.proofs.Primes.{fermat-root}
 use Rattle.code.specs.Rows.{lifted}
 use Rattle.code.specs.Transform.{transform, turned}
 use Rattle.code.specs.declared.Stripe.{Stripe}
@@ -15,6 +20,7 @@ use Rattle.code.specs.Stripe.{coded, codedRows, blockWords}
 use Rattle.code.proofs.Shapes.{length-transform, length-turned, words-turned}
 use Rattle.code.proofs.Lifting.{length-lifted, words-lifted, lifted-then, lifted-both}
 use Rattle.code.proofs.RowLaws.{Parts, length-parts, lent-front, lent-rest, put-front, put-rest}
+use Rattle.code.proofs.Factors.{root-entry}
 use Rattle.code.proofs.coding.code.Statement.{statement}
 use Rattle.code.proofs.coding.code.Tie as tie
 
@@ -57,20 +63,40 @@ length-blocks c = length-take-le (half c) (start c .args .part .now) (omega (ari
 abbrev after-copy : tie.After-copy-half → List ℕ
 after-copy c = c .copy-half .last .0
 
+abbrev copy-powers : tie.After-copy-half → tie.After-powers
+copy-powers c = c .before .before
+
 abbrev copy-two : tie.After-copy-half → tie.After-two-to
-copy-two c = c .before .before .before
+copy-two c = copy-powers c .before .before .before
 
 copied : (c : tie.After-copy-half) → Parts (half (copy-two c)) (after-copy c) (blocks (copy-two c)) (blocks (copy-two c))
 copied c = record { is = c .copy-half .ensures; long = length-blocks (copy-two c) }
 
+-- the table, and where the root stands in it
+table-is : (c : tie.After-copy-half) → copy-powers c .powers .result ≡ powerTable
+table-is c = copy-powers c .powers .ensures
+
+few : (c : tie.After-two-to2) → start (c .before .before) .args .st .k ≤ 10
+few c = start (c .before .before) .pre .0 .small
+
+step-is : (c : tie.After-two-to2) → 1024 / c .two-to2 .result ≡ 2 ^ (10 - start (c .before .before) .args .st .k)
+step-is c = ap (λ (n : ℕ). 1024 / n) (c .two-to2 .ensures) ∙ two-div 10 _ (few c)
+
+root-is : (c : tie.After-copy-half) → let at = copy-powers c in
+    getD (at .powers .result) (1024 / at .before .two-to2 .result) 0 ≡ rootOf fermat (stripe (copy-two c) .k)
+root-is c = root-entry (table-is c) (few (copy-powers c .before)) (step-is (copy-powers c .before))
+
+step-in : (c : tie.After-two-to2) → 1024 / c .two-to2 .result < 2048
+step-in c = omega (arith, div-le-self 1024 (c .two-to2 .result))
+
 abbrev mix-copy : tie.After-mix-all → tie.After-copy-half
-mix-copy c = c .before .before .before .before
+mix-copy c = c .before .before .before .before .before
 
 abbrev mix-two : tie.After-mix-all → tie.After-two-to
 mix-two c = copy-two (mix-copy c)
 
 abbrev turn-mix : tie.After-turn → tie.After-mix-all
-turn-mix c = c .before .before .before .before
+turn-mix c = c .before .before .before .before .before
 
 abbrev turn-two : tie.After-turn → tie.After-two-to
 turn-two c = mix-two (turn-mix c)
@@ -80,7 +106,7 @@ after-mix c = c .mix-all .last .0 ++ drop (half (mix-two c)) (after-copy (mix-co
 
 -- X stands first
 mixed : (c : tie.After-mix-all) → let at-two = mix-two c in
-    let a = stripe at-two in c .mix-all .last .0 ≡ lifted (a .width) (2 ^ a .level) (2 ^ a .level) (transform 65537 (a .root) (a .k) (a .level)) (blocks at-two)
+    let a = stripe at-two in c .mix-all .last .0 ≡ lifted (a .width) (2 ^ a .level) (2 ^ a .level) (transform 65537 (rootOf fermat (a .k)) (a .k) (a .level)) (blocks at-two)
 mixed c = c .mix-all .ensures ∙ ap (lifted _ _ _ _) (lent-front (copied (mix-copy c)))
 
 mixed-parts : (c : tie.After-mix-all) → let at-two = mix-two c in Parts (half at-two) (after-mix c) (c .mix-all .last .0) (blocks at-two)
@@ -94,8 +120,11 @@ after-turn c =
 
 turned-half : (c : tie.After-turn) → let at-two = turn-two c in
     let a = stripe at-two in
-    c .turn .last .0 ≡ lifted (a .width) (2 ^ a .level) (2 ^ a .level) (turned 65537 (a .root) (a .k) (a .first)) (blocks at-two)
-turned-half c = c .turn .ensures ∙ ap (lifted _ _ _ _) (lent-rest (mixed-parts (turn-mix c)))
+    c .turn .last .0 ≡ lifted (a .width) (2 ^ a .level) (2 ^ a .level) (turned 65537 (rootOf fermat (a .k)) (a .k) (a .first)) (blocks at-two)
+turned-half c =
+    let a = stripe (turn-two c) in
+    c .turn .ensures ∙ ap (lifted _ _ _ _) (lent-rest (mixed-parts (turn-mix c)))
+    ∙ ap (λ (w : ℕ). lifted (a .width) (2 ^ a .level) (2 ^ a .level) (turned 65537 w (a .k) (a .first)) (blocks (turn-two c))) (root-is (mix-copy (turn-mix c)))
 
 turned-parts : (c : tie.After-turn) → let at-two = turn-two c in
     Parts (half at-two) (after-turn c) (turn-mix c .mix-all .last .0) (c .turn .last .0)
@@ -107,8 +136,17 @@ two-to-requires c κs = search needs
 mul-half : tie.Need-mul-half
 mul-half c = omega (arith, long (c .before))
 
+two-to-requires-2 : tie.Need-two-to-requires-2
+two-to-requires-2 c κs = omega (arith, start (c .before) .pre .0 .small)
+
+div-step : tie.Need-div-step
+div-step c = rw (c .two-to2 .ensures) (pow-pos _)
+
+powers-requires : tie.Need-powers-requires
+powers-requires c κs = search needs
+
 copy-half-requires : tie.Need-copy-half-requires
-copy-half-requires c κs = long (c .before .before)
+copy-half-requires c κs = long (c .before .before .before .before)
 
 slice-relend-prefix-mix-all : tie.Need-slice-relend-prefix-mix-all
 slice-relend-prefix-mix-all c = omega (arith, length-parts (copied (c .before .before)))
@@ -118,15 +156,18 @@ slice-aggregate-mix-all c =
     let at-copy = c .before .before .before in
     sym (ap length (lent-front (copied at-copy)) ∙ length-blocks (copy-two at-copy))
 
+slice-aggregate-mix-all-2 : tie.Need-slice-aggregate-mix-all-2
+slice-aggregate-mix-all-2 c = search needs
+
 mix-all-requires : tie.Need-mix-all-requires
 mix-all-requires c κs =
-    let at-copy = c .before .before .before in
+    let at-copy = c .before .before .before .before in
     let at-two = copy-two at-copy in
     let pre = start at-two .pre in (
       pre .0,
       (
         ap length (lent-front (copied at-copy)) ∙ length-blocks at-two ∙ half-is at-two,
-        rw (lent-front (copied at-copy)) (rw (half-is at-two) (pre .1 .1)),
+        (table-is at-copy, rw (lent-front (copied at-copy)) (rw (half-is at-two) (pre .1 .1))),
       ),
     )
 
@@ -142,15 +183,25 @@ part-turn-start c = sub-turn c
 part-turn-end : tie.Need-part-turn-end
 part-turn-end c = search needs
 
+slice-aggregate-turn : tie.Need-slice-aggregate-turn
+slice-aggregate-turn c = search needs
+
 turn-requires : tie.Need-turn-requires
 turn-requires c κs =
-    let at-mix = c .before .before .before in
-    let at-two = mix-two at-mix in
+    let at-mix = c .before .before .before .before in
+    let at-copy = mix-copy at-mix in
+    let at-two = copy-two at-copy in
     let pre = start at-two .pre in (
       pre .0,
       (
         ap length (lent-rest (mixed-parts at-mix)) ∙ length-blocks at-two ∙ half-is at-two,
-        (pre .0 .rooted, rw (lent-rest (mixed-parts at-mix)) (rw (half-is at-two) (pre .1 .1))),
+        (
+          (table-is at-copy, step-in (copy-powers at-copy .before)),
+          (
+            rw (root-is at-copy) (fermat-root _ (omega (arith, pre .0 .small))),
+            rw (lent-rest (mixed-parts at-mix)) (rw (half-is at-two) (pre .1 .1)),
+          ),
+        ),
       ),
     )
 
@@ -166,13 +217,21 @@ part-mix-all-start c = sub-mix-all c
 part-mix-all-end : tie.Need-part-mix-all-end
 part-mix-all-end c = search needs
 
+slice-aggregate-mix-all-3 : tie.Need-slice-aggregate-mix-all-3
+slice-aggregate-mix-all-3 c = search needs
+
 mix-all-requires-2 : tie.Need-mix-all-requires-2
 mix-all-requires-2 c κs =
-    let at-turn = c .before .before .before in
+    let at-turn = c .before .before .before .before in
     let at-two = turn-two at-turn in
     let pre = start at-two .pre in
-    let e = lent-rest (turned-parts at-turn) ∙ turned-half at-turn in
-    (pre .0, (ap length e ∙ length-lifted _ _ _ _ _, rw e (words-lifted 65537 _ _ _ _ _ (lit< tt) (λ j b. words-turned 65537 (lit< tt) _ _ _ _))))
+    let e = lent-rest (turned-parts at-turn) ∙ turned-half at-turn in (
+      pre .0,
+      (
+        ap length e ∙ length-lifted _ _ _ _ _,
+        (table-is (mix-copy (turn-mix at-turn)), rw e (words-lifted 65537 _ _ _ _ _ (lit< tt) (λ j b. words-turned 65537 (lit< tt) _ _ _ _))),
+      ),
+    )
 
 same-length : tie.Need-same-length
 same-length c = search needs
@@ -180,14 +239,14 @@ same-length c = search needs
 returns : tie.Need-returns
 returns c =
     let at-last = c .before .before in
-    let at-turn = at-last .before .before .before .before in
+    let at-turn = at-last .before .before .before .before .before in
     let at-mix = turn-mix at-turn in
     let at-two = mix-two at-mix in
     let a = stripe at-two in
     put-rest (turned-parts at-turn) (at-last .mix-all2 .last .0) .is
-    ∙ coded-rows (a .root) (a .k) (a .level) (a .first) (a .width) (blocks at-two) _ _ _ (mixed at-mix) (turned-half at-turn)
+    ∙ coded-rows (rootOf fermat (a .k)) (a .k) (a .level) (a .first) (a .width) (blocks at-two) _ _ _ (mixed at-mix) (turned-half at-turn)
     (at-last .mix-all2 .ensures ∙ ap (lifted _ _ _ _) (lent-rest (turned-parts at-turn)))
-    ∙ ap (λ (n : ℕ). codedRows 65537 (a .root) (a .k) (a .level) (a .first) (a .width) (take n (start at-two .args .part .now))) (half-is at-two)
+    ∙ ap (λ (n : ℕ). codedRows 65537 (rootOf fermat (a .k)) (a .k) (a .level) (a .first) (a .width) (take n (start at-two .args .part .now))) (half-is at-two)
 
 pub code-spec : {M : Type 1} → statement M
 code-spec =
@@ -195,19 +254,25 @@ code-spec =
     (tie.spec
     two-to-requires
     mul-half
+    two-to-requires-2
+    div-step
+    powers-requires
     copy-half-requires
     slice-relend-prefix-mix-all
     slice-aggregate-mix-all
+    slice-aggregate-mix-all-2
     mix-all-requires
     mul-turn
     sub-turn
     part-turn-start
     part-turn-end
+    slice-aggregate-turn
     turn-requires
     mul-mix-all
     sub-mix-all
     part-mix-all-start
     part-mix-all-end
+    slice-aggregate-mix-all-3
     mix-all-requires-2
     same-length
     returns)

@@ -5,29 +5,28 @@ use Prim.Native.Nat.{ℕ, suc, _+_, _-_, _*_, _/_, _^_, _≤_, _<_}
 use native.Mathlib.Nat.{sub-zero}
 use native.Mathlib.Numerals.{add-one}
 use native.Mathlib.Omega.{arith}
-use lib.Pow.{pow-mono}
 use lib.ListN.{length, take, drop, length-drop}
 use lib.Seq.{take-at, drop-at, length-take-le}
 use Rattle.field.specs.Power.{power}
 use Rattle.field.specs.Words.{Words}
+use Rattle.field.specs.Field.{fermat, rootOf}
 use Rattle.code.specs.Rows.{lifted}
 use Rattle.code.specs.Transform.{mixed, mixedHalves, transform}
 use Rattle.code.proofs.Shapes.{length-two, length-transform}
-use Rattle.field.proofs.Unity.{level-power}
 use Rattle.code.proofs.Blocks.{Level, level-at, pow-down, words-each, eachRows, rows-id, rows-one, both, rows-then, rows-double, mixing-block}
-use Rattle.code.proofs.Factors.{level-factors}
+use Rattle.code.proofs.Factors.{LevelFactors, mixing-factors}
 use Rattle.code.proofs.mixing.mix_all.Statement.{statement}
 use Rattle.code.proofs.mixing.mix_all.Tie as tie
 
-record Inv (half₀ : List ℕ) (level k width root : ℕ) (half : List ℕ) (blocks exponent m l : ℕ) : Type 0 where
+record Inv (half₀ : List ℕ) (level k width root : ℕ) (half : List ℕ) (blocks step m l : ℕ) : Type 0 where
   turns : l ≤ level
   within : level ≤ k
-  few : k ≤ 15
+  few : k ≤ 10
   long : length half₀ ≡ 2 ^ level * width
   same : length half ≡ length half₀
   words : Words 65537 half
   blocks-is : blocks ≡ 2 ^ (level - l)
-  exponent-is : exponent ≡ 2 ^ (k - l)
+  step-is : step ≡ 2 ^ (10 - l)
   m-is : m ≡ 2 ^ l
   now : half ≡ eachRows width (2 ^ (level - l)) (2 ^ l) (transform 65537 root k l) half₀
 
@@ -56,10 +55,10 @@ mix-level width root k l b rows h =
     ∙ rows-then width b (m + m) (both t m) f (transform 65537 root k (suc l)) rows h (λ c e. mixed-both root k l c e .0) (λ c e. mixed-both root k l c e .1)
     ∙ ap (λ (n : ℕ). eachRows width b n (transform 65537 root k (suc l)) rows) {x = m + m} {y = 2 ^ suc l} (omega arith)
 
-start : {half₀ : List ℕ} {level k width root blocks exponent : ℕ} → (level ≤ k) × (k ≤ 15) → length half₀ ≡ 2 ^ level * width → Words 65537 half₀
-    → blocks ≡ 2 ^ level → exponent ≡ 2 ^ k → Inv half₀ level k width root half₀ blocks exponent 1 0
+start : {half₀ : List ℕ} {level k width root blocks : ℕ} → (level ≤ k) × (k ≤ 10) → length half₀ ≡ 2 ^ level * width → Words 65537 half₀
+    → blocks ≡ 2 ^ level → Inv half₀ level k width root half₀ blocks 1024 1 0
 unfolding transform
-start {half₀} {level} {k} {width} b e w eb ee = record {
+start {half₀} {level} {k} {width} b e w eb = record {
   turns = omega arith;
   within = b .0;
   few = b .1;
@@ -67,24 +66,23 @@ start {half₀} {level} {k} {width} b e w eb ee = record {
   same = refl;
   words = w;
   blocks-is = rw (sub-zero level) eb;
-  exponent-is = rw (sub-zero k) ee;
+  step-is = refl;
   m-is = refl;
   now = rw (sub-zero level) (sym (rows-id width (2 ^ level) half₀ e));
 }
 
-module _ {half₀ : List ℕ} {level k width root : ℕ} {half : List ℕ} {blocks exponent m l : ℕ} where
+module _ {half₀ : List ℕ} {level k width root : ℕ} {half : List ℕ} {blocks step m l : ℕ} where
   -- the level that a turn mixes
-  level-in : Inv half₀ level k width root half blocks exponent m l → l < level → Level width level l (length half) (blocks / 2) m
+  level-in : Inv half₀ level k width root half blocks step m l → l < level → Level width level l (length half) (blocks / 2) m
   level-in h lt = level-at lt (omega arith) (h .same ∙ h .long) (omega (arith, pow-down lt)) (h .m-is)
 
-  turn : {half′ : List ℕ} {v : ℕ} → Inv half₀ level k width root half blocks exponent m l → l < level → length half′ ≡ length half
-      → v ≡ power 65537 root exponent
+  turn : {half′ : List ℕ} {v : ℕ} → Inv half₀ level k width root half blocks step m l → l < level → length half′ ≡ length half
+      → v ≡ power 65537 root (2 ^ k / 2 ^ l)
       → half′ ≡ eachRows width (blocks / 2) (m + m) (mixedHalves 65537 v m) half
-      → Inv half₀ level k width root half′ (blocks / 2) (exponent / 2) (m * 2) (l + 1)
-  turn {half′} {v} h lt el ev eh =
+      → Inv half₀ level k width root half′ (blocks / 2) (step / 2) (m * 2) (l + 1)
+  turn {half′} {v} h lt el u eh =
       let s : Level width level l (length half) (blocks / 2) m = level-in h lt in
-      let d : 2 ^ (k - l) ≡ 2 ^ (k - suc l) * 2 = pow-down (omega arith) in
-      let u : v ≡ power 65537 root (2 ^ k / 2 ^ l) = level-power 65537 k root l (omega arith) (h .exponent-is) ev in
+      let d : 2 ^ (10 - l) ≡ 2 ^ (10 - suc l) * 2 = pow-down (omega arith) in
       let r : length half ≡ 2 ^ (level - suc l) * ((2 ^ l + 2 ^ l) * width) = rw (s .blocks-is, s .m-is) at (s .rows) in
       rw add-one (record {
         turns = omega arith;
@@ -94,56 +92,54 @@ module _ {half₀ : List ℕ} {level k width root : ℕ} {half : List ℕ} {bloc
         same = el ∙ h .same;
         words = rw eh (words-each 65537 (blocks / 2) _ _ (omega arith) (mixing-block width m v .words) (h .words));
         blocks-is = s .blocks-is;
-        exponent-is = omega arith;
+        step-is = omega arith;
         m-is = omega arith;
         now = eh ∙ rw (s .blocks-is, s .m-is, u, h .now, pow-down lt) (mix-level width root k l (2 ^ (level - suc l)) half₀ (omega arith));
       })
 
-  done : Inv half₀ level k width root half blocks exponent m l → level ≤ l → half ≡ lifted width (2 ^ level) (2 ^ level) (transform 65537 root k level) half₀
+  done : Inv half₀ level k width root half blocks step m l → level ≤ l → half ≡ lifted width (2 ^ level) (2 ^ level) (transform 65537 root k level) half₀
   done h le =
       let d : l ≡ level = omega arith in
       let z : level - level ≡ 0 = omega arith in
       (rw (d, z) at (h .now)) ∙ rows-one width (2 ^ level) (transform 65537 root k level) half₀ (h .long)
 
 abbrev Inv-loop : tie.InvT-loop
-Inv-loop half₀ level k width root blocks₀ exponent₀ m₀ l₀ half blocks exponent m l = Inv half₀ level k width root half blocks exponent m l
+Inv-loop half₀ powers level k width blocks₀ step₀ m₀ l₀ half blocks step m l = Inv half₀ level k width (rootOf fermat k) half blocks step m l
 
 abbrev μ-loop : tie.MeasureT-loop
-μ-loop half₀ level k width root blocks₀ exponent₀ m₀ l₀ half blocks exponent m l = level - l
+μ-loop half₀ powers level k width blocks₀ step₀ m₀ l₀ half blocks step m l = level - l
 
 two-to-requires : tie.Need-two-to-requires Inv-loop μ-loop
 two-to-requires c κs = omega arith
 
-two-to-requires-2 : tie.Need-two-to-requires-2 Inv-loop μ-loop
-two-to-requires-2 c κs = omega arith
-
 loop-holds : tie.Need-loop-holds Inv-loop μ-loop
 loop-holds c =
     let p = c .before .before .before .pre in
-    start (p .0 .within, p .0 .small) (p .1 .0) (p .1 .1) (c .before .two-to .ensures) (c .two-to2 .ensures)
+    start (p .0 .within, p .0 .small) (p .1 .0) (p .1 .1 .1) (c .two-to .ensures)
+
+-- the arguments
+abbrev begin : tie.In-loop Inv-loop μ-loop → tie.Start Inv-loop μ-loop
+begin c = c .before .before .before .before .before
 
 here : (c : tie.In-loop Inv-loop μ-loop)
-    → Level (c .before .before .before .before .before .args .st .width) (c .before .before .before .before .before .args .st .level) (c .before .loop .l)
-    (length (c .before .loop .half)) (c .before .loop .blocks / 2) (c .before .loop .m)
+    → Level (begin c .args .st .width) (begin c .args .st .level) (c .before .loop .l) (length (c .before .loop .half)) (c .before .loop .blocks / 2)
+    (c .before .loop .m)
 here c = level-in (c .before .loop .inv) (c .loop-test .taken)
 
-cast-power : tie.Need-cast-power Inv-loop μ-loop
-cast-power c = omega (arith, pow-mono {i = c .before .before .before .before .before .args .st .k - c .before .loop .l} {j = 16} (omega arith))
-
-power-requires : tie.Need-power-requires Inv-loop μ-loop
-power-requires c κs = c .before .before .before .before .before .pre .0 .rooted .small
+factors : (c : tie.In-loop Inv-loop μ-loop) → let k = begin c .args .st .k in
+    LevelFactors (rootOf fermat k) k (c .before .loop .l) (c .before .loop .m) (c .before .loop .step) (begin c .args .powers .now)
+factors c =
+    let i = c .before .loop .inv in
+    mixing-factors (begin c .pre .1 .1 .0) (omega arith) (i .few) (i .m-is) (i .step-is)
 
 mix-each-requires : tie.Need-mix-each-requires Inv-loop μ-loop
 mix-each-requires c κs =
-    let at-test = c .before .before in
-    let i = at-test .before .loop .inv in
+    let at-test = c .before in
     let s = here at-test in
-    let f =
-    level-factors (at-test .before .before .before .before .before .pre .0 .rooted) (omega arith) (i .exponent-is) (c .before .power .ensures) (i .m-is) in
-    (s .rows, (omega (arith, s .m-few), (omega (arith, s .fits), (f, i .words))))
+    (s .rows, (omega (arith, s .m-few), (omega (arith, s .fits), (factors at-test .rows, at-test .before .loop .inv .words))))
 
 mul-m : tie.Need-mul-m Inv-loop μ-loop
-mul-m c = omega (arith, here (c .before .before .before .before .before) .m-few)
+mul-m c = omega (arith, here (c .before .before .before .before) .m-few)
 
 add-l : tie.Need-add-l Inv-loop μ-loop
 add-l c = omega arith
@@ -154,9 +150,8 @@ loop-less c = omega arith
 loop-again : tie.Need-loop-again Inv-loop μ-loop
 loop-again c =
     let at-each = c .before .before in
-    let at-test = at-each .before .before .before in
-    turn (at-test .before .loop .inv) (at-test .loop-test .taken) (at-each .mix-each .kept .0) (at-each .before .before .power .ensures)
-    (at-each .mix-each .ensures)
+    let at-test = at-each .before .before in
+    turn (at-test .before .loop .inv) (at-test .loop-test .taken) (at-each .mix-each .kept .0) (factors at-test .entry) (at-each .mix-each .ensures)
 
 same-length : tie.Need-same-length Inv-loop μ-loop
 same-length c = c .before .loop .inv .same
@@ -171,10 +166,7 @@ mix-all-spec =
     Inv-loop
     μ-loop
     two-to-requires
-    two-to-requires-2
     loop-holds
-    cast-power
-    power-requires
     mix-each-requires
     mul-m
     add-l

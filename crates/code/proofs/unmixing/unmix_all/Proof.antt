@@ -2,25 +2,26 @@
 use mathlib.Core.Path.{_≡_, refl, sym, ap, _∙_}
 use mathlib.Core.List.{List}
 use Prim.Native.Nat.{ℕ, suc, _+_, _-_, _*_, _/_, _^_, _≤_, _<_}
-use native.Mathlib.Nat.{sub-zero, pow-suc}
+use native.Mathlib.Nat.{sub-zero, pow-suc, div-le-self}
 use native.Mathlib.Omega.{arith}
-use lib.Pow.{pow-mono}
+use lib.Pow.{pow-pos}
 use lib.ListN.{length}
-use Rattle.field.specs.Power.{power}
+use Rattle.field.specs.Power.{power, inverse}
+use Rattle.field.specs.Field.{fermat, rootOf}
 use Rattle.field.specs.Words.{Words}
 use Rattle.code.specs.Rows.{lifted}
 use Rattle.code.specs.Transform.{unmixed, untransform}
 use Rattle.code.proofs.Shapes.{length-unmixed, length-untransform}
-use Rattle.field.proofs.Unity.{level-power}
+use Rattle.field.proofs.Unity.{two-div}
 use Rattle.code.proofs.Blocks.{Level, level-at, pow-down, words-each, eachRows, rows-id, rows-one, both, rows-then, rows-double, unmixing-block}
-use Rattle.code.proofs.Factors.{level-factors}
+use Rattle.code.proofs.Factors.{LevelFactors, unmixing-factors}
 use Rattle.code.proofs.unmixing.unmix_all.Statement.{statement}
 use Rattle.code.proofs.unmixing.unmix_all.Tie as tie
 
 record Inv (half₀ : List ℕ) (level k width root : ℕ) (half : List ℕ) (blocks m left : ℕ) : Type 0 where
   turns : left ≤ level
   within : level ≤ k
-  few : k ≤ 15
+  few : k ≤ 10
   long : length half₀ ≡ 2 ^ level * width
   same : length half ≡ length half₀
   words : Words 65537 half
@@ -41,7 +42,7 @@ unmix-level width root k l b rows rows′ h el e =
     ∙ rows-then width b (m + m) (unmixed 65537 v m) (both t m) (untransform 65537 root k (suc l)) rows h (λ c _. length-unmixed 65537 v m c) (λ c _. refl)
     ∙ ap (λ (n : ℕ). eachRows width b n (untransform 65537 root k (suc l)) rows) {x = m + m} {y = 2 ^ suc l} (omega arith)
 
-start : {half₀ : List ℕ} {level k width root m : ℕ} → (level ≤ k) × (k ≤ 15) → length half₀ ≡ 2 ^ level * width → Words 65537 half₀ → m ≡ 2 ^ level
+start : {half₀ : List ℕ} {level k width root m : ℕ} → (level ≤ k) × (k ≤ 10) → length half₀ ≡ 2 ^ level * width → Words 65537 half₀ → m ≡ 2 ^ level
     → Inv half₀ level k width root half₀ 1 m level
 start {half₀} {level} {k} {width} {root} b e w em =
     let z : level - level ≡ 0 = omega arith in
@@ -65,13 +66,12 @@ module _ {half₀ : List ℕ} {level k width root : ℕ} {half : List ℕ} {bloc
       let p : 2 ^ left ≡ 2 ^ (left - 1) * 2 = ap (λ (n : ℕ). 2 ^ n) s ∙ pow-suc 2 (left - 1) in
       level-at (omega arith) (omega arith) (h .same ∙ h .long) (rw (← s) (h .blocks-is)) (omega arith)
 
-  turn : {half′ : List ℕ} {exponent v : ℕ} → Inv half₀ level k width root half blocks m left → 0 < left → length half′ ≡ length half
-      → exponent ≡ 2 ^ (k - (left - 1)) → v ≡ power 65537 root exponent → half′ ≡ eachRows width blocks (m / 2 + m / 2) (unmixed 65537 v (m / 2)) half
+  turn : {half′ : List ℕ} {v : ℕ} → Inv half₀ level k width root half blocks m left → 0 < left → length half′ ≡ length half
+      → v ≡ power 65537 root (2 ^ k / 2 ^ (left - 1)) → half′ ≡ eachRows width blocks (m / 2 + m / 2) (unmixed 65537 v (m / 2)) half
       → Inv half₀ level k width root half′ (blocks * 2) (m / 2) (left - 1)
-  turn {half′} {exponent} {v} h lt el ee ev eh =
+  turn {half′} {v} h lt el u eh =
       let s : left ≡ suc (left - 1) = omega arith in
       let q : Level width level (left - 1) (length half) blocks (m / 2) = level-in h lt in
-      let u : v ≡ power 65537 root (2 ^ k / 2 ^ (left - 1)) = level-power 65537 k root (left - 1) (omega arith) ee ev in
       let r : length half ≡ blocks * ((2 ^ (left - 1) + 2 ^ (left - 1)) * width) = rw (q .m-is) at (q .rows) in
       record {
         turns = omega arith;
@@ -93,53 +93,58 @@ module _ {half₀ : List ℕ} {level k width root : ℕ} {half : List ℕ} {bloc
       sym (rows-id width blocks half (rw b (h .same ∙ h .long))) ∙ (rw z at (h .rest))
 
 abbrev Inv-loop : tie.InvT-loop
-Inv-loop half₀ back level k width blocks₀ m₀ left₀ half blocks m left = Inv half₀ level k width back half blocks m left
+Inv-loop half₀ powers level k width blocks₀ m₀ left₀ half blocks m left = Inv half₀ level k width (inverse 65537 (rootOf fermat k)) half blocks m left
 
 abbrev μ-loop : tie.MeasureT-loop
-μ-loop half₀ back level k width blocks₀ m₀ left₀ half blocks m left = left
+μ-loop half₀ powers level k width blocks₀ m₀ left₀ half blocks m left = left
 
 two-to-requires : tie.Need-two-to-requires Inv-loop μ-loop
 two-to-requires c κs = omega arith
 
 loop-holds : tie.Need-loop-holds Inv-loop μ-loop
 loop-holds c =
-    let p = c .before .before .pre in
+    let p = c .before .before .before .pre in
     start (p .0 .within, p .0 .small) (p .1 .0) (p .1 .1 .1) (c .two-to .ensures)
 
+-- the arguments
+abbrev begin : tie.In-loop Inv-loop μ-loop → tie.Start Inv-loop μ-loop
+begin c = c .before .before .before .before .before
+
 here : (c : tie.In-loop Inv-loop μ-loop)
-    → Level (c .before .before .before .before .args .st .width) (c .before .before .before .before .args .st .level) (c .before .loop .left - 1)
-    (length (c .before .loop .half)) (c .before .loop .blocks) (c .before .loop .m / 2)
+    → Level (begin c .args .st .width) (begin c .args .st .level) (c .before .loop .left - 1) (length (c .before .loop .half)) (c .before .loop .blocks)
+    (c .before .loop .m / 2)
 here c = level-in (c .before .loop .inv) (c .loop-test .taken)
+
+-- 1024 / 2 ^ l
+step-is : (c : tie.In-loop Inv-loop μ-loop) → 1024 / (c .before .loop .m / 2) ≡ 2 ^ (10 - (c .before .loop .left - 1))
+step-is c =
+    let i = c .before .loop .inv in
+    ap (λ (n : ℕ). 1024 / n) (here c .m-is) ∙ two-div 10 (c .before .loop .left - 1) (omega arith)
+
+factors : (c : tie.In-loop Inv-loop μ-loop) → let k = begin c .args .st .k in
+    LevelFactors (inverse 65537 (rootOf fermat k)) k (c .before .loop .left - 1) (c .before .loop .m / 2) (2048 - 1024 / (c .before .loop .m / 2))
+    (begin c .args .powers .now)
+factors c =
+    let i = c .before .loop .inv in
+    unmixing-factors (begin c .pre .1 .1 .0) (omega arith) (i .few) (here c .m-is) (ap (λ (n : ℕ). 2048 - n) (step-is c))
 
 sub-left : tie.Need-sub-left Inv-loop μ-loop
 sub-left c = omega arith
 
-sub-two-to : tie.Need-sub-two-to Inv-loop μ-loop
-sub-two-to c = omega arith
+div-unmix-each : tie.Need-div-unmix-each Inv-loop μ-loop
+div-unmix-each c = rw (here (c .before) .m-is) (pow-pos _)
 
-two-to-requires-2 : tie.Need-two-to-requires-2 Inv-loop μ-loop
-two-to-requires-2 c κs = omega arith
-
-cast-power : tie.Need-cast-power Inv-loop μ-loop
-cast-power c = omega (
-  arith,
-  c .two-to2 .ensures,
-  pow-mono {i = c .before .before .before .before .before .args .st .k - (c .before .before .loop .left - 1)} {j = 16} (omega arith),
-)
-
-power-requires : tie.Need-power-requires Inv-loop μ-loop
-power-requires c κs = c .before .before .before .before .before .pre .1 .1 .0 .small
+sub-unmix-each : tie.Need-sub-unmix-each Inv-loop μ-loop
+sub-unmix-each c = omega (arith, div-le-self 1024 (c .before .before .loop .m / 2))
 
 unmix-each-requires : tie.Need-unmix-each-requires Inv-loop μ-loop
 unmix-each-requires c κs =
-    let at-test = c .before .before .before in
+    let at-test = c .before in
     let s = here at-test in
-    let root = at-test .before .before .before .before .pre .1 .1 .0 in
-    let f = level-factors root (omega arith) (c .before .before .two-to2 .ensures) (c .before .power .ensures) (s .m-is) in
-    (s .rows, (omega (arith, s .m-few), (omega (arith, s .fits), (f, at-test .before .loop .inv .words))))
+    (s .rows, (omega (arith, s .m-few), (omega (arith, s .fits), (factors at-test .rows, at-test .before .loop .inv .words))))
 
 mul-blocks : tie.Need-mul-blocks Inv-loop μ-loop
-mul-blocks c = omega (arith, here (c .before .before .before .before .before .before) .blocks-few)
+mul-blocks c = omega (arith, here (c .before .before .before .before) .blocks-few)
 
 loop-less : tie.Need-loop-less Inv-loop μ-loop
 loop-less c = omega arith
@@ -147,10 +152,8 @@ loop-less c = omega arith
 loop-again : tie.Need-loop-again Inv-loop μ-loop
 loop-again c =
     let at-each = c .before .before in
-    let at-power = at-each .before .before in
-    let at-test = at-power .before .before in
-    turn (at-test .before .loop .inv) (at-test .loop-test .taken) (at-each .unmix-each .kept .0) (at-power .before .two-to2 .ensures) (at-power .power .ensures)
-    (at-each .unmix-each .ensures)
+    let at-test = at-each .before .before in
+    turn (at-test .before .loop .inv) (at-test .loop-test .taken) (at-each .unmix-each .kept .0) (factors at-test .entry) (at-each .unmix-each .ensures)
 
 same-length : tie.Need-same-length Inv-loop μ-loop
 same-length c = c .before .loop .inv .same
@@ -167,10 +170,8 @@ unmix-all-spec =
     two-to-requires
     loop-holds
     sub-left
-    sub-two-to
-    two-to-requires-2
-    cast-power
-    power-requires
+    div-unmix-each
+    sub-unmix-each
     unmix-each-requires
     mul-blocks
     loop-less
