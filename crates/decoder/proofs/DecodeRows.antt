@@ -212,13 +212,12 @@ module _ {d : Decoding} (s : Sound d) where
   }
 
   module _ {n : ℕ} {part x : List ℕ} where
-    pub after-split : {back : ℕ} → AllRows d n (weighedOf d) part → back ≡ inverse (d .p) (d .w)
-        → x ≡ lifted (d .width) (positionsOf d) (positionsOf d) (Decoder.split (d .p) back (d .k) (d .l) (d .t)) (take n part)
+    pub after-split : AllRows d n (weighedOf d) part
+        → x ≡ lifted (d .width) (positionsOf d) (positionsOf d) (Decoder.split (d .p) (inverse (d .p) (d .w)) (d .k) (d .l) (d .t)) (take n part)
         → AllRows d n (splitOf d) (x ++ drop n part)
-    after-split h eb e =
+    after-split h =
         let w = inverse (d .p) (d .w) in
         next h (record { long = length-split (d .p) (d .l) w (d .k) (d .t); words = words-split (d .p) (positive s) (d .l) w (d .k) (d .t) })
-        (e ∙ ap (λ (b : ℕ). lifted (d .width) (positionsOf d) (positionsOf d) (Decoder.split (d .p) b (d .k) (d .l) (d .t)) (take n part)) eb)
 
     pub after-derive : AllRows d n (splitOf d) part → x ≡ lifted (d .width) (positionsOf d) (positionsOf d) (derived (d .p) (d .l)) (take n part)
         → AllRows d n (derivedOf d) (x ++ drop n part)
@@ -269,13 +268,12 @@ module _ {d : Decoding} (s : Sound d) where
         is = e ∙ ap₂ (λ (y z : List ℕ). y ++ z) q (ap (λ (j : ℕ). drop j part) (sym ei));
       }
 
-  pub after-solve : {i back : ℕ} {rest part x : List ℕ} → Holds d (blocksOf d) i rest (chosenOf d) part → back ≡ inverse (d .p) (d .w)
-      → x ≡ lifted (d .width) (blocksOf d) (blocksOf d) (untransform (d .p) back (d .k) (d .l)) (take i part)
+  pub after-solve : {i : ℕ} {rest part x : List ℕ} → Holds d (blocksOf d) i rest (chosenOf d) part
+      → x ≡ lifted (d .width) (blocksOf d) (blocksOf d) (untransform (d .p) (inverse (d .p) (d .w)) (d .k) (d .l)) (take i part)
       → Holds d (blocksOf d) i rest (solvedOf d) (x ++ drop i part)
-  after-solve {i} {part = part} h eb e =
+  after-solve h =
       let w = inverse (d .p) (d .w) in
       next h (record { long = length-untransform (d .p) w (d .k) (d .l); words = words-untransform (d .p) (positive s) w (d .k) (d .l) })
-      (e ∙ ap (λ (b : ℕ). lifted (d .width) (blocksOf d) (blocksOf d) (untransform (d .p) b (d .k) (d .l)) (take i part)) eb)
 
   -- rows that pass: the blocks stay, and the second half is cleared
   pub after-blocks : {i : ℕ} {before part x : List ℕ} → AllRows d (i + i) (evaluatedOf d) before → HalfRows d i before (solvedOf d) part → isConsistent d ≡ true

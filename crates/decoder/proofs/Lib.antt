@@ -11,6 +11,7 @@ pub mod Folding
 pub mod Half
 pub mod Inverse
 pub mod Points
+pub mod TablePoints
 pub mod Products
 pub mod Proved
 pub mod Survivors

@@ -1,7 +1,8 @@
 -- The promises of specs/Promises and those of the decoder's steps (proofs/Decoder), each proved, under one roof. Assumes nothing.
+use native.Mathlib.Omega.{arith}
 use Rattle.code.specs.declared.Stripe.{Stripe}
-use Rattle.code.specs.Stripe.{Numbers, modulusOf}
-use Rattle.field.proofs.Primes.{fermat-prime}
+use Rattle.code.specs.Stripe.{Numbers, modulusOf, rootIn}
+use Rattle.field.proofs.Primes.{fermat-prime, fermat-root}
 use Rattle.decoder.specs.Promises.{Parameters, FindsBlocks, FoundBlocks, FindsStripe, FoundStripe, Promises}
 use Rattle.decoder.proofs.Points.{points-distinct}
 use Rattle.decoder.proofs.Values.{valuesX, valuesY}
@@ -12,14 +13,14 @@ use Rattle.decoder.proofs.BlockDecoding.{findsBlocks, foundBlocks}
 use Rattle.decoder.proofs.Decoder.{Solves, Low, solves, low}
 
 -- a stripe's numbers are what the promises for any prime ask
-numbered : {st : Stripe} → Numbers st → Parameters (modulusOf st) (st .root) (st .k) (st .level) (st .first)
-numbered n = record { prime = fermat-prime; root = n .rooted; within = n .within; aligned = n .aligned }
+numbered : {st : Stripe} → Numbers st → Parameters (modulusOf st) (rootIn st) (st .k) (st .level) (st .first)
+numbered n = record { prime = fermat-prime; root = fermat-root _ (omega (arith, n .small)); within = n .within; aligned = n .aligned }
 
 findsStripe : FindsStripe
-findsStripe st ms rows bs n = findsBlocks (modulusOf st) (st .root) (st .k) (st .level) (st .first) (st .width) ms rows bs (numbered n)
+findsStripe st ms rows bs n = findsBlocks (modulusOf st) (rootIn st) (st .k) (st .level) (st .first) (st .width) ms rows bs (numbered n)
 
 foundStripe : FoundStripe
-foundStripe st ms rows n = foundBlocks (modulusOf st) (st .root) (st .k) (st .level) (st .first) (st .width) ms rows (numbered n)
+foundStripe st ms rows n = foundBlocks (modulusOf st) (rootIn st) (st .k) (st .level) (st .first) (st .width) ms rows (numbered n)
 
 pub proved : Promises
 proved = record {

@@ -11,7 +11,7 @@ use Rattle.field.specs.Polynomial.{interpolate}
 use Rattle.code.specs.Transform.{reversed, bitReversed}
 use Rattle.code.specs.Rows.{column, lifted}
 use Rattle.code.specs.declared.Stripe.{Stripe}
-use Rattle.code.specs.Stripe.{coded, modulusOf}
+use Rattle.code.specs.Stripe.{coded, modulusOf, rootIn}
 
 -- the positions that survive, of the n from i on
 unfoldable pub survivorsFrom : (marks : List Bool) → (i n : ℕ) → List ℕ
@@ -61,7 +61,7 @@ decodedRows p w k l t width ms r = lifted width (2 ^ suc l) (2 ^ l) (decodedColu
 
 -- A STRIPE BY ITS NUMBERS, its marks and its rows: whether some blocks code to all surviving words, and the blocks
 abbrev pub isConsistent : Stripe → (marks : List Bool) → (rows : List ℕ) → Bool
-isConsistent st ms r = consistent (modulusOf st) (st .root) (st .k) (st .level) (st .first) (st .width) ms r
+isConsistent st ms r = consistent (modulusOf st) (rootIn st) (st .k) (st .level) (st .first) (st .width) ms r
 
 abbrev pub blocksIn : Stripe → (marks : List Bool) → (rows : List ℕ) → List ℕ
-blocksIn st ms r = decodedRows (modulusOf st) (st .root) (st .k) (st .level) (st .first) (st .width) ms r
+blocksIn st ms r = decodedRows (modulusOf st) (rootIn st) (st .k) (st .level) (st .first) (st .width) ms r

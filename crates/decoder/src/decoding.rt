@@ -5,10 +5,11 @@ ghost use mathlib.Core.Path.{_≡_};
 ghost use mathlib.Core.List.{_++_};
 ghost use Prim.Native.Nat.{_+_, _*_, _-_, _^_, _≤_, _<_, suc};
 ghost use lib.ListN.{length, take, drop, replicate};
-ghost use Rattle.field.specs.Field.{fermat, Root};
+ghost use Rattle.field.specs.Power.{inverse};
+ghost use Rattle.field.specs.Field.{fermat, powerTable};
 ghost use Rattle.field.specs.Words.{Words};
 ghost use Rattle.code.specs.Rows.{lifted};
-ghost use Rattle.code.specs.Stripe.{Numbers, modulusOf, blockCount, positionCount, blockWords, stripeWords};
+ghost use Rattle.code.specs.Stripe.{Numbers, modulusOf, rootIn, blockCount, positionCount, blockWords, stripeWords};
 ghost use Rattle.decoder.specs.Decoding.{isConsistent};
 ghost use Rattle.decoder.specs.steps.Decoder.{leftOf};
 ghost use Rattle.decoder.specs.steps.Decoder as Decoder;
@@ -42,19 +43,21 @@ fn weigh(part: &mut [u32], marks: &[bool], level: usize, width: usize)
     }
 }
 
-// Step 2: the inverse transforms of X and of Y, and Y's turned back. `back` is the inverse of the root.
-fn split(part: &mut [u32], st: Stripe, back: u32)
+// Step 2: the inverse transforms of X and of Y, and Y's turned back: the inverse of the root is entry 2048 - 1024 / n of the powers.
+fn split(part: &mut [u32], st: Stripe, powers: &[u32])
     requires { ⌜ Numbers st ⌝ }
     requires { ⌜ length (now part) ≡ stripeWords st ⌝ }
-    requires { ⌜ Root (modulusOf st) (st .k) back ⌝ }
+    requires { ⌜ now powers ≡ powerTable ⌝ }
     requires { ⌜ Words (modulusOf st) (now part) ⌝ }
     ensures { λ _. ⌜ now (part .exit) ≡
-        lifted (st .width) (positionCount st) (positionCount st) (Decoder.split (modulusOf st) back (st .k) (st .level) (st .first)) (now (part .entry)) ⌝ }
+        lifted (st .width) (positionCount st) (positionCount st)
+        (Decoder.split (modulusOf st) (inverse (modulusOf st) (rootIn st)) (st .k) (st .level) (st .first)) (now (part .entry)) ⌝ }
 {
     let half = code::number::two_to(st.level) * st.width;
-    code::unmixing::unmix_all(&mut part[..half], st, back);
-    code::unmixing::unmix_all(&mut part[half..], st, back);
-    code::coding::turn(&mut part[half..], st, back);
+    let back = 2048 - 1024 / code::number::two_to(st.k);
+    code::unmixing::unmix_all(&mut part[..half], st, powers);
+    code::unmixing::unmix_all(&mut part[half..], st, powers);
+    code::coding::turn(&mut part[half..], st, powers, back);
 }
 
 // Whether two rows are equal.
@@ -128,16 +131,17 @@ fn derive(part: &mut [u32], level: usize, width: usize)
 }
 
 // Step 4: both halves transformed.
-fn evaluate(part: &mut [u32], st: Stripe)
+fn evaluate(part: &mut [u32], st: Stripe, powers: &[u32])
     requires { ⌜ Numbers st ⌝ }
     requires { ⌜ length (now part) ≡ stripeWords st ⌝ }
+    requires { ⌜ now powers ≡ powerTable ⌝ }
     requires { ⌜ Words (modulusOf st) (now part) ⌝ }
     ensures { λ _. ⌜ now (part .exit) ≡
-        lifted (st .width) (positionCount st) (positionCount st) (Decoder.evaluated (modulusOf st) (st .root) (st .k) (st .level)) (now (part .entry)) ⌝ }
+        lifted (st .width) (positionCount st) (positionCount st) (Decoder.evaluated (modulusOf st) (rootIn st) (st .k) (st .level)) (now (part .entry)) ⌝ }
 {
     let half = code::number::two_to(st.level) * st.width;
-    code::mixing::mix_all(&mut part[..half], st);
-    code::mixing::mix_all(&mut part[half..], st);
+    code::mixing::mix_all(&mut part[..half], st, powers);
+    code::mixing::mix_all(&mut part[half..], st, powers);
 }
 
 // g times the row at `from`, in the place of the row at `to`.
@@ -154,15 +158,17 @@ fn choose_row(part: &mut [u32], to: usize, from: usize, width: usize, g: u32)
     }
 }
 
-// Step 5: the first half becomes the polynomial's values at the points of X, from the second half where the position is erased.
-fn choose(part: &mut [u32], marks: &[bool], st: Stripe)
+// Step 5: the first half becomes the polynomial's values at the points of X, from the second half where the position is erased. The points of X stand
+// 2048 / 2^level apart in the powers.
+fn choose(part: &mut [u32], marks: &[bool], st: Stripe, powers: &[u32])
     requires { ⌜ Numbers st ⌝ }
     requires { ⌜ positionCount st ≤ length (now marks) ⌝ }
     requires { ⌜ length (now part) ≡ stripeWords st + positionCount st ⌝ }
+    requires { ⌜ now powers ≡ powerTable ⌝ }
     requires { ⌜ Words (modulusOf st) (now part) ⌝ }
     ensures { λ _. ⌜ now (part .exit) ≡
         lifted (st .width) (positionCount st) (blockCount st)
-        (Decoder.chosen (modulusOf st) (st .root) (st .k) (st .level) (now (marks .entry)) (drop (stripeWords st) (now (part .entry))))
+        (Decoder.chosen (modulusOf st) (rootIn st) (st .k) (st .level) (now (marks .entry)) (drop (stripeWords st) (now (part .entry))))
         (take (stripeWords st) (now (part .entry))) ++
         drop (blockWords st) (now (part .entry)) ⌝ }
 {
@@ -170,19 +176,18 @@ fn choose(part: &mut [u32], marks: &[bool], st: Stripe)
     let level = st.level;
     let k = st.k;
     let width = st.width;
-    let root = st.root;
     let rows = code::number::two_to(level);
     let half = rows * width;
     let base = half + half;
     let square = field::mul(rows as u32, rows as u32);
-    let u = field::power(root, code::number::two_to(k - level) as u32);
+    let step = 2048 / rows;
     let mut at = 0;
     for i in 0..rows {
         let x = base + i;
         let mut d = part[x];
         let mut from = at;
         if marks[i] {
-            d = field::mul(field::power(u, (2 * i) as u32), d);
+            d = field::mul(powers[i * step], d);
             from = half + at;
         }
         choose_row(part, at, from, width, field::inverse(field::mul(square, d)));
@@ -233,18 +238,18 @@ pub fn decode(part: &mut [u32], marks: &[bool], st: Stripe) -> bool
     let rows = code::number::two_to(level);
     let half = rows * width;
     let all = half + half;
-    let back = field::inverse(st.root);
+    let powers = code::table::powers();
     weigh(part, marks, level, width);
-    split(&mut part[..all], st, back);
+    split(&mut part[..all], st, &powers);
     let erased = count_erased(marks, level);
     if !is_low(&part[..all], level, width, erased) {
         clear(part, 0, all);
         return false;
     }
     derive(&mut part[..all], level, width);
-    evaluate(&mut part[..all], st);
-    choose(part, marks, st);
-    code::unmixing::unmix_all(&mut part[..half], st, back);
+    evaluate(&mut part[..all], st, &powers);
+    choose(part, marks, st, &powers);
+    code::unmixing::unmix_all(&mut part[..half], st, &powers);
     clear(part, half, all);
     true
 }

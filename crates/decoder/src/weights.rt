@@ -4,33 +4,34 @@ ghost use mathlib.Core.Path.{_≡_};
 ghost use mathlib.Core.List.{_++_};
 ghost use Prim.Native.Nat.{_+_, _-_, _≤_, _<_};
 ghost use lib.ListN.{length, take, drop, replicate};
-ghost use Rattle.field.specs.Field.{fermat};
+ghost use Rattle.field.specs.Field.{fermat, powerTable};
 ghost use Rattle.field.specs.Words.{Words, table};
 ghost use Rattle.decoder.specs.Decoding.{pointAt};
 ghost use Rattle.decoder.specs.steps.Decoder.{weightsIn};
-ghost use Rattle.code.specs.Stripe.{Numbers, modulusOf, positionCount};
+ghost use Rattle.code.specs.Stripe.{Numbers, modulusOf, rootIn, positionCount};
 ghost use Rattle.code.specs.steps.Storing.{weighedBy};
 
-// Stores the points of all positions at the start: those of X, then those of Y.
-fn points(part: &mut [u32], st: Stripe)
+// Stores the points of all positions at the start: those of X, then those of Y. With u the root of 2^level records, entry 1024 / 2^level of the powers, they
+// are u^(2i) and u^(2i+1).
+fn points(part: &mut [u32], st: Stripe, powers: &[u32])
     requires { ⌜ Numbers st ⌝ }
     requires { ⌜ positionCount st ≤ length (now part) ⌝ }
+    requires { ⌜ now powers ≡ powerTable ⌝ }
     ensures { λ _. ⌜ now (part .exit) ≡
-        table (positionCount st) (pointAt (modulusOf st) (st .root) (st .k) (st .level)) ++ drop (positionCount st) (now (part .entry)) ⌝ }
+        table (positionCount st) (pointAt (modulusOf st) (rootIn st) (st .k) (st .level)) ++ drop (positionCount st) (now (part .entry)) ⌝ }
 {
     // locals of their own, since the loop's invariant speaks of them
     let level = st.level;
     let k = st.k;
-    let root = st.root;
     let half = code::number::two_to(level);
-    let u = field::power(root, code::number::two_to(k - level) as u32);
-    let v = field::mul(u, u);
-    let mut x: u32 = 1;
+    let step = 1024 / half;
+    let mut e = 0;
     for i in 0..half {
         let to = half + i;
-        part[i] = x;
-        part[to] = field::mul(u, x);
-        x = field::mul(v, x);
+        let odd = e + step;
+        part[i] = powers[e];
+        part[to] = powers[odd];
+        e = odd + step;
     }
 }
 
@@ -70,17 +71,17 @@ pub fn weights(part: &mut [u32], marks: &[bool], st: Stripe)
     requires { ⌜ positionCount st ≤ length (now marks) ⌝ }
     requires { ⌜ positionCount st + positionCount st ≤ length (now part) ⌝ }
     ensures { λ _. ⌜ now (part .exit) ≡
-        table (positionCount st) (pointAt (modulusOf st) (st .root) (st .k) (st .level)) ++
+        table (positionCount st) (pointAt (modulusOf st) (rootIn st) (st .k) (st .level)) ++
         take (length (now (part .entry)) - (positionCount st + positionCount st)) (drop (positionCount st) (now (part .entry))) ++
         weightsIn st (now (marks .entry)) ⌝ }
 {
     // locals of their own, since the loop's invariant speaks of them
     let level = st.level;
     let k = st.k;
-    let root = st.root;
     let count = code::number::two_to(level + 1);
     let base = part.len() - count;
-    points(part, st);
+    let powers = code::table::powers();
+    points(part, st, &powers);
     ones(part, base, count);
     for j in 0..count {
         if marks[j] {

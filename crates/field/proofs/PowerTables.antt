@@ -4,7 +4,7 @@ use mathlib.Core.Path.{_≡_, refl, sym, ap, ap₂, _∙_}
 use mathlib.Core.Bool.{Bool, true, false}
 use mathlib.Core.List.{List, [], _∷_}
 use Prim.Native.Nat.{ℕ, zero, suc, _+_, _*_, _-_, _/_, _%_, _^_, _≤_, _<_}
-use native.Mathlib.Nat.{mul-comm, mul-assoc, mul-div-cancel, mod-lt, div-add-mod}
+use native.Mathlib.Nat.{mul-comm, mul-assoc, mul-div-cancel, mod-lt, mod-eq-of-lt, div-add-mod}
 use native.Mathlib.Omega.{arith}
 use lib.Dec.{T, eqb, eqb→eq}
 use lib.Pow.{pow-pos, pow-add, pow-mono}
@@ -131,6 +131,10 @@ length-table-of-powers = length-powers 65537 (power 65537 3 32) 2048
 
 pub table-power : (s i : ℕ) → s < 2048 → getD powerTable (i * s % 2048) 0 ≡ power 65537 (getD powerTable s 0) i
 table-power s i b = rw table-is (entry-power 65537 10 (rootOf fermat 10) fermat-prime (fermat-root 10 (omega arith)) s i b)
+
+-- the same where the table is not left
+pub table-step : (s i : ℕ) → s < 2048 → i * s < 2048 → getD powerTable (i * s) 0 ≡ power 65537 (getD powerTable s 0) i
+table-step s i b h = ap (λ (e : ℕ). getD powerTable e 0) (sym (mod-eq-of-lt h)) ∙ table-power s i b
 
 -- the root of 2 ^ k records is entry 1024 / n
 pub table-root : (k : ℕ) → k ≤ 10 → getD powerTable (2 ^ (10 - k)) 0 ≡ rootOf fermat k

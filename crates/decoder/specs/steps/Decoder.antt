@@ -11,7 +11,7 @@ use Rattle.field.specs.Power.{inverse}
 use Rattle.field.specs.Words.{table}
 use Rattle.code.specs.Transform.{transform, untransform, turned, reversed}
 use Rattle.code.specs.declared.Stripe.{Stripe}
-use Rattle.code.specs.Stripe.{modulusOf}
+use Rattle.code.specs.Stripe.{modulusOf, rootIn}
 use Rattle.decoder.specs.Decoding.{survivors, pointAt, consistent, decodedRows}
 
 -- how many positions are erased
@@ -32,7 +32,7 @@ abbrev pub weights : (p w k level : ℕ) → (marks : List Bool) → List ℕ
 weights p w k l ms = table (2 ^ suc l) (weightAt p w k l ms)
 
 abbrev pub weightsIn : Stripe → (marks : List Bool) → List ℕ
-weightsIn st ms = weights (modulusOf st) (st .root) (st .k) (st .level) ms
+weightsIn st ms = weights (modulusOf st) (rootIn st) (st .k) (st .level) ms
 
 -- 1. R's values, but for Y's factor w^rev(first): the words times their weights, 0 at erased positions
 unfoldable pub weighedAt : (p : ℕ) → (marks : List Bool) → (ws c : List ℕ) → (i : ℕ) → ℕ
@@ -100,4 +100,4 @@ rowsLeft p w k l t width ms r =
     ]
 
 abbrev pub leftOf : Stripe → (marks : List Bool) → (rows : List ℕ) → List ℕ
-leftOf st ms r = rowsLeft (modulusOf st) (st .root) (st .k) (st .level) (st .first) (st .width) ms r
+leftOf st ms r = rowsLeft (modulusOf st) (rootIn st) (st .k) (st .level) (st .first) (st .width) ms r

@@ -1,36 +1,40 @@
 -- `decoder::decoding::choose` meets its contract. The invariant: the first i rows are written. Assumes nothing.
-use mathlib.Core.Path.{_≡_, sym, ap, _∙_}
+use mathlib.Core.Path.{_≡_, refl, sym, ap, _∙_}
 use mathlib.Core.Bool.{Bool, true, false}
 use mathlib.Core.List.{List}
 use mathlib.Core.Logic.{⊎-elim}
 use Prim.Native.Nat.{ℕ, suc, _+_, _*_, _-_, _/_, _^_, _≤_, _<_}
+use native.Mathlib.Nat.{pow-succ'}
 use native.Mathlib.Omega.{arith}
 use lib.Arith.{digits-div}
 use lib.Dec.{lit<}
 use lib.ListN.{length, getD, drop}
-use lib.Pow.{pow-mono}
+use lib.Pow.{pow-mono, pow-pos}
 use lib.Seq.{getD-drop}
 use Rattle.field.specs.Residue.{times}
-use Rattle.field.specs.Power.{power, inverse}
+use Rattle.field.specs.Power.{inverse}
+use Rattle.field.specs.Field.{fermat, rootOf}
 use Rattle.field.specs.Words.{Words}
-use Rattle.field.proofs.Unity.{level-power}
-use Rattle.field.proofs.Powers.{power-lt, inverse-lt}
+use Rattle.field.proofs.Unity.{two-div}
+use Rattle.field.proofs.Powers.{inverse-lt}
+use Rattle.field.proofs.PowerTables.{length-table-of-powers}
 use Rattle.decoder.specs.Decoding.{pointAt}
 use Rattle.decoder.specs.steps.Decoder.{divisorAt}
 use Rattle.code.specs.steps.Storing.{stored, scaledWord}
 use Rattle.field.proofs.Laws.{times-lt}
 use Rattle.code.proofs.Lifting.{two-halves}
 use Rattle.code.proofs.RowLaws.{StoringRows, storing-rows-start, storing-rows-room, storing-rows-rest, storing-rows-words, storing-rows-turn, storing-rows-done}
-use Rattle.decoder.proofs.Points.{point-low}
+use Rattle.decoder.proofs.Points.{point-lt}
+use Rattle.decoder.proofs.TablePoints.{points-in, even-point}
 use Rattle.decoder.proofs.DecodeSteps.{chooseWord, choose-rows}
 use Rattle.decoder.proofs.decoding.choose.Statement.{statement}
 use Rattle.decoder.proofs.decoding.choose.Tie as tie
 
-record Inv (part₀ : List ℕ) (marks : List Bool) (level k width root rows square u : ℕ) (part : List ℕ) (at i : ℕ) : Type 0 where
+record Inv (part₀ : List ℕ) (marks : List Bool) (level k width root rows square step : ℕ) (part : List ℕ) (at i : ℕ) : Type 0 where
   rows-is : rows ≡ 2 ^ level
   long : length part₀ ≡ rows * width + rows * width + (rows + rows)
   square-is : square ≡ times 65537 (2 ^ level) (2 ^ level)
-  u-is : u ≡ power 65537 root (2 ^ k / 2 ^ level)
+  step-is : step ≡ 2 * 2 ^ (10 - level)
   words₀ : Words 65537 part₀
   storing : StoringRows 0 (chooseWord 65537 root k level width marks part₀) rows width part₀ part at i
 
@@ -43,8 +47,8 @@ record Picked (part₀ : List ℕ) (marks : List Bool) (level k width root rows 
   read : (c : ℕ) → c < width
       → getD part (from + c) 0 ≡ elim (getD marks i false) [ true ↦ getD part₀ (2 ^ level * width + (i * width + c)) 0 | false ↦ getD part₀ (i * width + c) 0 ]
 
-module _ {part₀ : List ℕ} {marks : List Bool} {level k width root rows square u : ℕ} {part : List ℕ} {at i : ℕ}
-    (h : Inv part₀ marks level k width root rows square u part at i) (l : i < rows) where
+module _ {part₀ : List ℕ} {marks : List Bool} {level k width root rows square step : ℕ} {part : List ℕ} {at i : ℕ}
+    (h : Inv part₀ marks level k width root rows square step part at i) (l : i < rows) where
   room : at + width ≤ rows * width
   room = omega (arith, storing-rows-room (h .storing) l)
 
@@ -62,18 +66,16 @@ module _ {part₀ : List ℕ} {marks : List Bool} {level k width root rows squar
   word : (a b : ℕ) → at ≤ a → a ≡ b → getD part a 0 ≡ getD part₀ b 0
   word a b le e = storing-rows-rest (h .storing) a le ∙ ap (λ (q : ℕ). getD part₀ q 0) e
 
-  erased : {e d from : ℕ} → getD marks i false ≡ true → e ≡ power 65537 u (2 * i) → d ≡ times 65537 e (getD part (rows * width + rows * width + i) 0)
+  erased : {e d from : ℕ} → getD marks i false ≡ true → e ≡ pointAt 65537 root k level i → d ≡ times 65537 e (getD part (rows * width + rows * width + i) 0)
       → from ≡ rows * width + at
       → Picked part₀ marks level k width root rows square part at i d from
   unfolding divisorAt
   erased {e} {from} m ee ed ef =
-      let point : pointAt 65537 root k level i ≡ power 65537 u (2 * i) =
-      point-low 65537 root k level i (rw (← h .rows-is) l) ∙ ap (λ (v : ℕ). power 65537 v (2 * i)) (sym (h .u-is)) in
       record {
         small = rw ed (times-lt 65537 (lit< tt) e (getD part (rows * width + rows * width + i) 0));
         low = omega arith;
         within = omega (arith, room);
-        divisor = rw (m, h .square-is, ed, weight, ee, point);
+        divisor = rw (m, h .square-is, ed, weight, ee);
         read = λ c t. rw m (word (from + c) (2 ^ level * width + (i * width + c)) (omega arith)
             (omega (arith, h .storing .at-is, ap (λ (n : ℕ). n * width) (h .rows-is))));
       }
@@ -90,13 +92,13 @@ module _ {part₀ : List ℕ} {marks : List Bool} {level k width root rows squar
   }
 
   turn : {d from g : ℕ} {part′ : List ℕ} → Picked part₀ marks level k width root rows square part at i d from → g ≡ inverse 65537 (times 65537 square d)
-      → part′ ≡ stored at (scaledWord 65537 from g part) width part → Inv part₀ marks level k width root rows square u part′ (at + width) (i + 1)
+      → part′ ≡ stored at (scaledWord 65537 from g part) width part → Inv part₀ marks level k width root rows square step part′ (at + width) (i + 1)
   unfolding scaledWord chooseWord
   turn p eg e = record {
     rows-is = h .rows-is;
     long = h .long;
     square-is = h .square-is;
-    u-is = h .u-is;
+    step-is = h .step-is;
     words₀ = h .words₀;
     storing = storing-rows-turn (h .storing) _ l e
         (λ c t. rw (
@@ -107,45 +109,68 @@ module _ {part₀ : List ℕ} {marks : List Bool} {level k width root rows squar
   }
 
 abbrev Inv-loop : tie.InvT-loop
-Inv-loop part₀ marks level k width root rows half base square u at₀ i₀ part at i = Inv part₀ marks level k width root rows square u part at i
+Inv-loop part₀ marks powers level k width rows half base square step at₀ i₀ part at i =
+    Inv part₀ marks level k width (rootOf fermat k) rows square step part at i
 
 abbrev μ-loop : tie.MeasureT-loop
-μ-loop part₀ marks level k width root rows half base square u at₀ i₀ part at i = rows - i
+μ-loop part₀ marks powers level k width rows half base square step at₀ i₀ part at i = rows - i
 
 -- PLACES: `x-at-y c` is the place x that stands before y
-abbrev start-at-power : tie.After-power Inv-loop μ-loop → tie.Start Inv-loop μ-loop
-start-at-power c = c .before .before .before .before .before .before
+abbrev start-at-two-to : tie.After-two-to Inv-loop μ-loop → tie.Start Inv-loop μ-loop
+start-at-two-to c = c .before .before .before .before
 
-abbrev two-to-at-at-loop : tie.At-loop Inv-loop μ-loop → tie.After-two-to Inv-loop μ-loop
-two-to-at-at-loop c = c .before .before .before .before
+abbrev start-at-mul : tie.After-mul Inv-loop μ-loop → tie.Start Inv-loop μ-loop
+start-at-mul c = start-at-two-to (c .before)
 
-abbrev mul-at-in-loop : tie.In-loop Inv-loop μ-loop → tie.After-mul Inv-loop μ-loop
-mul-at-in-loop c = c .before .before .before .before
+abbrev in-loop-at-then : tie.Then1 Inv-loop μ-loop → tie.In-loop Inv-loop μ-loop
+in-loop-at-then c = c .before .before .before
 
 abbrev in-loop-at-mul3 : tie.After-mul3 Inv-loop μ-loop → tie.In-loop Inv-loop μ-loop
 in-loop-at-mul3 c = c .before .before .before .before .before
 
 -- the count of rows, and the length
+both-halves : (l width : ℕ) {n m : ℕ} → n ≡ 2 ^ l → m ≡ 2 ^ suc l * width + 2 ^ suc l → m ≡ n * width + n * width + (n + n)
+both-halves l width e q = q ∙ rw e (omega (arith, two-halves l width))
+
 small : (c : tie.After-two-to Inv-loop μ-loop) → c .two-to .result ≤ 32768
-small c = omega (arith, c .two-to .ensures, pow-mono {i = c .before .before .before .args .st .level} {j = 15} (omega arith))
+small c = omega (arith, c .two-to .ensures, pow-mono {i = start-at-two-to c .args .st .level} {j = 15} (omega arith))
 
 long : (c : tie.After-two-to Inv-loop μ-loop) → let n = c .two-to .result in
-    let a = c .before .before .before .args in length (a .part .now) ≡ n * a .st .width + n * a .st .width + (n + n)
-long c =
-    let a = c .before .before .before .args in
-    let e : length (a .part .now) ≡ 2 ^ suc (a .st .level) * a .st .width + 2 ^ suc (a .st .level) = c .before .before .before .pre .1 .1 .0 in
-    e ∙ rw (c .two-to .ensures) (omega (arith, two-halves (a .st .level) (a .st .width)))
+    let a = start-at-two-to c .args in length (a .part .now) ≡ n * a .st .width + n * a .st .width + (n + n)
+long c = both-halves _ _ (c .two-to .ensures) (start-at-two-to c .pre .1 .1 .0)
+
+-- the point of position i, and where it stands in the table: i times twice the entry of u
+module _ (c : tie.In-loop Inv-loop μ-loop) where
+  abbrev begin : tie.Start Inv-loop μ-loop
+  begin = start-at-mul (c .before .before)
+
+  abbrev place : ℕ
+  place = c .before .loop .i * (2048 / c .before .before .before .two-to .result)
+
+  place-is : place ≡ 2 * c .before .loop .i * 2 ^ (10 - begin .args .st .level)
+  place-is = let h = c .before .loop .inv in ap (λ (n : ℕ). c .before .loop .i * n) (h .step-is) ∙ omega arith
+
+  below : c .before .loop .i < 2 ^ begin .args .st .level
+  below = rw (← c .before .loop .inv .rows-is) (c .loop-test .taken)
+
+  place-in : place < 2048
+  place-in = rw place-is (omega (arith, points-in (begin .pre .1 .1 .1 .0) (begin .pre .0 .within) (begin .pre .0 .small) refl below))
+
+  point-there : getD (begin .args .powers .now) place 0 ≡ pointAt 65537 (rootOf fermat (begin .args .st .k)) (begin .args .st .k) (begin .args .st .level)
+      (c .before .loop .i)
+  point-there =
+      ap (λ (n : ℕ). getD (begin .args .powers .now) n 0) place-is ∙ even-point (begin .pre .1 .1 .1 .0) (begin .pre .0 .within) (begin .pre .0 .small) refl below
 
 picked : (c : tie.Joined1 Inv-loop μ-loop) → let loop = c .before .before .before .before in
-    let mul = loop .before .before .before in
-    let a = mul .before .before .before .before .args in
-    Picked (a .part .now) (a .marks .now) (a .st .level) (a .st .k) (a .st .width) (a .st .root) (mul .before .two-to .result) (mul .mul .result)
+    let mul = loop .before in
+    let a = start-at-mul mul .args in
+    Picked (a .part .now) (a .marks .now) (a .st .level) (a .st .k) (a .st .width) (rootOf fermat (a .st .k)) (mul .before .two-to .result) (mul .mul .result)
     (loop .loop .part) (loop .loop .at) (loop .loop .i) (c .if1 .d) (c .if1 .from)
 picked c =
     let at = c .before .before .before in
     let h = at .before .loop .inv in
     let l = at .loop-test .taken in
-    ⊎-elim (λ w. erased h l (w .0 .taken) (w .1 .ensures) (w .3 ∙ w .2 .ensures) (w .4)) (λ w. survives h l (w .0 .left) (w .1) (w .2)) (c .if1 .came)
+    ⊎-elim (λ w. erased h l (w .0 .taken) (point-there at) (w .3 ∙ w .2 .ensures) (w .4)) (λ w. survives h l (w .0 .left) (w .1) (w .2)) (c .if1 .came)
 
 two-to-requires : tie.Need-two-to-requires Inv-loop μ-loop
 two-to-requires c κs = omega arith
@@ -165,31 +190,23 @@ cast-mul-2 c = omega (arith, small c)
 mul-requires : tie.Need-mul-requires Inv-loop μ-loop
 mul-requires c κs = (omega (arith, small c), omega (arith, small c))
 
-sub-two-to : tie.Need-sub-two-to Inv-loop μ-loop
-sub-two-to c = omega arith
-
-two-to-requires-2 : tie.Need-two-to-requires-2 Inv-loop μ-loop
-two-to-requires-2 c κs = omega arith
-
-cast-power : tie.Need-cast-power Inv-loop μ-loop
-cast-power c =
-    let a = c .before .before .before .before .before .args in omega (arith, c .two-to2 .ensures, pow-mono {i = a .st .k - a .st .level} {j = 15} (omega arith))
-
-power-requires : tie.Need-power-requires Inv-loop μ-loop
-power-requires c κs = c .before .before .before .before .before .pre .0 .rooted .small
+div-step : tie.Need-div-step Inv-loop μ-loop
+div-step c = rw (c .before .two-to .ensures) (pow-pos _)
 
 loop-holds : tie.Need-loop-holds Inv-loop μ-loop
 loop-holds c =
-    let two = c .before .before .before in
-    let s = two .before .before .before in
+    let two = c .before in
+    let s = start-at-two-to two in
     let a = s .args in
+    let l = a .st .level in
     record {
       rows-is = two .two-to .ensures;
       long = long two;
-      square-is = c .before .before .mul .ensures ∙ rw (two .two-to .ensures);
-      u-is = level-power 65537 (a .st .k) (a .st .root) (a .st .level) (s .pre .0 .within) (c .before .two-to2 .ensures) (c .power .ensures);
-      words₀ = s .pre .1 .1 .1;
-      storing = storing-rows-start 0 (chooseWord 65537 (a .st .root) (a .st .k) (a .st .level) (a .st .width) (a .marks .now) (a .part .now))
+      square-is = c .mul .ensures ∙ rw (two .two-to .ensures);
+      step-is = ap (λ (n : ℕ). 2048 / n) (two .two-to .ensures) ∙ two-div 11 l (omega (arith, s .pre .0 .within, s .pre .0 .small))
+          ∙ ap (λ (n : ℕ). 2 ^ n) {x = 11 - l} {y = suc (10 - l)} (omega (arith, s .pre .0 .within, s .pre .0 .small)) ∙ pow-succ' 2 (10 - l);
+      words₀ = s .pre .1 .1 .1 .1;
+      storing = storing-rows-start 0 (chooseWord 65537 (rootOf fermat (a .st .k)) (a .st .k) (a .st .level) (a .st .width) (a .marks .now) (a .part .now))
           (two .two-to .result) (a .st .width) (a .part .now);
     }
 
@@ -204,32 +221,35 @@ slice-read-d c = let h = c .before .before .loop .inv in omega (arith, h .long, 
 
 shared-slice-read-if1 : tie.Need-shared-slice-read-if1 Inv-loop μ-loop
 shared-slice-read-if1 c =
-    let s = start-at-power (c .before .before .before .before) in
+    let s = begin (c .before .before) in
     let e : 2 ^ suc (s .args .st .level) ≤ length (s .args .marks .now) = s .pre .1 .0 in
     omega (arith, c .before .before .before .loop .inv .rows-is)
 
-mul-power : tie.Need-mul-power Inv-loop μ-loop
-mul-power c = omega (arith, small (two-to-at-at-loop (c .before .before .before .before)))
+mul-mul : tie.Need-mul-mul Inv-loop μ-loop
+mul-mul c = omega (arith, place-in (in-loop-at-then c))
 
-cast-power-2 : tie.Need-cast-power-2 Inv-loop μ-loop
-cast-power-2 c = omega (arith, small (two-to-at-at-loop (c .before .before .before .before)))
+mul-mul-2 : tie.Need-mul-mul-2 Inv-loop μ-loop
+mul-mul-2 c = omega (arith, place-in (in-loop-at-then c))
 
-power-requires-2 : tie.Need-power-requires-2 Inv-loop μ-loop
-power-requires-2 c κs = rw (c .before .before .before .before .before .power .ensures) (power-lt 65537 (lit< tt) _ _)
+read-mul : tie.Need-shared-slice-read-mul Inv-loop μ-loop
+read-mul c =
+    let at = in-loop-at-then (c .before) in
+    omega (arith, place-in at, ap length (begin at .pre .1 .1 .1 .0) ∙ length-table-of-powers)
 
 mul-requires-2 : tie.Need-mul-requires-2 Inv-loop μ-loop
 mul-requires-2 c κs =
-    let at = c .before .before .before .before in
-    (rw (c .power2 .ensures) (power-lt 65537 (lit< tt) _ _), words (at .before .loop .inv) (at .loop-test .taken) .word _)
+    let at = in-loop-at-then (c .before) in
+    let s = begin at in
+    (rw (point-there at) (point-lt 65537 _ _ _ (lit< tt) _), words (at .before .loop .inv) (at .loop-test .taken) .word _)
 
 add-from : tie.Need-add-from Inv-loop μ-loop
 add-from c =
-    let at = c .before .before .before .before .before in
+    let at = in-loop-at-then (c .before .before) in
     let h = at .before .loop .inv in
     omega (arith, room h (at .loop-test .taken), h .long)
 
 mul-requires-3 : tie.Need-mul-requires-3 Inv-loop μ-loop
-mul-requires-3 c κs = (rw (mul-at-in-loop (c .before .before .before .before) .mul .ensures) (times-lt 65537 (lit< tt) _ _), picked (c .before) .small)
+mul-requires-3 c κs = (rw (c .before .before .before .before .before .before .mul .ensures) (times-lt 65537 (lit< tt) _ _), picked (c .before) .small)
 
 inverse-requires : tie.Need-inverse-requires Inv-loop μ-loop
 inverse-requires c κs = rw (c .mul3 .ensures) (times-lt 65537 (lit< tt) _ _)
@@ -269,10 +289,10 @@ same-length c = c .before .loop .inv .storing .same
 returns : tie.Need-returns Inv-loop μ-loop
 returns c =
     let h = c .before .loop .inv in
-    let s = start-at-power (c .before .before) in
+    let s = start-at-mul (c .before .before) in
     let a = s .args in
     storing-rows-done (h .storing) (c .loop-test .left)
-    ∙ rw (h .rows-is) (choose-rows 65537 (a .st .root) (a .st .k) (a .st .level) (a .st .width) (a .marks .now) (a .part .now) (omega (arith, s .pre .1 .1 .0)))
+    ∙ rw (h .rows-is) (choose-rows 65537 (rootOf fermat (a .st .k)) (a .st .k) (a .st .level) (a .st .width) (a .marks .now) (a .part .now) (omega (arith, s .pre .1 .1 .0)))
 
 pub choose-spec : {M : Type 1} → statement M
 choose-spec =
@@ -286,18 +306,15 @@ choose-spec =
     cast-mul
     cast-mul-2
     mul-requires
-    sub-two-to
-    two-to-requires-2
-    cast-power
-    power-requires
+    div-step
     loop-holds
     add-x
     mul-d
     slice-read-d
     shared-slice-read-if1
-    mul-power
-    cast-power-2
-    power-requires-2
+    mul-mul
+    mul-mul-2
+    read-mul
     mul-requires-2
     add-from
     mul-requires-3

@@ -8,17 +8,15 @@ use borrow.Author.Tests.{not-true, not-false}
 use lib.Dec.{lit<}
 use lib.ListN.{length, take, drop}
 use Rattle.field.specs.Words.{Words}
-use Rattle.field.proofs.Primes.{fermat-prime}
-use Rattle.field.specs.Field.{Root}
-use Rattle.field.proofs.Primes.{fermat-prime}
-use Rattle.field.proofs.Unity.{root-back}
+use Rattle.field.proofs.Primes.{fermat-prime, fermat-root}
+use Rattle.field.proofs.PowerTables.{length-table-of-powers}
 use Rattle.field.proofs.WordLists.{words-take, words-drop, length-table}
 use Rattle.code.proofs.Lifting.{two-halves}
 use Rattle.decoder.proofs.DecodeRows.{Decoding, Sound, AllRows, HalfRows, isConsistent, weightsOf, weighedOf, splitOf, derivedOf, evaluatedOf}
 use Rattle.decoder.proofs.DecodeRows.{chosenOf, solvedOf, fits, counted, sized, words-lent, words-part, length-holds, length-half, after-weigh}
 use Rattle.decoder.proofs.DecodeRows.{after-split, check-is, after-refusal, after-derive, after-evaluate, after-choose, after-solve, after-blocks}
 use Rattle.code.specs.declared.Stripe.{Stripe}
-use Rattle.code.specs.Stripe.{positionCount, blockWords, stripeWords}
+use Rattle.code.specs.Stripe.{rootIn, positionCount, blockWords, stripeWords}
 use Rattle.decoder.proofs.decoding.decode.Statement.{statement}
 use Rattle.decoder.proofs.decoding.decode.Tie as tie
 
@@ -28,7 +26,7 @@ decoding c =
     let st = c .args .st in
     record {
       p = 65537;
-      w = st .root;
+      w = rootIn st;
       k = st .k;
       l = st .level;
       t = st .first;
@@ -40,7 +38,7 @@ decoding c =
 
 sound : (c : tie.Start) → Sound (decoding c)
 sound c = record {
-  stripe = record { prime = fermat-prime; root = c .pre .0 .rooted; within = c .pre .0 .within; aligned = c .pre .0 .aligned };
+  stripe = record { prime = fermat-prime; root = fermat-root _ (omega (arith, c .pre .0 .small)); within = c .pre .0 .within; aligned = c .pre .0 .aligned };
   enough = c .pre .1 .0 .1;
   words = words-take 65537 (lit< tt) (stripeWords (c .args .st)) (c .pre .1 .1 .1 .0);
 }
@@ -72,9 +70,6 @@ all-is c = ap₂ _+_ (half-is c) (half-is c) ∙ sym (two-halves (stripe c .leve
 total : (c : tie.After-two-to) → length (start c .args .part .now) ≡ half c + half c + positionCount (stripe c)
 total c = start c .pre .1 .1 .0 ∙ ap (λ (n : ℕ). n + positionCount (stripe c)) (sym (all-is c))
 
-back-root : (c : tie.After-inverse) → Root 65537 (stripe (c .before) .k) (c .inverse .result)
-back-root c = rw (c .inverse .ensures) (root-back 65537 _ _ fermat-prime (start (c .before) .pre .0 .rooted))
-
 -- THE PART after each step
 abbrev All : tie.After-two-to → (Decoding → List ℕ → List ℕ) → List ℕ → Type 0
 All c f part = AllRows (decoding (start c)) (half c + half c) (f (decoding (start c))) part
@@ -82,28 +77,28 @@ All c f part = AllRows (decoding (start c)) (half c + half c) (f (decoding (star
 abbrev First : tie.After-two-to → List ℕ → (Decoding → List ℕ → List ℕ) → List ℕ → Type 0
 First c before f part = HalfRows (decoding (start c)) (half c) before (f (decoding (start c))) part
 
-abbrev weigh-inverse : tie.After-weigh → tie.After-inverse
-weigh-inverse c = c .before .before
+abbrev weigh-powers : tie.After-weigh → tie.After-powers
+weigh-powers c = c .before .before
 
-weigh-holds : (c : tie.After-weigh) → All (weigh-inverse c .before) weighedOf (c .weigh .last .0)
+weigh-holds : (c : tie.After-weigh) → All (weigh-powers c .before) weighedOf (c .weigh .last .0)
 weigh-holds c =
-    let two = weigh-inverse c .before in
+    let two = weigh-powers c .before in
     after-weigh (sound (start two)) (start two .args .part .now) refl (start two .pre .1 .1 .1 .1) (all-is two) (c .weigh .ensures)
 
 abbrev split-weigh : tie.After-split → tie.After-weigh
-split-weigh c = c .before .before .before .before
+split-weigh c = c .before .before .before .before .before
 
-abbrev split-inverse : tie.After-split → tie.After-inverse
-split-inverse c = weigh-inverse (split-weigh c)
+abbrev split-powers : tie.After-split → tie.After-powers
+split-powers c = weigh-powers (split-weigh c)
 
 abbrev split-two : tie.After-split → tie.After-two-to
-split-two c = split-inverse c .before
+split-two c = split-powers c .before
 
 abbrev split-part : tie.After-split → List ℕ
 split-part c = c .split .last .0 ++ drop (half (split-two c) + half (split-two c)) (split-weigh c .weigh .last .0)
 
 split-holds : (c : tie.After-split) → All (split-two c) splitOf (split-part c)
-split-holds c = after-split (sound (start (split-two c))) (weigh-holds (split-weigh c)) (split-inverse c .inverse .ensures) (c .split .ensures)
+split-holds c = after-split (sound (start (split-two c))) (weigh-holds (split-weigh c)) (c .split .ensures)
 
 abbrev low-split : tie.After-is-low → tie.After-split
 low-split c = c .before .before .before .before .before
@@ -124,7 +119,7 @@ derive-holds : (c : tie.After-derive) → All (derive-two c) derivedOf (derive-p
 derive-holds c = after-derive (sound (start (derive-two c))) (split-holds (derive-split c)) (c .derive .ensures)
 
 abbrev evaluate-derive : tie.After-evaluate → tie.After-derive
-evaluate-derive c = c .before .before .before .before
+evaluate-derive c = c .before .before .before .before .before
 
 abbrev evaluate-two : tie.After-evaluate → tie.After-two-to
 evaluate-two c = derive-two (evaluate-derive c)
@@ -136,7 +131,7 @@ evaluate-holds : (c : tie.After-evaluate) → All (evaluate-two c) evaluatedOf (
 evaluate-holds c = after-evaluate (sound (start (evaluate-two c))) (derive-holds (evaluate-derive c)) (c .evaluate .ensures)
 
 abbrev choose-evaluate : tie.After-choose → tie.After-evaluate
-choose-evaluate c = c .before .before .before .before
+choose-evaluate c = c .before .before .before .before .before
 
 abbrev choose-two : tie.After-choose → tie.After-two-to
 choose-two c = evaluate-two (choose-evaluate c)
@@ -147,20 +142,20 @@ choose-holds c =
     after-choose (sound (start two)) (half two) (evaluate-holds (choose-evaluate c)) (half-is two) (c .choose .ensures)
 
 abbrev unmix-choose : tie.After-unmix-all → tie.After-choose
-unmix-choose c = c .before .before .before .before
+unmix-choose c = c .before .before .before .before .before
 
 abbrev unmix-two : tie.After-unmix-all → tie.After-two-to
 unmix-two c = choose-two (unmix-choose c)
 
-abbrev choose-inverse : tie.After-choose → tie.After-inverse
-choose-inverse c = split-inverse (derive-split (evaluate-derive (choose-evaluate c)))
+abbrev choose-powers : tie.After-choose → tie.After-powers
+choose-powers c = split-powers (derive-split (evaluate-derive (choose-evaluate c)))
 
 abbrev unmix-part : tie.After-unmix-all → List ℕ
 unmix-part c = c .unmix-all .last .0 ++ drop (half (unmix-two c)) (unmix-choose c .choose .last .0)
 
 unmix-holds : (c : tie.After-unmix-all) → First (unmix-two c) (evaluate-part (choose-evaluate (unmix-choose c))) solvedOf (unmix-part c)
 unmix-holds c =
-    after-solve (sound (start (unmix-two c))) (choose-holds (unmix-choose c)) (choose-inverse (unmix-choose c) .inverse .ensures) (c .unmix-all .ensures)
+    after-solve (sound (start (unmix-two c))) (choose-holds (unmix-choose c)) (c .unmix-all .ensures)
 
 unmix-long : (c : tie.After-unmix-all) → length (unmix-part c) ≡ half (unmix-two c) + half (unmix-two c) + positionCount (stripe (unmix-two c))
 unmix-long c =
@@ -177,8 +172,8 @@ mul-half c = omega (arith, total c)
 add-all : tie.Need-add-all
 add-all c = omega (arith, total c)
 
-inverse-requires : tie.Need-inverse-requires
-inverse-requires c κs = search needs
+powers-requires : tie.Need-powers-requires
+powers-requires c κs = search needs
 
 weigh-requires : tie.Need-weigh-requires
 weigh-requires c κs = search needs
@@ -189,12 +184,15 @@ slice-relend-prefix-split c = fits (weigh-holds (c .before .before))
 slice-aggregate-split : tie.Need-slice-aggregate-split
 slice-aggregate-split c = counted (weigh-holds (c .before .before .before))
 
+slice-aggregate-split-2 : tie.Need-slice-aggregate-split-2
+slice-aggregate-split-2 c = search needs
+
 split-requires : tie.Need-split-requires
 split-requires c κs =
-    let at = c .before .before .before in
-    let s = start (weigh-inverse at .before) in
+    let at = c .before .before .before .before in
+    let s = start (weigh-powers at .before) in
     let h = weigh-holds at in
-    (s .pre .0, (sized h, (back-root (weigh-inverse at), words-lent h (sound s))))
+    (s .pre .0, (sized h, (weigh-powers at .powers .ensures, words-lent h (sound s))))
 
 count-erased-requires : tie.Need-count-erased-requires
 count-erased-requires c κs = search needs
@@ -241,20 +239,27 @@ slice-relend-prefix-evaluate c = fits (derive-holds (c .before .before))
 slice-aggregate-evaluate : tie.Need-slice-aggregate-evaluate
 slice-aggregate-evaluate c = counted (derive-holds (c .before .before .before))
 
+slice-aggregate-evaluate-2 : tie.Need-slice-aggregate-evaluate-2
+slice-aggregate-evaluate-2 c = search needs
+
 evaluate-requires : tie.Need-evaluate-requires
 evaluate-requires c κs =
-    let at = c .before .before .before in
+    let at = c .before .before .before .before in
     let s = start (derive-two at) in
     let h = derive-holds at in
-    (s .pre .0, (sized h, words-lent h (sound s)))
+    (s .pre .0, (sized h, (split-powers (derive-split at) .powers .ensures, words-lent h (sound s))))
+
+slice-aggregate-choose : tie.Need-slice-aggregate-choose
+slice-aggregate-choose c = search needs
 
 choose-requires : tie.Need-choose-requires
 choose-requires c κs =
-    let at = c .before .before .before in
+    let at = c .before .before .before .before in
     let two = evaluate-two at in
     let s = start two in
     let h = evaluate-holds at in
-    (s .pre .0, (s .pre .1 .0 .0, (length-holds h ∙ ap₂ _+_ (all-is two) (length-weights s), words-part h (sound s) (weights-words s))))
+    let e = split-powers (derive-split (evaluate-derive at)) .powers .ensures in
+    (s .pre .0, (s .pre .1 .0 .0, (length-holds h ∙ ap₂ _+_ (all-is two) (length-weights s), (e, words-part h (sound s) (weights-words s)))))
 
 slice-relend-prefix-unmix-all : tie.Need-slice-relend-prefix-unmix-all
 slice-relend-prefix-unmix-all c = fits (choose-holds (c .before .before))
@@ -262,12 +267,15 @@ slice-relend-prefix-unmix-all c = fits (choose-holds (c .before .before))
 slice-aggregate-unmix-all : tie.Need-slice-aggregate-unmix-all
 slice-aggregate-unmix-all c = counted (choose-holds (c .before .before .before))
 
+slice-aggregate-unmix-all-2 : tie.Need-slice-aggregate-unmix-all-2
+slice-aggregate-unmix-all-2 c = sym (ap length (choose-powers (c .before .before .before .before) .powers .ensures) ∙ length-table-of-powers)
+
 unmix-all-requires : tie.Need-unmix-all-requires
 unmix-all-requires c κs =
-    let at = c .before .before .before in
+    let at = c .before .before .before .before in
     let s = start (choose-two at) in
     let h = choose-holds at in
-    (s .pre .0, (sized h, (back-root (choose-inverse at), words-lent h (sound s))))
+    (s .pre .0, (sized h, (choose-powers at .powers .ensures, words-lent h (sound s))))
 
 clear-requires-2 : tie.Need-clear-requires-2
 clear-requires-2 c κs = (omega arith, omega (arith, unmix-long (c .before .before .before)))
@@ -293,10 +301,11 @@ decode-spec =
     two-to-requires
     mul-half
     add-all
-    inverse-requires
+    powers-requires
     weigh-requires
     slice-relend-prefix-split
     slice-aggregate-split
+    slice-aggregate-split-2
     split-requires
     count-erased-requires
     slice-reshare-prefix-is-low
@@ -310,10 +319,13 @@ decode-spec =
     derive-requires
     slice-relend-prefix-evaluate
     slice-aggregate-evaluate
+    slice-aggregate-evaluate-2
     evaluate-requires
+    slice-aggregate-choose
     choose-requires
     slice-relend-prefix-unmix-all
     slice-aggregate-unmix-all
+    slice-aggregate-unmix-all-2
     unmix-all-requires
     clear-requires-2
     same-length-2

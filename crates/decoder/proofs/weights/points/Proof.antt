@@ -1,120 +1,110 @@
--- `decoder::weights::points` meets its contract. The invariant: the first i points of X and of Y are stored, and x is the next of X. Assumes nothing.
+-- `decoder::weights::points` meets its contract. The invariant: the first i points of X and of Y are stored, and e is the place of the next. Assumes nothing.
 use mathlib.Core.Path.{_≡_, refl, sym, ap, _∙_}
 use mathlib.Core.List.{List, _++_}
-use Prim.Native.Nat.{ℕ, suc, _+_, _-_, _/_, _^_, _≤_, _<_}
-use native.Mathlib.Nat.{zero-add}
-use native.Mathlib.Numerals.{add-one}
+use Prim.Native.Nat.{ℕ, suc, _+_, _*_, _-_, _/_, _^_, _≤_, _<_}
+use native.Mathlib.Nat.{zero-add, mul-zero, zero-mul}
 use native.Mathlib.Omega.{arith}
-use lib.Dec.{lit<}
-use lib.Pow.{pow-mono}
-use lib.ListN.{length, set, drop, length-set}
-use Rattle.field.specs.Residue.{times}
-use Rattle.field.specs.Power.{power}
+use lib.Pow.{pow-pos}
+use lib.ListN.{length, getD, set, drop, length-set}
 use Rattle.field.specs.Words.{table}
-use Rattle.field.proofs.Laws.{times-lt}
-use Rattle.field.proofs.Powers.{power-lt, power-zero, power-suc}
-use Rattle.field.proofs.Unity.{level-power}
+use Rattle.field.specs.Field.{fermat, rootOf}
+use Rattle.field.proofs.PowerTables.{length-table-of-powers}
+use Rattle.field.proofs.Unity.{two-div}
 use Rattle.decoder.specs.Decoding.{pointAt}
 use Rattle.code.specs.steps.Storing.{stored}
-use Rattle.decoder.proofs.Points.{point-low-square, point-high-square}
+use Rattle.decoder.proofs.TablePoints.{points-in, even-point, odd-point}
 use Rattle.code.proofs.RowLaws.{stored-none, stored-next, set-stored, stored-more, stored-front}
 use Rattle.decoder.proofs.weights.points.Statement.{statement}
 use Rattle.decoder.proofs.weights.points.Tie as tie
 
-record Inv (part₀ : List ℕ) (level k root half u v : ℕ) (part : List ℕ) (x i : ℕ) : Type 0 where
+record Inv (part₀ : List ℕ) (level k half step : ℕ) (part : List ℕ) (e i : ℕ) : Type 0 where
   turns : i ≤ half
   half-is : half ≡ 2 ^ level
-  u-is : u ≡ power 65537 root (2 ^ k / 2 ^ level)
-  v-is : v ≡ times 65537 u u
-  x-is : x ≡ power 65537 v i
-  u-lt : u < 65537
-  v-lt : v < 65537
-  x-lt : x < 65537
+  step-is : step ≡ 2 ^ (10 - level)
+  e-is : e ≡ 2 * i * step
   same : length part ≡ length part₀
-  now : part ≡ stored half (λ n. pointAt 65537 root k level (half + n)) i (stored 0 (pointAt 65537 root k level) i part₀)
+  now : part ≡ stored half (λ n. pointAt 65537 (rootOf fermat k) k level (half + n)) i (stored 0 (pointAt 65537 (rootOf fermat k) k level) i part₀)
 
 abbrev Inv-loop : tie.InvT-loop
-Inv-loop part₀ level k root half u v x₀ i₀ part x i = Inv part₀ level k root half u v part x i
+Inv-loop part₀ powers level k half step e₀ i₀ part e i = Inv part₀ level k half step part e i
 
 abbrev μ-loop : tie.MeasureT-loop
-μ-loop part₀ level k root half u v x₀ i₀ part x i = half - i
+μ-loop part₀ powers level k half step e₀ i₀ part e i = half - i
 
 -- PLACES: `x-at-y c` is the place x that stands before y
-abbrev start-at-two-to2 : tie.After-two-to2 Inv-loop μ-loop → tie.Start Inv-loop μ-loop
-start-at-two-to2 c = c .before .before .before
+abbrev start-at-two-to : tie.After-two-to Inv-loop μ-loop → tie.Start Inv-loop μ-loop
+start-at-two-to c = c .before .before .before
+
+abbrev start-at-test : tie.In-loop Inv-loop μ-loop → tie.Start Inv-loop μ-loop
+start-at-test c = start-at-two-to (c .before .before)
 
 two-to-requires : tie.Need-two-to-requires Inv-loop μ-loop
 two-to-requires c κs = omega arith
 
-sub-two-to : tie.Need-sub-two-to Inv-loop μ-loop
-sub-two-to c = omega arith
-
-two-to-requires-2 : tie.Need-two-to-requires-2 Inv-loop μ-loop
-two-to-requires-2 c κs = omega arith
-
-cast-power : tie.Need-cast-power Inv-loop μ-loop
-cast-power c =
-    let a = c .before .before .before .args in
-    omega (arith, pow-mono {i = a .st .k - a .st .level} {j = 16} (omega arith))
-
-power-requires : tie.Need-power-requires Inv-loop μ-loop
-power-requires c κs = c .before .before .before .pre .0 .rooted .small
-
-mul-requires : tie.Need-mul-requires Inv-loop μ-loop
-mul-requires c κs =
-    let h : c .power .result < 65537 = rw (c .power .ensures) (power-lt 65537 (lit< tt) _ _) in
-    (h, h)
-
-start : (part : List ℕ) (level k root half u v e : ℕ) → level ≤ k → half ≡ 2 ^ level → e ≡ 2 ^ (k - level) → u ≡ power 65537 root e → v ≡ times 65537 u u
-    → Inv part level k root half u v part 1 0
-start part level k root half u v e b eh ee eu ev = record {
-  turns = omega arith;
-  half-is = eh;
-  u-is = level-power 65537 k root level b ee eu;
-  v-is = ev;
-  x-is = sym (power-zero 65537 (lit< tt) v);
-  u-lt = rw eu (power-lt 65537 (lit< tt) root e);
-  v-lt = rw ev (times-lt 65537 (lit< tt) u u);
-  x-lt = lit< tt;
-  same = refl;
-  now = sym (stored-none half _ _ ∙ stored-none 0 _ part);
-}
+div-step : tie.Need-div-step Inv-loop μ-loop
+div-step c = rw (c .two-to .ensures) (pow-pos _)
 
 loop-holds : tie.Need-loop-holds Inv-loop μ-loop
 loop-holds c =
-    let at-power = c .before in
-    let at-start = at-power .before .before .before .before in
-    start _ _ _ _ _ _ _ _ (at-start .pre .0 .within) (at-power .before .before .two-to .ensures) (at-power .before .two-to2 .ensures) (at-power .power .ensures)
-    (c .mul .ensures)
+    let p = start-at-two-to c .pre in
+    record {
+      turns = omega arith;
+      half-is = c .two-to .ensures;
+      step-is = ap (λ (n : ℕ). 1024 / n) (c .two-to .ensures) ∙ two-div 10 _ (omega (arith, p .0 .within, p .0 .small));
+      e-is = sym (zero-mul _);
+      same = refl;
+      now = sym (stored-none _ _ _ ∙ stored-none 0 _ _);
+    }
 
 -- both halves lie within the part
-room : (c : tie.At-loop Inv-loop μ-loop)
-    → c .before .before .before .before .two-to .result + c .before .before .before .before .two-to .result ≤ length (c .loop .part)
+room : (c : tie.At-loop Inv-loop μ-loop) → c .before .two-to .result + c .before .two-to .result ≤ length (c .loop .part)
 room c =
-    let s = c .before .before .before .before .before .before in
-    let e : 2 ^ suc (s .args .st .level) ≤ length (s .args .part .now) = s .pre .1 in
+    let s = start-at-two-to (c .before) in
+    let e : 2 ^ suc (s .args .st .level) ≤ length (s .args .part .now) = s .pre .1 .0 in
     omega arith
+
+-- and the next two points within the table
+inside : (c : tie.In-loop Inv-loop μ-loop) → c .before .loop .e + 1024 / c .before .before .two-to .result < 2048
+inside c =
+    let s = start-at-test c in
+    let h = c .before .loop .inv in
+    rw (h .e-is) (points-in (s .pre .1 .1) (s .pre .0 .within) (s .pre .0 .small) (h .step-is) (rw (← h .half-is) (c .loop-test .taken)))
+
+long : (c : tie.In-loop Inv-loop μ-loop) → length (start-at-test c .args .powers .now) ≡ 2048
+long c = ap length (start-at-test c .pre .1 .1) ∙ length-table-of-powers
 
 add-to : tie.Need-add-to Inv-loop μ-loop
 add-to c = omega (arith, room (c .before))
 
+add-odd : tie.Need-add-odd Inv-loop μ-loop
+add-odd c = omega (arith, inside c)
+
 mul-part : tie.Need-mul-part Inv-loop μ-loop
-mul-part c = omega arith
+mul-part c = omega (arith, inside c)
 
-slice-write-part : tie.Need-slice-write-part Inv-loop μ-loop
-slice-write-part c = omega (arith, room (c .before))
-
-mul-requires-2 : tie.Need-mul-requires-2 Inv-loop μ-loop
-mul-requires-2 c κs = (omega arith, omega arith)
+read-part : tie.Need-shared-slice-read-part Inv-loop μ-loop
+read-part c = omega (arith, inside (c .before), long (c .before))
 
 mul-part-2 : tie.Need-mul-part-2 Inv-loop μ-loop
-mul-part-2 c = omega arith
+mul-part-2 c = omega (arith, room (c .before .before))
+
+slice-write-part : tie.Need-slice-write-part Inv-loop μ-loop
+slice-write-part c = omega (arith, room (c .before .before))
+
+mul-part-3 : tie.Need-mul-part-3 Inv-loop μ-loop
+mul-part-3 c = omega (arith, inside (c .before))
+
+read-part-2 : tie.Need-shared-slice-read-part-2 Inv-loop μ-loop
+read-part-2 c = omega (arith, inside (c .before .before), long (c .before .before))
+
+mul-part-4 : tie.Need-mul-part-4 Inv-loop μ-loop
+mul-part-4 c = omega (arith, room (c .before .before .before))
 
 slice-write-part-2 : tie.Need-slice-write-part-2 Inv-loop μ-loop
-slice-write-part-2 c = simp length-set (omega (arith, room (c .before .before)))
+slice-write-part-2 c = simp length-set (omega (arith, room (c .before .before .before)))
 
-mul-requires-3 : tie.Need-mul-requires-3 Inv-loop μ-loop
-mul-requires-3 c κs = (omega arith, omega arith)
+add-e : tie.Need-add-e Inv-loop μ-loop
+add-e c = omega (arith, inside (c .before .before))
 
 add-i : tie.Need-add-i Inv-loop μ-loop
 add-i c = omega arith
@@ -136,45 +126,41 @@ all-points f half n l e b =
     rw z at (stored-more 0 f (λ i. f (half + i)) half half l (λ i t. refl)) ∙ rw e (stored-front f n l b)
 
 -- a turn stores a point of X and one of Y
-next : {part₀ : List ℕ} {level k root half u v : ℕ} {part : List ℕ} {x i y x′ : ℕ} → Inv part₀ level k root half u v part x i → i < half → y ≡ times 65537 u x
-    → x′ ≡ times 65537 v x
-    → Inv part₀ level k root half u v (set (set part i x) (half + i) y) x′ (i + 1)
-next {part₀} {level} {k} {root} {half} {u} {v} {part} {x} {i} {y} {x′} h b ey ex =
-    let i-lt : i < 2 ^ level = omega (arith, h .half-is) in
-    let eu : power 65537 root (2 ^ k / 2 ^ level) ≡ u = sym (h .u-is) in
-    let ex′ : x ≡ pointAt 65537 root k level i = h .x-is ∙ sym (rw (eu, ← h .v-is) at (point-low-square 65537 root k level (lit< tt) i i-lt)) in
-    let ey′ : y ≡ pointAt 65537 root k level (half + i) =
-    ey ∙ ap (times 65537 u) (h .x-is) ∙ sym (rw (eu, ← h .v-is, ← h .half-is) at (point-high-square 65537 root k level (lit< tt) i)) in
-    record {
-      turns = omega arith;
-      half-is = h .half-is;
-      u-is = h .u-is;
-      v-is = h .v-is;
-      x-is = rw add-one (ex ∙ ap (times 65537 v) (h .x-is) ∙ sym (power-suc 65537 (lit< tt) v i));
-      u-lt = h .u-lt;
-      v-lt = h .v-lt;
-      x-lt = rw ex (times-lt 65537 (lit< tt) v x);
-      same = simp length-set (h .same);
-      now = two-more (pointAt 65537 root k level) half i part₀ part x y (h .now) b ex′ ey′;
-    }
-
-done : {part₀ : List ℕ} {level k root half u v : ℕ} {part : List ℕ} {x i : ℕ} → Inv part₀ level k root half u v part x i → half ≤ i
-    → 2 ^ suc level ≤ length part₀
-    → part ≡ table (2 ^ suc level) (pointAt 65537 root k level) ++ drop (2 ^ suc level) part₀
-done {part₀} {level} {k} {root} {half} {i = i} h b r =
-    let q : i ≡ half = omega arith in
-    h .now ∙ rw q (all-points (pointAt 65537 root k level) half (2 ^ suc level) part₀ (omega (arith, h .half-is)) r)
+next : {part₀ : List ℕ} {level k half step : ℕ} {part : List ℕ} {e i x y : ℕ} → Inv part₀ level k half step part e i → i < half
+    → x ≡ pointAt 65537 (rootOf fermat k) k level i → y ≡ pointAt 65537 (rootOf fermat k) k level (half + i)
+    → Inv part₀ level k half step (set (set part i x) (half + i) y) (e + step + step) (i + 1)
+next {part₀} {level} {k} {half} {step} {part} {e} {i} {x} {y} h b ex ey = record {
+  turns = omega arith;
+  half-is = h .half-is;
+  step-is = h .step-is;
+  e-is = omega arith;
+  same = simp length-set (h .same);
+  now = two-more (pointAt 65537 (rootOf fermat k) k level) half i part₀ part x y (h .now) b ex ey;
+}
 
 loop-again : tie.Need-loop-again Inv-loop μ-loop
 loop-again c =
     let at-test = c .before .before in
-    next (at-test .before .loop .inv) (at-test .loop-test .taken) (c .before .mul2 .ensures) (c .mul3 .ensures)
+    let s = start-at-test at-test in
+    let h = at-test .before .loop .inv in
+    let lt = at-test .loop-test .taken in
+    let b : at-test .before .loop .i < 2 ^ s .args .st .level = rw (← h .half-is) lt in
+    next h lt
+    (ap (λ (n : ℕ). getD (s .args .powers .now) n 0) (h .e-is) ∙ even-point (s .pre .1 .1) (s .pre .0 .within) (s .pre .0 .small) (h .step-is) b)
+    (ap (λ (n : ℕ). getD (s .args .powers .now) (n + 1024 / at-test .before .before .two-to .result) 0) (h .e-is)
+    ∙ odd-point (s .pre .1 .1) (s .pre .0 .within) (s .pre .0 .small) (h .step-is) b
+    ∙ ap (λ (n : ℕ). pointAt 65537 (rootOf fermat (s .args .st .k)) (s .args .st .k) (s .args .st .level) (n + at-test .before .loop .i)) (sym (h .half-is)))
 
 same-length : tie.Need-same-length Inv-loop μ-loop
 same-length c = c .before .loop .inv .same
 
 returns : tie.Need-returns Inv-loop μ-loop
-returns c = done (c .before .loop .inv) (c .loop-test .left) (start-at-two-to2 (c .before .before .before .before) .pre .1)
+returns c =
+    let s = start-at-two-to (c .before .before) in
+    let h = c .before .loop .inv in
+    let q : c .before .loop .i ≡ c .before .before .two-to .result = omega (arith, c .loop-test .left, h .turns) in
+    h .now ∙ rw q (all-points (pointAt 65537 (rootOf fermat (s .args .st .k)) (s .args .st .k) (s .args .st .level)) _ (2 ^ suc (s .args .st .level))
+    (s .args .part .now) (omega (arith, h .half-is)) (s .pre .1 .0))
 
 pub points-spec : {M : Type 1} → statement M
 points-spec =
@@ -183,19 +169,19 @@ points-spec =
     Inv-loop
     μ-loop
     two-to-requires
-    sub-two-to
-    two-to-requires-2
-    cast-power
-    power-requires
-    mul-requires
+    div-step
     loop-holds
     add-to
+    add-odd
     mul-part
-    slice-write-part
-    mul-requires-2
+    read-part
     mul-part-2
+    slice-write-part
+    mul-part-3
+    read-part-2
+    mul-part-4
     slice-write-part-2
-    mul-requires-3
+    add-e
     add-i
     loop-less
     loop-again

@@ -6,11 +6,13 @@ use mathlib.Core.Logic.{⊎-elim}
 use Prim.Native.Nat.{ℕ, suc, _+_, _-_, _^_, _≤_, _<_}
 use native.Mathlib.Numerals.{add-one}
 use native.Mathlib.Omega.{arith}
+use borrow.Author.Needs.{needs}
 use lib.Dec.{eqb, lit<}
 use lib.ListN.{length, getD, take, drop, replicate, length-append, length-drop, length-replicate, List·getD-append}
 use lib.Seq.{getD-append-add, getD-take, take-at, drop-at, take-append-add, take-append-le, length-take-le}
 use Rattle.field.specs.Residue.{minus, times}
 use Rattle.field.specs.Words.{Words, table}
+use Rattle.field.specs.Field.{fermat, rootOf}
 use Rattle.field.proofs.WordLists.{length-table, getD-table, same-table}
 use Rattle.decoder.specs.Decoding.{pointAt}
 use Rattle.decoder.specs.steps.Decoder.{weightTo}
@@ -35,10 +37,10 @@ record Inv (front : List ℕ) (marks : List Bool) (level k root count base : ℕ
   now : part ≡ front ++ weightsTo root k level marks count j
 
 abbrev Inv-loop : tie.InvT-loop
-Inv-loop part₀ marks level k root count base j₀ part j = Inv (take base part₀) marks level k root count base part j
+Inv-loop part₀ marks level k count base j₀ part j = Inv (take base part₀) marks level k (rootOf fermat k) count base part j
 
 abbrev μ-loop : tie.MeasureT-loop
-μ-loop part₀ marks level k root count base j₀ part j = count - j
+μ-loop part₀ marks level k count base j₀ part j = count - j
 
 -- what the calls before the loop leave: the points, the words between, and 1 at each position
 module _ (root k level : ℕ) (marks : List Bool) (n base : ℕ) (l l₁ l₂ : List ℕ) (fits : n + n ≤ length l) (b : base ≡ length l - n)
@@ -144,7 +146,7 @@ module _ {front : List ℕ} {marks : List Bool} {level k root count base : ℕ} 
 
 -- PLACES: `x-at-y c` is the place x that stands before y
 abbrev two-to-at-points : tie.After-points Inv-loop μ-loop → tie.After-two-to Inv-loop μ-loop
-two-to-at-points c = c .before .before
+two-to-at-points c = c .before .before .before .before
 
 abbrev two-to-at-part2 : tie.After-part2 Inv-loop μ-loop → tie.After-two-to Inv-loop μ-loop
 two-to-at-part2 c = two-to-at-points (c .before .before .before .before .before)
@@ -156,13 +158,13 @@ count-is c = positions (c .before .before .before .args .st .level) (c .two-to .
 room : (c : tie.After-two-to Inv-loop μ-loop) → c .two-to .result + c .two-to .result ≤ length (c .before .before .before .args .part .now)
 room c = omega (arith, count-is c, c .before .before .before .pre .1 .1)
 
-pointed : (c : tie.After-points Inv-loop μ-loop) → let n = c .before .before .two-to .result in
-    let a = c .before .before .before .before .before .args in
-    let st = a .st in c .points .last .0 ≡ table n (pointAt 65537 (st .root) (st .k) (st .level)) ++ drop n (a .part .now)
+pointed : (c : tie.After-points Inv-loop μ-loop) → let n = two-to-at-points c .two-to .result in
+    let a = two-to-at-points c .before .before .before .args in
+    let st = a .st in c .points .last .0 ≡ table n (pointAt 65537 (rootOf fermat (st .k)) (st .k) (st .level)) ++ drop n (a .part .now)
 pointed c =
-    let a = c .before .before .before .before .before .args in
+    let a = two-to-at-points c .before .before .before .args in
     let st = a .st in
-    c .points .ensures ∙ ap (λ (n : ℕ). table n (pointAt 65537 (st .root) (st .k) (st .level)) ++ drop n (a .part .now)) (sym (count-is (c .before .before)))
+    c .points .ensures ∙ ap (λ (n : ℕ). table n (pointAt 65537 (rootOf fermat (st .k)) (st .k) (st .level)) ++ drop n (a .part .now)) (sym (count-is (two-to-at-points c)))
 
 add-two-to : tie.Need-add-two-to Inv-loop μ-loop
 add-two-to c = omega arith
@@ -173,23 +175,32 @@ two-to-requires c κs = omega arith
 sub-base : tie.Need-sub-base Inv-loop μ-loop
 sub-base c = omega (arith, room c)
 
+powers-requires : tie.Need-powers-requires Inv-loop μ-loop
+powers-requires c κs = search needs
+
+slice-aggregate-points : tie.Need-slice-aggregate-points Inv-loop μ-loop
+slice-aggregate-points c = search needs
+
 points-requires : tie.Need-points-requires Inv-loop μ-loop
-points-requires c κs = let at-start = c .before .before .before .before in (at-start .pre .0, omega (arith, at-start .pre .1 .1))
+points-requires c κs =
+    let at-powers = c .before .before in
+    let at-start = at-powers .before .before .before .before in
+    (at-start .pre .0, (omega (arith, at-start .pre .1 .1), at-powers .powers .ensures))
 
 ones-requires : tie.Need-ones-requires Inv-loop μ-loop
 ones-requires c κs =
     let at-points = c .before .before .before in
-    let at-two = at-points .before .before in
+    let at-two = two-to-at-points at-points in
     at-points .points .kept .0 ∙ omega (arith, room at-two)
 
 loop-holds : tie.Need-loop-holds Inv-loop μ-loop
 loop-holds c =
     let at-ones = c .before .before in
     let at-points = at-ones .before .before .before .before in
-    let at-two = at-points .before .before in
+    let at-two = two-to-at-points at-points in
     let a = at-two .before .before .before .args in
     let st = a .st in
-    start (st .root) (st .k) (st .level) (a .marks .now) (at-two .two-to .result) _ (a .part .now) _ _ (room at-two) refl (pointed at-points)
+    start (rootOf fermat (st .k)) (st .k) (st .level) (a .marks .now) (at-two .two-to .result) _ (a .part .now) _ _ (room at-two) refl (pointed at-points)
     (at-ones .ones .ensures)
 
 shared-slice-read-if1 : tie.Need-shared-slice-read-if1 Inv-loop μ-loop
@@ -226,17 +237,17 @@ returns c =
     let at-loop = c .before in
     let at-ones = at-loop .before .before .before in
     let at-points = at-ones .before .before .before .before in
-    let at-two = at-points .before .before in
+    let at-two = two-to-at-points at-points in
     let a = at-two .before .before .before .args in
     let st = a .st in
     let n = at-two .two-to .result in
     let inv = at-loop .loop .inv in
     let e : at-loop .loop .j ≡ n = omega (arith, inv .turns, c .loop-test .left) in
     inv .now
-    ∙ ap₂ (λ (l : List ℕ) (j : ℕ). l ++ weightsTo (st .root) (st .k) (st .level) (a .marks .now) n j)
-    (front-is (st .root) (st .k) (st .level) (a .marks .now) n _ (a .part .now) _ _ (room at-two) refl (pointed at-points) (at-ones .ones .ensures)) e
-    ∙ ap (λ (m : ℕ). table m (pointAt 65537 (st .root) (st .k) (st .level)) ++ take (length (a .part .now) - (m + m)) (drop m (a .part .now)) ++ weightsTo
-    (st .root) (st .k) (st .level) (a .marks .now) m m) (count-is at-two)
+    ∙ ap₂ (λ (l : List ℕ) (j : ℕ). l ++ weightsTo (rootOf fermat (st .k)) (st .k) (st .level) (a .marks .now) n j)
+    (front-is (rootOf fermat (st .k)) (st .k) (st .level) (a .marks .now) n _ (a .part .now) _ _ (room at-two) refl (pointed at-points) (at-ones .ones .ensures)) e
+    ∙ ap (λ (m : ℕ). table m (pointAt 65537 (rootOf fermat (st .k)) (st .k) (st .level)) ++ take (length (a .part .now) - (m + m)) (drop m (a .part .now)) ++ weightsTo
+    (rootOf fermat (st .k)) (st .k) (st .level) (a .marks .now) m m) (count-is at-two)
 
 pub weights-spec : {M : Type 1} → statement M
 weights-spec =
@@ -247,6 +258,8 @@ weights-spec =
     add-two-to
     two-to-requires
     sub-base
+    powers-requires
+    slice-aggregate-points
     points-requires
     ones-requires
     loop-holds
