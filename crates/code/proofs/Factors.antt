@@ -2,8 +2,8 @@
 -- order, so that none is -1; and what mixing and unmixing are under the factor 1. Assumes nothing.
 use mathlib.Core.Path.{_≡_, refl, sym, ap, _∙_}
 use mathlib.Core.List.{List}
-use Prim.Native.Nat.{ℕ, zero, suc, _*_, _-_, _/_, _%_, _^_, _≤_, _<_}
-use native.Mathlib.Nat.{mod-lt, mul-le-mul}
+use Prim.Native.Nat.{ℕ, zero, suc, _+_, _*_, _-_, _/_, _%_, _^_, _≤_, _<_}
+use native.Mathlib.Nat.{mod-lt, mul-le-mul, mul-comm}
 use native.Mathlib.Omega.{arith}
 use lib.Dec.{lit<}
 use lib.Pow.{pow-mono, pow-pos}
@@ -11,12 +11,13 @@ use lib.ListN.{length, getD}
 use Rattle.field.specs.Power.{power, inverse}
 use Rattle.field.specs.Field.{Root, fermat, rootOf, powerTable}
 use Rattle.field.proofs.Ring.{v, _⊕_, _⊖_, _⊗_, ring}
-use Rattle.field.proofs.Unity.{root-short, root-back}
+use Rattle.field.proofs.Powers.{power-mul}
+use Rattle.field.proofs.Unity.{root-short, root-back, two-div}
 use Rattle.field.proofs.Primes.{fermat-prime, fermat-root}
 use Rattle.field.proofs.PowerTables.{length-table-of-powers, table-power, table-root, table-back, level-root, level-inverse}
 use Rattle.code.specs.Transform.{reversed}
 use Rattle.code.specs.steps.Mixing.{Crossing, mixing, unmixing, summing, crossed, crossedRow, mixRow, unmixRow, sumRow, RowFactors}
-use Rattle.code.proofs.Shapes.{reversed-lt}
+use Rattle.code.proofs.Shapes.{reversed-lt, reversed-more}
 
 -- the powers of an entry that is a root of order 2 * 2 ^ l are factors of 2 ^ l rows
 table-factors : (l step : ℕ) → l ≤ 10 → step < 2048 → Root 65537 l (getD powerTable step 0) → RowFactors 65537 (2 ^ l) step powerTable
@@ -52,17 +53,25 @@ module _ {k l m step : ℕ} {powers : List ℕ} (is : powers ≡ powerTable) (b 
         entry = table-back l (omega arith) ∙ sym (level-inverse k l b (omega arith));
       })
 
--- the root of a vault, and its inverse, in a table that is lent
-pub root-entry : {powers : List ℕ} {k step : ℕ} → powers ≡ powerTable → k ≤ 10 → step ≡ 2 ^ (10 - k) → getD powers step 0 ≡ rootOf fermat k
-root-entry {powers} {k} e b es = rw (e, es) (table-root k b)
-
-pub back-entry : {powers : List ℕ} {k step : ℕ} → powers ≡ powerTable → k ≤ 10 → step ≡ 2048 - 2 ^ (10 - k)
-    → getD powers step 0 ≡ inverse 65537 (rootOf fermat k)
-back-entry {powers} {k} e b es = rw (e, es) (table-back k b)
-
 -- the power r of entry `step`
 pub power-entry : {powers : List ℕ} {step r e : ℕ} → powers ≡ powerTable → step < 2048 → r ≡ e → getD powers (r * step % 2048) 0 ≡ power 65537 (getD powers step 0) e
 power-entry {powers} {step} {r} {e} is b q = rw (is, q) (table-power step e b)
+
+-- turning takes the powers of entry 1 at t with its ten bits reversed, which is rev(t) times 1024 / n; to turn back, those of entry 2047
+pub turning-power : (x k t : ℕ) → k ≤ 10 → t < 2 ^ k → power 65537 x (reversed 10 t) ≡ power 65537 (power 65537 x (2 ^ (10 - k))) (reversed k t)
+turning-power x k t b h =
+    let e : k + (10 - k) ≡ 10 = omega arith in
+    ap (power 65537 x) ((rw e at (reversed-more k (10 - k) t h)) ∙ mul-comm (reversed k t) (2 ^ (10 - k))) ∙ power-mul 65537 (lit< tt) x (2 ^ (10 - k)) (reversed k t)
+
+pub turning-root : {powers : List ℕ} {k : ℕ} → powers ≡ powerTable → k ≤ 10 → power 65537 (getD powers 1 0) (2 ^ (10 - k)) ≡ rootOf fermat k
+turning-root {powers} {k} e b =
+    rw e (ap (λ (x : ℕ). power 65537 x (2 ^ (10 - k))) (table-root 10 (omega arith)) ∙ ap (power 65537 (rootOf fermat 10)) (sym (two-div 10 k b))
+    ∙ level-root 10 k b (omega arith))
+
+pub turning-back : {powers : List ℕ} {k : ℕ} → powers ≡ powerTable → k ≤ 10 → power 65537 (getD powers 2047 0) (2 ^ (10 - k)) ≡ inverse 65537 (rootOf fermat k)
+turning-back {powers} {k} e b =
+    rw e (ap (λ (x : ℕ). power 65537 x (2 ^ (10 - k))) (table-back 10 (omega arith)) ∙ ap (power 65537 (inverse 65537 (rootOf fermat 10))) (sym (two-div 10 k b))
+    ∙ level-inverse 10 k b (omega arith))
 
 -- the factor by which `turned` turns the word of write number t
 pub turning-factor : (p k w t : ℕ) → Root p k w → power p w (reversed k t) < p - 1

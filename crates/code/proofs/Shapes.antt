@@ -2,9 +2,10 @@
 use mathlib.Core.Path.{_≡_, refl, sym, ap, ap₂, _∙_}
 use mathlib.Core.List.{List, [], _∷_, _++_}
 use Prim.Native.Nat.{ℕ, zero, suc, _+_, _*_, _/_, _%_, _^_, _<_}
-use native.Mathlib.Nat.{mod-lt, add-zero}
+use native.Mathlib.Nat.{mod-lt, add-zero, zero-mul, add-mul, mul-assoc, mul-comm}
 use native.Mathlib.Numerals.{add-one}
 use native.Mathlib.Omega.{arith}
+use lib.Pow.{pow-add}
 use lib.ListN.{length, getD, take, drop, length-append, length-drop, List·getD-append}
 use lib.Seq.{length-take-le, getD-append-add}
 use Rattle.field.specs.Residue.{plus, minus, times}
@@ -51,6 +52,21 @@ reversed-lt (suc k) t = go (t % 2) (mod-lt t (omega arith)) (reversed-lt k (t / 
     go zero l r = omega arith
     go (suc zero) l r = omega arith
     go (suc (suc b)) l r = absurd (omega arith)
+
+-- d bits more than a number has are zeros behind its reversed bits
+pub reversed-more : (k d t : ℕ) → t < 2 ^ k → reversed (k + d) t ≡ reversed k t * 2 ^ d
+unfolding reversed
+reversed-more zero d t h = ap (reversed (0 + d)) {x = t} {y = 0} (omega arith) ∙ none (0 + d) ∙ sym (zero-mul (2 ^ d))
+  where
+    none : (d : ℕ) → reversed d 0 ≡ 0
+    none zero = refl
+    none (suc d) = ap (λ (n : ℕ). 2 ^ d * 0 + n) (none d) ∙ omega arith
+reversed-more (suc k) d t h =
+    let e : suc k + d ≡ suc (k + d) = omega arith in
+    rw e (ap₂ (λ (a b : ℕ). a * (t % 2) + b) (pow-add 2 k d) (reversed-more k d (t / 2) (omega arith)) ∙ bits (2 ^ k) (2 ^ d) (t % 2) (reversed k (t / 2)))
+  where
+    bits : (a b x r : ℕ) → a * b * x + r * b ≡ (a * x + r) * b
+    bits a b x r = omega (arith, mul-assoc a b x, mul-comm b x, mul-assoc a x b, add-mul (a * x) r b)
 
 -- lengths
 module _ (p : ℕ) where

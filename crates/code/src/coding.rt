@@ -2,13 +2,14 @@
 use crate::Stripe;
 ghost use mathlib.Core.Path.{_≡_};
 ghost use mathlib.Core.List.{_++_};
-ghost use Prim.Native.Nat.{_+_, _*_, _-_, _≤_, _<_};
+ghost use Prim.Native.Nat.{_+_, _*_, _-_, _^_, _≤_, _<_};
 ghost use lib.ListN.{length, getD, take};
+ghost use Rattle.field.specs.Power.{power, inverse};
 ghost use Rattle.field.specs.Field.{fermat, Root, powerTable};
 ghost use Rattle.field.specs.Words.{Words};
 ghost use Rattle.code.specs.Rows.{lifted};
 ghost use Rattle.code.specs.Transform.{turned};
-ghost use Rattle.code.specs.Stripe.{Numbers, modulusOf, blockCount, blockWords, codedStripe};
+ghost use Rattle.code.specs.Stripe.{Numbers, modulusOf, rootIn, blockCount, blockWords, codedStripe};
 ghost use Rattle.code.specs.steps.Storing.{scaleRow};
 
 // Multiplies `width` words from index `at` by `g`.
@@ -37,17 +38,17 @@ fn turn_row(part: &mut [u32], at: usize, width: usize, g: u32)
     }
 }
 
-// Turns a half of a stripe: the row of write t is multiplied by w^rev(t), where w is entry `step` of the powers: the stripe's root, or its inverse to turn
-// back.
-pub fn turn(part: &mut [u32], st: Stripe, powers: &[u32], step: usize)
+// Turns a half of a stripe by the powers of entry `step`, x: the row of write t is multiplied by w^rev(t), where w is x^(1024 / n). With its ten bits reversed
+// t is rev(t) times 1024 / n.
+fn turn_by(part: &mut [u32], st: Stripe, powers: &[u32], step: usize)
     requires { ⌜ Numbers st ⌝ }
     requires { ⌜ length (now part) ≡ blockWords st ⌝ }
     requires { ⌜ (now powers ≡ powerTable) × (step < 2048) ⌝ }
-    requires { ⌜ Root (modulusOf st) (st .k) (getD (now powers) step 0) ⌝ }
+    requires { ⌜ Root (modulusOf st) (st .k) (power (modulusOf st) (getD (now powers) step 0) (2 ^ (10 - st .k))) ⌝ }
     requires { ⌜ Words (modulusOf st) (now part) ⌝ }
     ensures { λ _. ⌜ now (part .exit) ≡
         lifted (st .width) (blockCount st) (blockCount st)
-        (turned (modulusOf st) (getD (now (powers .entry)) step 0) (st .k) (st .first)) (now (part .entry)) ⌝ }
+        (turned (modulusOf st) (power (modulusOf st) (getD (now (powers .entry)) step 0) (2 ^ (10 - st .k))) (st .k) (st .first)) (now (part .entry)) ⌝ }
 {
     // locals of their own, since the loop's invariant speaks of them
     let first = st.first;
@@ -56,10 +57,35 @@ pub fn turn(part: &mut [u32], st: Stripe, powers: &[u32], step: usize)
     let rows = crate::number::two_to(st.level);
     let mut at = 0;
     for j in 0..rows {
-        let e = crate::number::reversed(k, first + j) as usize * step;
+        let e = crate::number::reversed(10, first + j) as usize * step;
         turn_row(part, at, width, powers[e % 2048]);
         at += width;
     }
+}
+
+// Turns a half of a stripe: the row of write t is multiplied by w^rev(t), where w is the stripe's root. Entry 1 is the root of 1,024 records.
+fn turn(part: &mut [u32], st: Stripe, powers: &[u32])
+    requires { ⌜ Numbers st ⌝ }
+    requires { ⌜ length (now part) ≡ blockWords st ⌝ }
+    requires { ⌜ now powers ≡ powerTable ⌝ }
+    requires { ⌜ Words (modulusOf st) (now part) ⌝ }
+    ensures { λ _. ⌜ now (part .exit) ≡
+        lifted (st .width) (blockCount st) (blockCount st) (turned (modulusOf st) (rootIn st) (st .k) (st .first)) (now (part .entry)) ⌝ }
+{
+    turn_by(part, st, powers, 1);
+}
+
+// Turns back, by the inverse of the root: entry 2047 is the inverse of entry 1.
+pub fn turn_back(part: &mut [u32], st: Stripe, powers: &[u32])
+    requires { ⌜ Numbers st ⌝ }
+    requires { ⌜ length (now part) ≡ blockWords st ⌝ }
+    requires { ⌜ now powers ≡ powerTable ⌝ }
+    requires { ⌜ Words (modulusOf st) (now part) ⌝ }
+    ensures { λ _. ⌜ now (part .exit) ≡
+        lifted (st .width) (blockCount st) (blockCount st)
+        (turned (modulusOf st) (inverse (modulusOf st) (rootIn st)) (st .k) (st .first)) (now (part .entry)) ⌝ }
+{
+    turn_by(part, st, powers, 2047);
 }
 
 // Copies the first half of the words over the second half.
@@ -81,10 +107,9 @@ pub fn code(part: &mut [u32], st: Stripe)
     ensures { λ _. ⌜ now (part .exit) ≡ codedStripe st (take (blockWords st) (now (part .entry))) ⌝ }
 {
     let half = crate::number::two_to(st.level) * st.width;
-    let step = 1024 / crate::number::two_to(st.k);
     let powers = crate::table::powers();
     copy_half(part, half);
     crate::mixing::mix_all(&mut part[..half], st, &powers);
-    turn(&mut part[half..], st, &powers, step);
+    turn(&mut part[half..], st, &powers);
     crate::mixing::mix_all(&mut part[half..], st, &powers);
 }

@@ -227,17 +227,17 @@ module _ (w k l width b : ℕ) (rows x y : List ℕ) (e : b ≡ 2 ^ l) where
         rw lent-again (words-lifted 65537 width (2 ^ l) (2 ^ l) (untransform 65537 w k l) (drop (b * width) rows) (omega arith)
         (λ j _. words-untransform 65537 (omega arith) w k l (words-column 65537 width (2 ^ l) j (words-drop 65537 (omega arith) (b * width) u))))
 
-    pub split-rows : (first v : ℕ) (z : List ℕ) → length rows ≡ 2 ^ suc l * width → v ≡ w
-        → z ≡ lifted width (2 ^ l) (2 ^ l) (turned 65537 v k first) (behind (b * width) (putBehind (b * width) (x ++ drop (b * width) rows) y))
+    pub split-rows : (first : ℕ) (z : List ℕ) → length rows ≡ 2 ^ suc l * width
+        → z ≡ lifted width (2 ^ l) (2 ^ l) (turned 65537 w k first) (behind (b * width) (putBehind (b * width) (x ++ drop (b * width) rows) y))
         → putBehind (b * width) (putBehind (b * width) (x ++ drop (b * width) rows) y) z ≡ lifted width (2 ^ suc l) (2 ^ suc l) (split 65537 w k l first) rows
     unfolding split
-    split-rows first v z long ev ez =
+    split-rows first z long ez =
         let n = 2 ^ l in
         let U = untransform 65537 w k l in
         let T = turned 65537 w k first in
         let p = once l width b (take (b * width) rows) x (drop (b * width) rows) U e ex in
         put-rest (put-rest p y) z .is
-        ∙ ap₂ _++_ ex (ez ∙ ap₂ (λ (x : ℕ). lifted width n n (turned 65537 x k first)) ev lent-again ∙ lifted-then width n n n U T (drop (b * width) rows) (length-untransform 65537 w k l))
+        ∙ ap₂ _++_ ex (ez ∙ ap (lifted width n n T) lent-again ∙ lifted-then width n n n U T (drop (b * width) rows) (length-untransform 65537 w k l))
         ∙ rw e (lifted-halves width l U (λ c. T (U c)) rows long (length-untransform 65537 w k l))
 
 -- what the needs of steps 2 and 4 follow from

@@ -43,7 +43,7 @@ fn weigh(part: &mut [u32], marks: &[bool], level: usize, width: usize)
     }
 }
 
-// Step 2: the inverse transforms of X and of Y, and Y's turned back: the inverse of the root is entry 2048 - 1024 / n of the powers.
+// Step 2: the inverse transforms of X and of Y, and Y's turned back.
 fn split(part: &mut [u32], st: Stripe, powers: &[u32])
     requires { ⌜ Numbers st ⌝ }
     requires { ⌜ length (now part) ≡ stripeWords st ⌝ }
@@ -54,10 +54,9 @@ fn split(part: &mut [u32], st: Stripe, powers: &[u32])
         (Decoder.split (modulusOf st) (inverse (modulusOf st) (rootIn st)) (st .k) (st .level) (st .first)) (now (part .entry)) ⌝ }
 {
     let half = code::number::two_to(st.level) * st.width;
-    let back = 2048 - 1024 / code::number::two_to(st.k);
     code::unmixing::unmix_all(&mut part[..half], st, powers);
     code::unmixing::unmix_all(&mut part[half..], st, powers);
-    code::coding::turn(&mut part[half..], st, powers, back);
+    code::coding::turn_back(&mut part[half..], st, powers);
 }
 
 // Whether two rows are equal.

@@ -1,18 +1,14 @@
 -- `code::coding::code` meets its contract: the blocks are copied, each half is mixed in its place, the second turned before. Assumes nothing.
 use mathlib.Core.Path.{_≡_, sym, ap, ap₂, _∙_}
 use mathlib.Core.List.{List, _++_}
-use Prim.Native.Nat.{ℕ, suc, _+_, _*_, _-_, _/_, _^_, _≤_, _<_}
-use native.Mathlib.Nat.{div-le-self}
+use Prim.Native.Nat.{ℕ, suc, _+_, _*_, _-_, _^_}
 use native.Mathlib.Omega.{arith}
 use borrow.Author.Needs.{needs}
 use borrow.Rule.Slice.PartMut.{putMid}
 use lib.Dec.{lit<}
-use lib.Pow.{pow-pos}
-use lib.ListN.{length, getD, take, drop}
+use lib.ListN.{length, take, drop}
 use lib.Seq.{length-take-le}
 use Rattle.field.specs.Field.{fermat, rootOf, powerTable}
-use Rattle.field.proofs.Unity.{two-div}
-use Rattle.field.proofs.Primes.{fermat-root}
 use Rattle.code.specs.Rows.{lifted}
 use Rattle.code.specs.Transform.{transform, turned}
 use Rattle.code.specs.declared.Stripe.{Stripe}
@@ -20,7 +16,6 @@ use Rattle.code.specs.Stripe.{coded, codedRows, blockWords}
 use Rattle.code.proofs.Shapes.{length-transform, length-turned, words-turned}
 use Rattle.code.proofs.Lifting.{length-lifted, words-lifted, lifted-then, lifted-both}
 use Rattle.code.proofs.RowLaws.{Parts, length-parts, lent-front, lent-rest, put-front, put-rest}
-use Rattle.code.proofs.Factors.{root-entry}
 use Rattle.code.proofs.coding.code.Statement.{statement}
 use Rattle.code.proofs.coding.code.Tie as tie
 
@@ -67,27 +62,14 @@ abbrev copy-powers : tie.After-copy-half → tie.After-powers
 copy-powers c = c .before .before
 
 abbrev copy-two : tie.After-copy-half → tie.After-two-to
-copy-two c = copy-powers c .before .before .before
+copy-two c = copy-powers c .before .before
 
 copied : (c : tie.After-copy-half) → Parts (half (copy-two c)) (after-copy c) (blocks (copy-two c)) (blocks (copy-two c))
 copied c = record { is = c .copy-half .ensures; long = length-blocks (copy-two c) }
 
--- the table, and where the root stands in it
+-- the table
 table-is : (c : tie.After-copy-half) → copy-powers c .powers .result ≡ powerTable
 table-is c = copy-powers c .powers .ensures
-
-few : (c : tie.After-two-to2) → start (c .before .before) .args .st .k ≤ 10
-few c = start (c .before .before) .pre .0 .small
-
-step-is : (c : tie.After-two-to2) → 1024 / c .two-to2 .result ≡ 2 ^ (10 - start (c .before .before) .args .st .k)
-step-is c = ap (λ (n : ℕ). 1024 / n) (c .two-to2 .ensures) ∙ two-div 10 _ (few c)
-
-root-is : (c : tie.After-copy-half) → let at = copy-powers c in
-    getD (at .powers .result) (1024 / at .before .two-to2 .result) 0 ≡ rootOf fermat (stripe (copy-two c) .k)
-root-is c = root-entry (table-is c) (few (copy-powers c .before)) (step-is (copy-powers c .before))
-
-step-in : (c : tie.After-two-to2) → 1024 / c .two-to2 .result < 2048
-step-in c = omega (arith, div-le-self 1024 (c .two-to2 .result))
 
 abbrev mix-copy : tie.After-mix-all → tie.After-copy-half
 mix-copy c = c .before .before .before .before .before
@@ -121,10 +103,7 @@ after-turn c =
 turned-half : (c : tie.After-turn) → let at-two = turn-two c in
     let a = stripe at-two in
     c .turn .last .0 ≡ lifted (a .width) (2 ^ a .level) (2 ^ a .level) (turned 65537 (rootOf fermat (a .k)) (a .k) (a .first)) (blocks at-two)
-turned-half c =
-    let a = stripe (turn-two c) in
-    c .turn .ensures ∙ ap (lifted _ _ _ _) (lent-rest (mixed-parts (turn-mix c)))
-    ∙ ap (λ (w : ℕ). lifted (a .width) (2 ^ a .level) (2 ^ a .level) (turned 65537 w (a .k) (a .first)) (blocks (turn-two c))) (root-is (mix-copy (turn-mix c)))
+turned-half c = c .turn .ensures ∙ ap (lifted _ _ _ _) (lent-rest (mixed-parts (turn-mix c)))
 
 turned-parts : (c : tie.After-turn) → let at-two = turn-two c in
     Parts (half at-two) (after-turn c) (turn-mix c .mix-all .last .0) (c .turn .last .0)
@@ -136,17 +115,11 @@ two-to-requires c κs = search needs
 mul-half : tie.Need-mul-half
 mul-half c = omega (arith, long (c .before))
 
-two-to-requires-2 : tie.Need-two-to-requires-2
-two-to-requires-2 c κs = omega (arith, start (c .before) .pre .0 .small)
-
-div-step : tie.Need-div-step
-div-step c = rw (c .two-to2 .ensures) (pow-pos _)
-
 powers-requires : tie.Need-powers-requires
 powers-requires c κs = search needs
 
 copy-half-requires : tie.Need-copy-half-requires
-copy-half-requires c κs = long (c .before .before .before .before)
+copy-half-requires c κs = long (c .before .before .before)
 
 slice-relend-prefix-mix-all : tie.Need-slice-relend-prefix-mix-all
 slice-relend-prefix-mix-all c = omega (arith, length-parts (copied (c .before .before)))
@@ -195,13 +168,7 @@ turn-requires c κs =
       pre .0,
       (
         ap length (lent-rest (mixed-parts at-mix)) ∙ length-blocks at-two ∙ half-is at-two,
-        (
-          (table-is at-copy, step-in (copy-powers at-copy .before)),
-          (
-            rw (root-is at-copy) (fermat-root _ (omega (arith, pre .0 .small))),
-            rw (lent-rest (mixed-parts at-mix)) (rw (half-is at-two) (pre .1 .1)),
-          ),
-        ),
+        (table-is at-copy, rw (lent-rest (mixed-parts at-mix)) (rw (half-is at-two) (pre .1 .1))),
       ),
     )
 
@@ -254,8 +221,6 @@ code-spec =
     (tie.spec
     two-to-requires
     mul-half
-    two-to-requires-2
-    div-step
     powers-requires
     copy-half-requires
     slice-relend-prefix-mix-all
