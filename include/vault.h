@@ -45,7 +45,7 @@ enum vault_number {
 /* What vault_recover and vault_explain leave in *shelf where they name none. */
 #define VAULT_NO_SHELF UINT32_C(0xffffffff)
 
-/* The sizes of the buffers, for k from 1 to 10 and s from 1 to 128; constants if k and s are. */
+/* The sizes of the buffers, for k from 1 to 10 and s from 1 to 128; constants if k and s are. That of the table of powers depends on neither. */
 #define VAULT_RECORDS(k) ((size_t)1 << (k))                                          /* n = 2^k */
 #define VAULT_RAW_WORDS(k, s) (VAULT_RECORDS(k) * (size_t)(s))                       /* n * s */
 #define VAULT_FULL_WORDS(k, s) (2 * VAULT_RECORDS(k) * ((size_t)(s) + 1))            /* 2n(s + 1) */
@@ -55,6 +55,7 @@ enum vault_number {
 #define VAULT_COUNTS_WORDS(k) (2 * ((size_t)(k) + 1))                                /* 2(k + 1) */
 #define VAULT_ORIGINS_WORDS(k) (2 * VAULT_RECORDS(k))                                /* 2n */
 #define VAULT_IMAGE_BYTES(k, s) (4 * ((size_t)(s) + 1) * (4 * VAULT_RECORDS(k) - 2)) /* 4(s + 1)(4n - 2) */
+#define VAULT_POWERS_WORDS ((size_t)2048)                                            /* 2,048 */
 
 /*
  * Opening: builds the full shelf of the raw records and zeroes the log. The plate is then k, s, 0.
@@ -174,6 +175,16 @@ uint32_t vault_image(uint32_t k, uint32_t s, uint32_t c,
                      const uint32_t *full, size_t full_len,
                      const uint32_t *log, size_t log_len,
                      uint8_t *image, size_t image_len);
+
+/*
+ * The table of powers: powers[i] is (3^32)^i modulo 65537, for i from 0 to 2047. The root of a vault, of order 2n, is w = powers[1024 / n]; w^j is
+ * powers[j * 1024 / n] for j from 0 to 2n - 1, and its inverse powers[2048 - j * 1024 / n] for j from 1.
+ *
+ * Lengths: powers VAULT_POWERS_WORDS.
+ * Tests: 2 (powers).
+ * After 0: powers holds the table. After 2: powers is as it was.
+ */
+uint32_t vault_powers(uint32_t *powers, size_t powers_len);
 
 #ifdef __cplusplus
 }

@@ -10,6 +10,7 @@ pub mod image;
 pub mod listing;
 pub mod machine;
 pub mod opening;
+pub mod powers;
 pub mod reading;
 pub mod recovery;
 pub mod refusal;

@@ -132,18 +132,17 @@ fn print_row(job: &Job, row: &Row) {
 }
 
 /// The table of sizes; gives the times of each.
-fn print_sizes(effort: Effort) -> Vec<Row> {
+fn print_sizes(effort: Effort) -> [Row; SIZES.len()] {
     println!(
         "{:>4}{:>5}  {:<9}{:>20}{:>20}{:>14}{:>11}{:>9}{:>10}",
         "k", "s", "", "library", "plain Rust", "lib/plain", "reference", "ref/lib", "lib/copy"
     );
-    let mut rows: Vec<Row> = Vec::new();
-    for (k, s) in SIZES {
+    let rows = SIZES.map(|(k, s)| {
         let job = Job::new(k, s);
         let row = measured(&job, effort);
         print_row(&job, &row);
-        rows.push(row);
-    }
+        row
+    });
     println!();
     for ((k, s), row) in SIZES.iter().zip(&rows) {
         let butterflies = f64::from(k << k) * f64::from(s + 1);
@@ -253,17 +252,27 @@ fn print_par2(row: &Row) {
     }
 }
 
-fn print_targets(rows: &[Row], explaining: [f64; EXPLAINED.len()], growth: f64) {
+fn print_targets(rows: &[Row; SIZES.len()], explaining: [f64; EXPLAINED.len()], growth: f64) {
     let ratio = |row: &Row, i: usize| row.library[i].median / row.plain[i].median;
-    let wide = &rows[0];
+    // In the order of SIZES.
+    let [wide, large, small, single] = rows;
     let mut narrow = Vec::new();
-    for row in &rows[1..] {
+    for row in [large, small, single] {
         narrow.extend([0, 1, 2].map(|i| ratio(row, i)));
     }
     let narrow = narrow.into_iter().fold(0.0, f64::max);
     let recovery = wide.library[2].median / wide.library[0].median;
     for (what, is, most) in [
-        ("opening / plain Rust", ratio(wide, 0), 0.75),
+        ("opening / plain Rust", ratio(wide, 0), 0.72),
+        ("opening / plain Rust at s = 3", ratio(large, 0), 0.65),
+        (
+            "opening / plain Rust at k = 6, s = 3",
+            ratio(small, 0),
+            0.75,
+        ),
+        ("opening / plain Rust at s = 1", ratio(single, 0), 0.5),
+        ("write / plain Rust at s = 3", ratio(large, 1), 1.1),
+        ("write / plain Rust at k = 6, s = 3", ratio(small, 1), 1.1),
         ("recovery / plain Rust", ratio(wide, 2), 0.88),
         ("narrow rows / plain Rust, worst", narrow, 1.4),
         ("recovery / opening", recovery, 8.0),
@@ -272,7 +281,7 @@ fn print_targets(rows: &[Row], explaining: [f64; EXPLAINED.len()], growth: f64) 
         ("opening at k = 10 / at k = 9", growth, 2.6),
     ] {
         let verdict = if is <= most { "met" } else { "MISSED" };
-        println!("  {what:<32}{is:>6.2}, at most {most}: {verdict}");
+        println!("  {what:<37}{is:>6.2}, at most {most}: {verdict}");
     }
 }
 

@@ -7,8 +7,8 @@ use crate::lent::Side;
 use reference::header::Header;
 use std::ptr;
 use vault_sys::{
-    vault_decode, vault_explain, vault_image, vault_open, vault_read, vault_recover, vault_write,
-    VAULT_NO_SHELF,
+    vault_decode, vault_explain, vault_image, vault_open, vault_powers, vault_read, vault_recover,
+    vault_write, VAULT_NO_SHELF,
 };
 
 /// A slice's pointer; of an empty one the null pointer, as C has it.
@@ -178,5 +178,12 @@ impl Calls for Library {
             stripe: named(stripe),
             ..Answer::of(number)
         }
+    }
+
+    fn powers(side: &mut Side) -> Answer {
+        let powers = side.powers.part_mut();
+        // SAFETY: as said at the head of this file.
+        let number = unsafe { vault_powers(first_mut(powers), powers.len()) };
+        Answer::of(number)
     }
 }

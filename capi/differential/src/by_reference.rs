@@ -1,7 +1,7 @@
 //! The calls made of reference/.
 use crate::calls::{Answer, Calls};
 use crate::lent::Side;
-use reference::{explanation, image, opening, reading, recovery, writing};
+use reference::{explanation, image, opening, powers, reading, recovery, writing};
 
 pub struct Reference;
 
@@ -63,5 +63,9 @@ impl Calls for Reference {
             stripe,
             ..Answer::of(number)
         }
+    }
+
+    fn powers(side: &mut Side) -> Answer {
+        Answer::of(powers::powers(side.powers.part_mut()))
     }
 }

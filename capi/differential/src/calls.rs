@@ -1,4 +1,4 @@
-//! The seven calls, what they answer, and what an implementation of them is.
+//! The eight calls, what they answer, and what an implementation of them is.
 use crate::lent::Side;
 
 #[derive(Clone, Copy, Debug, PartialEq)]
@@ -10,11 +10,12 @@ pub enum Call {
     Decode { stripe: u32 },
     Recover,
     Explain,
+    Powers,
 }
 
 impl Call {
-    pub const NAMES: [&'static str; 7] = [
-        "open", "write", "read", "image", "decode", "recover", "explain",
+    pub const NAMES: [&'static str; 8] = [
+        "open", "write", "read", "image", "decode", "recover", "explain", "powers",
     ];
 
     pub fn index(self) -> usize {
@@ -26,6 +27,7 @@ impl Call {
             Call::Decode { .. } => 4,
             Call::Recover => 5,
             Call::Explain => 6,
+            Call::Powers => 7,
         }
     }
 }
@@ -58,6 +60,7 @@ pub trait Calls {
     fn decode(side: &mut Side, stripe: u32) -> Answer;
     fn recover(side: &mut Side) -> Answer;
     fn explain(side: &mut Side) -> Answer;
+    fn powers(side: &mut Side) -> Answer;
 
     fn call(side: &mut Side, call: Call) -> Answer {
         match call {
@@ -68,6 +71,7 @@ pub trait Calls {
             Call::Decode { stripe } => Self::decode(side, stripe),
             Call::Recover => Self::recover(side),
             Call::Explain => Self::explain(side),
+            Call::Powers => Self::powers(side),
         }
     }
 }

@@ -67,6 +67,7 @@ pub fn lent(call: Call) -> &'static [Words] {
         Call::Decode { .. } => &[Words::Blocks, Words::Scratch],
         Call::Recover => &[Words::Records, Words::Scratch],
         Call::Explain => &[Words::Counts, Words::Origins, Words::Scratch],
+        Call::Powers => &[Words::Powers],
     }
 }
 

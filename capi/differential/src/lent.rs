@@ -1,5 +1,6 @@
 //! The buffers that one implementation is lent, each between guards that no call may touch.
 use reference::header::Header;
+use reference::powers::ENTRIES;
 
 /// What a guard holds.
 pub trait Guard: Copy + PartialEq {
@@ -60,7 +61,7 @@ impl<T: Guard> Lent<T> {
 }
 
 /// What one implementation holds: the header's numbers, and a buffer for each parameter. Stripe decoding gives `blocks`, recovery `records`, an explanation
-/// `counts` and `origins`.
+/// `counts` and `origins`, and the table of powers goes to `powers`.
 #[derive(Clone, PartialEq)]
 pub struct Side {
     pub header: Header,
@@ -75,6 +76,7 @@ pub struct Side {
     pub counts: Lent<u32>,
     pub origins: Lent<u32>,
     pub scratch: Lent<u32>,
+    pub powers: Lent<u32>,
 }
 
 /// A buffer of words, by its name.
@@ -89,10 +91,11 @@ pub enum Words {
     Counts,
     Origins,
     Scratch,
+    Powers,
 }
 
 impl Words {
-    pub const ALL: [Words; 9] = [
+    pub const ALL: [Words; 10] = [
         Words::Raw,
         Words::Full,
         Words::Log,
@@ -102,6 +105,7 @@ impl Words {
         Words::Counts,
         Words::Origins,
         Words::Scratch,
+        Words::Powers,
     ];
 }
 
@@ -122,6 +126,7 @@ impl Side {
             counts: Lent::new(guard),
             origins: Lent::new(guard),
             scratch: Lent::new(guard),
+            powers: Lent::new(guard),
         };
         side.raw.resize(header.raw_len(), 0);
         side.full.resize(header.full_len(), 0);
@@ -133,6 +138,7 @@ impl Side {
         side.counts.resize(header.counts_len(), 0);
         side.origins.resize(header.origins_len(), 0);
         side.scratch.resize(header.scratch_len(), 0);
+        side.powers.resize(ENTRIES, 0);
         side
     }
 
@@ -147,6 +153,7 @@ impl Side {
             Words::Counts => &self.counts,
             Words::Origins => &self.origins,
             Words::Scratch => &self.scratch,
+            Words::Powers => &self.powers,
         }
     }
 
@@ -161,6 +168,7 @@ impl Side {
             Words::Counts => &mut self.counts,
             Words::Origins => &mut self.origins,
             Words::Scratch => &mut self.scratch,
+            Words::Powers => &mut self.powers,
         }
     }
 

@@ -3,13 +3,14 @@ use crate::by_library::Library;
 use crate::calls::{Answer, Call, Calls};
 use crate::erasures::{self, Broken, Loss, Marks};
 use crate::faults::{self, Fault};
-use crate::lent::Side;
+use crate::lent::{Side, Words};
 use crate::origins::origins;
 use crate::session::{Run, Session, Settings};
 use crate::tally::Tally;
 use random::Random;
 use reference::field::P;
 use reference::header::Header;
+use reference::powers::ENTRIES;
 use reference::stripe::code;
 
 #[derive(Clone, Copy, Debug, PartialEq)]
@@ -293,6 +294,14 @@ fn history(session: &mut Session) -> Run<()> {
             }
         }
     }
+    any_powers(session)
+}
+
+/// The table of powers beside what a history left: a buffer of any length is lent for it, and one of its length.
+fn any_powers(session: &mut Session) -> Run<()> {
+    let length = session.random.index(2 * ENTRIES);
+    session.call_changed(Call::Powers, |side| side.powers.resize(length, 0))?;
+    session.call(Call::Powers)?;
     Ok(())
 }
 
@@ -490,7 +499,7 @@ fn refusals(session: &mut Session) -> Run<()> {
     for _ in 0..60 {
         any_refusal(session)?;
     }
-    Ok(())
+    powers(session)
 }
 
 /// Makes a call with these faults, which must give that number.
@@ -510,6 +519,19 @@ fn headers_and_lengths(session: &mut Session, call: Call) -> Run<()> {
         refused(session, call, &[fault], 2)?;
     }
     Ok(())
+}
+
+/// The table of powers: refused to a buffer that is longer or shorter, and stored to one of its length.
+fn powers(session: &mut Session) -> Run<()> {
+    let mut faults = faults::lengths(Call::Powers);
+    for length in [1, 2, 1024, 2046, 2050, 4096] {
+        faults.push(Fault::Length(Words::Powers, length - ENTRIES as isize));
+    }
+    for fault in faults {
+        refused(session, Call::Powers, &[fault], 2)?;
+    }
+    let answer = session.call(Call::Powers)?;
+    session.expect(answer.number == 0, "the table of powers was refused")
 }
 
 fn broken_lists(session: &mut Session, call: Call) -> Run<()> {

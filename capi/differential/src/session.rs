@@ -136,6 +136,7 @@ impl Session {
             Call::Decode { .. } => &[Words::Blocks, Words::Scratch],
             Call::Recover => &[Words::Records, Words::Scratch],
             Call::Explain => &[Words::Counts, Words::Origins, Words::Scratch],
+            Call::Powers => &[Words::Powers],
             _ => &[],
         };
         self.set(|side| {

@@ -2,8 +2,11 @@
 use crate::calls::{Answer, Call};
 use std::fmt::{self, Display, Formatter};
 
+/// How many calls there are.
+const CALLS: usize = Call::NAMES.len();
+
 /// The numbers that each call can give, in the order of `Call::NAMES`.
-const POSSIBLE: [&[usize]; 7] = [
+const POSSIBLE: [&[usize]; CALLS] = [
     &[0, 1, 2, 5],
     &[0, 1, 2, 4, 5],
     &[0, 1, 2, 4],
@@ -11,18 +14,19 @@ const POSSIBLE: [&[usize]; 7] = [
     &[0, 1, 2, 3, 6, 7, 8, 9, 10],
     &[0, 1, 2, 3, 7, 8, 9, 10],
     &[0, 1, 2, 3, 7, 8, 9, 10],
+    &[0, 2],
 ];
 
 #[derive(Clone, Default)]
 pub struct Tally {
     /// How often each call gave each number.
-    numbers: [[u64; 11]; 7],
+    numbers: [[u64; 11]; CALLS],
     /// For each k, how often each call was taken.
-    taken: [[u64; 7]; 11],
+    taken: [[u64; CALLS]; 11],
     /// For each number, how often each call named a level.
-    levels: [[u64; 7]; 11],
+    levels: [[u64; CALLS]; 11],
     /// The same of the full stripe.
-    full: [[u64; 7]; 11],
+    full: [[u64; CALLS]; 11],
 }
 
 impl Tally {

@@ -167,4 +167,16 @@ extern "C" {
         log: *const u32, log_len: usize,
         image: *mut u8, image_len: usize,
     ) -> u32;
+
+    /// The table of powers: `powers[i]` is (3^32)^i modulo 65537. The root of a vault is entry 1024 / n; its power j, for j from 0 to 2n - 1, is entry
+    /// j * 1024 / n, and the inverse of that, for j from 1, entry 2048 - j * 1024 / n.
+    ///
+    /// Tests 2 (`powers` of 2,048 words). After 0, `powers` holds the table; after 2 it is as it was.
+    ///
+    /// # Safety
+    ///
+    /// `powers` is valid for reads and writes of `powers_len` words.
+    pub fn vault_powers(
+        powers: *mut u32, powers_len: usize,
+    ) -> u32;
 }

@@ -5,8 +5,8 @@
 //! may change is borrowed for that call alone.
 use crate::{Fault, Header, Refusal};
 use vault_sys::{
-    vault_decode, vault_explain, vault_image, vault_open, vault_read, vault_recover, vault_write,
-    VAULT_NO_SHELF,
+    vault_decode, vault_explain, vault_image, vault_open, vault_powers, vault_read, vault_recover,
+    vault_write, VAULT_NO_SHELF,
 };
 
 /// Builds the full stripe of raw records and zeroes the log. Gives the header.
@@ -162,5 +162,12 @@ pub fn image(header: Header, full: &[u32], log: &[u32], image: &mut [u8]) -> Res
             image.as_mut_ptr(), image.len(),
         )
     };
+    Refusal::test(number)
+}
+
+/// Stores the table of powers: entry i is (3^32)^i modulo 65537. The root of a vault of n records is entry 1024 / n.
+pub fn powers(powers: &mut [u32]) -> Result<(), Refusal> {
+    // SAFETY: as said at the head of this file.
+    let number = unsafe { vault_powers(powers.as_mut_ptr(), powers.len()) };
     Refusal::test(number)
 }

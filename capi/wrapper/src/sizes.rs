@@ -1,6 +1,6 @@
-//! The length of each buffer as a function of k and s: in words, the image's in bytes.
+//! The length of each buffer as a function of k and s: in words, the image's in bytes. That of the table of powers is the same for all.
 //!
-//! All are 0 where k or s is out of its range: a call refuses such a header before it looks at a buffer.
+//! The functions give 0 where k or s is out of its range: a call refuses such a header before it looks at a buffer.
 
 /// Whether k and s are in their ranges.
 pub(crate) fn in_range(k: u32, s: u32) -> bool {
@@ -56,6 +56,9 @@ pub fn origins(k: u32, s: u32) -> usize {
     length(k, s, |n, _| 2 * n)
 }
 
+/// The table of powers.
+pub const POWERS: usize = 2048;
+
 #[cfg(test)]
 mod tests {
     use super::*;
@@ -68,6 +71,8 @@ mod tests {
         assert_eq!((blocks(2, 1), scratch(2, 1)), (8, 24));
         assert_eq!((counts(2, 1), origins(2, 1)), (6, 8));
         assert_eq!((counts(10, 128), origins(10, 128)), (22, 2048));
+        // The root of the largest vault has 2n powers.
+        assert_eq!(POWERS, 2 << 10);
     }
 
     #[test]

@@ -21,6 +21,7 @@ mod gaps;
 mod image;
 mod list;
 mod recover;
+mod table;
 
 use crate::arguments::{usage, Arguments, Options};
 use crate::failure::Failure;
@@ -36,7 +37,7 @@ struct Command {
     run: fn(Arguments) -> Result<(), Failure>,
 }
 
-const COMMANDS: [&Command; 7] = [
+const COMMANDS: [&Command; 8] = [
     &demo::COMMAND,
     &image::COMMAND,
     &gaps::COMMAND,
@@ -44,6 +45,7 @@ const COMMANDS: [&Command; 7] = [
     &explain::COMMAND,
     &decode::COMMAND,
     &list::COMMAND,
+    &table::COMMAND,
 ];
 
 /// Runs the command that the words name.

@@ -121,7 +121,7 @@ fn empty_level_at(k: usize, s: usize, c: usize, at: usize) -> bool {
 }
 
 /// Words of the command line, the commands first.
-const WORDS: [&str; 33] = [
+const WORDS: [&str; 34] = [
     "demo",
     "image",
     "gaps",
@@ -129,6 +129,7 @@ const WORDS: [&str; 33] = [
     "explain",
     "decode",
     "list",
+    "table",
     "--json",
     "--seed",
     "-o",
@@ -165,7 +166,7 @@ fn random_words() {
     let out = file("words-out", &[]);
     let mut random = Random::new(4);
     for _ in 0..300 {
-        let mut line = vec![*random.one(&WORDS[..7])];
+        let mut line = vec![*random.one(&WORDS[..8])];
         if random.below(2) == 0 {
             line.extend(["2", "1"]);
         }

@@ -1,6 +1,7 @@
 //! Each command where it is taken.
 use crate::program::{bytes, file, image_file, line, numbers, vault, writes};
 use random::Random;
+use std::fs;
 
 /// The writes of racklist's example in docs/FORMAT.md, and its lines.
 const WRITES: [&[u16]; 3] = [&[0, 1], &[1, 2], &[2, 3]];
@@ -295,6 +296,35 @@ fn spaced(words: &[usize]) -> String {
 }
 
 #[test]
+fn table_of_powers() {
+    let answer = line("table");
+    assert_eq!((answer.status, &answer.stderr[..]), (0, ""));
+    let text = answer.text();
+    let powers: Vec<u64> = text.lines().map(|line| line.parse().unwrap()).collect();
+    assert_eq!((powers.len(), &powers[..2]), (2048, &[1, 61869][..]));
+    for pair in powers.windows(2) {
+        assert_eq!(pair[1], pair[0] * 61869 % 65537);
+    }
+    assert_eq!([512, 256, 128].map(|i| powers[i]), [65281, 4096, 64]);
+    let lines = powers.iter().map(|power| format!("{power}\n"));
+    assert!(text == lines.collect::<String>(), "{text}");
+}
+
+/// `rt ci` holds what the proved generator prints to the file.
+#[test]
+fn table_is_what_the_generator_prints() {
+    let stored = concat!(
+        env!("CARGO_MANIFEST_DIR"),
+        "/../../crates/print_powers/stdout"
+    );
+    let printed = fs::read_to_string(stored).unwrap_or_else(|error| panic!("{stored}: {error}"));
+    let text = line("table").text();
+    let differs = |pair: &(&str, &str)| pair.0 != pair.1;
+    let first = text.lines().zip(printed.lines()).find(differs);
+    assert!(text == printed, "the first lines that differ: {first:?}");
+}
+
+#[test]
 fn demo_is_the_same_for_a_seed() {
     let answer = line("demo --seed 7");
     let text = answer.text();
@@ -317,11 +347,13 @@ fn help_of_everything() {
     assert_eq!((overview.status, &overview.stderr[..]), (0, ""));
     assert_eq!(line("-h"), overview);
     for command in [
-        "demo", "image", "gaps", "recover", "explain", "decode", "list",
+        "demo", "image", "gaps", "recover", "explain", "decode", "list", "table",
     ] {
         assert!(overview.text().contains(&format!("\n  {command} ")));
         let help = line(&format!("{command} --help"));
-        assert!(help.text().starts_with(&format!("usage: vault {command} ")));
+        let text = help.text();
+        let first: Vec<&str> = text.split_whitespace().take(3).collect();
+        assert_eq!(first, ["usage:", "vault", command]);
         assert_eq!((help.status, &help.stderr[..]), (0, ""));
         assert_eq!(line(&format!("{command} 1 x --none -h")), help);
         assert!(help.text().lines().all(|line| line.len() <= 100));

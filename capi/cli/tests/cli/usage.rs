@@ -33,6 +33,10 @@ fn commands_and_options() {
     bad_line("gaps 2 1 -o", "-o needs a value");
     bad_line("list 2 1 3 --json", "there is no option --json");
     bad_line("list -- 2 1 3 --json", "cannot read \"--json\"");
+    bad_line("table 2", "\"2\" is one argument too many");
+    bad(["table", ""], "one argument too many");
+    bad_line("table --json", "there is no option --json");
+    bad_line("table -- --help", "\"--help\" is one argument too many");
 }
 
 #[test]
@@ -159,6 +163,7 @@ fn outputs() {
         format!("decode 10 8 0 {image} - C"),
         "image 10 8".into(),
         "gaps 10 8 C:0-2047".into(),
+        "table".into(),
         "demo".into(),
         "--help".into(),
     ];

@@ -1,6 +1,6 @@
 //! Calls made of the library and of reference/ side by side, which have to give and leave the same.
 use reference::header::Header as ReferenceHeader;
-use reference::{explanation, image, opening, recovery, writing};
+use reference::{explanation, image, opening, powers, recovery, writing};
 use vault_library::{calls, sizes, Fault, Header, Refusal, Vault};
 
 /// The same header for reference/, which has its own type so as to stand alone.
@@ -188,4 +188,25 @@ pub fn explain(header: Header, image: &[u8], list: &[u8]) -> Explained {
         (recovered.number, recovered.stripe)
     );
     ours
+}
+
+/// What the call powers gave, and left in a buffer of this length: nothing where the buffer is unchanged.
+pub fn powers(length: usize) -> (u32, Option<Vec<u32>>) {
+    let stored = |call: fn(&mut [u32]) -> u32| {
+        let mut words = vec![BEFORE; length];
+        let number = call(&mut words);
+        let unchanged = words.iter().all(|&x| x == BEFORE);
+        (number, Some(words).filter(|_| !unchanged))
+    };
+    let ours = stored(|words| calls::powers(words).map_or_else(Refusal::number, |()| 0));
+    let theirs = stored(powers::powers);
+    assert_eq!(ours, theirs, "the library's, and that of reference/");
+    ours
+}
+
+/// The table of powers.
+pub fn power_table() -> Vec<u32> {
+    let (number, table) = powers(sizes::POWERS);
+    assert_eq!(number, 0);
+    table.expect("a table")
 }

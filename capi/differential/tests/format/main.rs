@@ -9,5 +9,6 @@ mod image;
 mod levels;
 mod numbers;
 mod places;
+mod powers;
 mod racklist;
 mod variations;

@@ -1,14 +1,15 @@
 //! Sections 2 and 3: roots, lengths, and the places of stripes.
-use crate::calls::{decode_stripe, Both};
+use crate::calls::{decode_stripe, power_table, Both};
 use crate::document::{cells, said, section, table};
 use crate::forms::{fit, number};
 use crate::places::stripes_in_order;
 use reference::field;
 use reference::header::Header as ReferenceHeader;
+use reference::powers::ENTRIES;
 use std::ops::Range;
 use vault_library::{calls, erasures, sizes, stripes, Header, Refusal};
 
-/// w and its inverse in the library: with a 1 in record n / 2 alone, the words of Y are w, w^3, .., w^(2n - 1).
+/// w and its inverse, as the library codes with them: with a 1 in record n / 2 alone, the words of Y are w, w^3, .., w^(2n - 1).
 fn root_and_inverse(k: u32) -> [u32; 2] {
     let mut raw = vec![0; sizes::raw(k, 1)];
     raw[1 << (k - 1)] = 1;
@@ -19,16 +20,20 @@ fn root_and_inverse(k: u32) -> [u32; 2] {
     })
 }
 
-/// The table of roots. The library has no call that gives a root; its words show them.
+/// The table of roots: those that the library codes with, and their entries in its table of powers.
 #[test]
 fn section_2_roots() {
     let lines = section("## 2 ");
-    let head = "| k | n | 2n | 32768 / n | w | inverse of w |";
+    let head = "| k | n | 2n | 32768 / n | w | inverse of w | entry of w | entry of the inverse |";
+    let powers = power_table();
     for (k, row) in (1..).zip(table(&lines, head, 10)) {
         let row: Vec<u32> = row.into_iter().map(number).collect();
         let n = 1 << k;
         let [w, inverse] = root_and_inverse(k);
-        assert_eq!(row, [k, n, 2 * n, 32768 / n, w, inverse]);
+        let entries = [1024 / n, 2048 - 1024 / n];
+        assert_eq!(row[..6], [k, n, 2 * n, 32768 / n, w, inverse]);
+        assert_eq!(row[6..], entries);
+        assert_eq!(entries.map(|entry| powers[entry as usize]), [w, inverse]);
         assert_eq!(field::root(k), w.into());
         assert_eq!(field::inverse(w.into()), inverse.into());
     }
@@ -55,6 +60,7 @@ fn length(what: &str, formula: &str, k: u32, s: u32) -> [usize; 3] {
             [formula, sizes::counts(k, s), header.counts_len()]
         }
         ("origins of explain", "2n") => [2 * n, sizes::origins(k, s), header.origins_len()],
+        ("table of powers", "2048") => [2048, sizes::POWERS, ENTRIES],
         ("image, bytes", "4(s + 1)(4n - 2)") => {
             let formula = 4 * width * (4 * n - 2);
             [formula, sizes::image(k, s), header.image_len()]
@@ -64,14 +70,15 @@ fn length(what: &str, formula: &str, k: u32, s: u32) -> [usize; 3] {
 }
 
 /// Makes the library's calls over buffers of these lengths: those of the table in its order, and the output of recovery.
-fn all_calls(k: u32, s: u32, lengths: [usize; 10]) -> Result<(), Refusal> {
-    let [block, raw, full, log, blocks, scratch, counts, origins, image, records] = lengths;
+fn all_calls(k: u32, s: u32, lengths: [usize; 11]) -> Result<(), Refusal> {
+    let [block, raw, full, log, blocks, scratch, counts, origins, powers, image, records] = lengths;
     let words = |length| vec![0; length];
     let (mut raw, mut full, mut log) = (words(raw), words(full), words(log));
     let (mut scratch, mut image) = (words(scratch), vec![0; image]);
     let mut header = calls::open(k, s, &raw, &mut full, &mut log)?;
     calls::write(&mut header, &mut raw, &mut full, &mut log, 0, &words(block))?;
     calls::image(header, &full, &log, &mut image)?;
+    calls::powers(&mut words(powers))?;
     calls::decode(header, &image, &[], k, &mut words(blocks), &mut scratch)?;
     let (mut counts, mut origins) = (words(counts), words(origins));
     calls::recover(header, &image, &[], &mut words(records), &mut scratch)
@@ -84,7 +91,7 @@ fn all_calls(k: u32, s: u32, lengths: [usize; 10]) -> Result<(), Refusal> {
 fn section_3_lengths() {
     let lines = section("## 3 ");
     let head = "| what | length | k=1 s=1 | k=2 s=1 | k=2 s=3 | k=4 s=2 | k=5 s=16 | k=10 s=3 | k=10 s=128 |";
-    let rows = table(&lines, head, 9);
+    let rows = table(&lines, head, 10);
     for (column, name) in cells(head).into_iter().enumerate().skip(2) {
         let [k, s] = fit(name, "k={} s={}").map(number);
         let mut lengths = Vec::new();
@@ -94,7 +101,7 @@ fn section_3_lengths() {
             lengths.push(given);
         }
         lengths.push(lengths[1]);
-        let lengths = lengths.try_into().expect("nine lengths and one more");
+        let lengths = lengths.try_into().expect("ten lengths and one more");
         assert_eq!(all_calls(k, s, lengths), Ok(()));
         for i in 0..lengths.len() {
             for other in [lengths[i] - 1, lengths[i] + 1] {
