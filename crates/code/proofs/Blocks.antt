@@ -21,14 +21,14 @@ use Rattle.code.specs.steps.Mixing.{eachBlock}
 use Rattle.code.proofs.Lifting.{length-lifted, length-column, words-lifted, lifted-id, lifted-same, lifted-then, lifted-append, row-in}
 use Rattle.code.proofs.Shapes.{words-mixed, words-unmixed}
 
--- what is done to a block gives as many words, and words of the field
+-- what is done to a block of n words gives as many, and words of the field
 pub record OnBlock (p n : ℕ) (f : List ℕ → List ℕ) : Type 0 where
-  pub long : (a : List ℕ) → length (f a) ≡ n
-  pub words : (a : List ℕ) → Words p (f a)
+  pub long : (a : List ℕ) → length a ≡ n → length (f a) ≡ n
+  pub words : (a : List ℕ) → Words p a → Words p (f a)
 
 lifted-block : (p width n : ℕ) (f : List ℕ → List ℕ) → 0 < p → ((c : List ℕ) → Words p (f c)) → OnBlock p (n * width) (lifted width n n f)
 lifted-block p width n f h u =
-    record { long = length-lifted width n n f; words = λ a. words-lifted p width n n f a h (λ j b. u (column width n j a)) }
+    record { long = λ a _. length-lifted width n n f a; words = λ a _. words-lifted p width n n f a h (λ j b. u (column width n j a)) }
 
 pub mixing-block : (width m v : ℕ) → OnBlock 65537 ((m + m) * width) (lifted width (m + m) (m + m) (mixedHalves 65537 v m))
 mixing-block width m v = lifted-block 65537 width (m + m) (mixedHalves 65537 v m) (omega arith) (λ c. words-mixed 65537 (omega arith) v (take m c) (drop m c))
@@ -75,14 +75,14 @@ block-first : (n : ℕ) (f : List ℕ → List ℕ) (l : List ℕ) → patched (
 unfolding patched
 block-first n f l = rw (zero-mul, zero-add)
 
-block-more : (b n : ℕ) (f : List ℕ → List ℕ) (l : List ℕ) → ((a : List ℕ) → length (f a) ≡ n)
+block-more : (b n : ℕ) (f : List ℕ → List ℕ) (l : List ℕ) → suc b * n ≤ length l → ((a : List ℕ) → length a ≡ n → length (f a) ≡ n)
     → patched (b * n) n f (eachBlock b n f l) ≡ eachBlock (suc b) n f l
 unfolding eachBlock
-block-more zero n f l keeps = block-first n f l
-block-more (suc b) n f l keeps =
+block-more zero n f l h keeps = block-first n f l
+block-more (suc b) n f l h keeps =
     ap (λ (k : ℕ). patched k n f (f (take n l) ++ eachBlock b n f (drop n l))) {x = suc b * n} {y = n + b * n} (omega arith)
-    ∙ patched-append (b * n) n n f (f (take n l)) (eachBlock b n f (drop n l)) (keeps (take n l))
-    ∙ ap (λ (r : List ℕ). f (take n l) ++ r) (block-more b n f (drop n l) keeps)
+    ∙ patched-append (b * n) n n f (f (take n l)) (eachBlock b n f (drop n l)) (keeps (take n l) (length-take-le n l (omega arith)))
+    ∙ ap (λ (r : List ℕ). f (take n l) ++ r) (block-more b n f (drop n l) (rw length-drop (omega arith)) keeps)
 
 -- THE LOOP OVER BLOCKS: f is done to the first b
 pub record BlockLoop (half₀ : List ℕ) (blocks size : ℕ) (f : List ℕ → List ℕ) (half : List ℕ) (at b : ℕ) : Type 0 where
@@ -112,13 +112,14 @@ module _ {half₀ : List ℕ} {blocks size : ℕ} {f : List ℕ → List ℕ} wh
   pub blocks-turn : {half ys : List ℕ} {at b : ℕ} → OnBlock 65537 size f → BlockLoop half₀ blocks size f half at b → b < blocks
       → ys ≡ f (take (at + size - at) (drop at half)) → BlockLoop half₀ blocks size f (putMid at (at + size - at) half ys) (at + size) (b + 1)
   blocks-turn {half} {ys} {at} {b} o h lt e =
+      let lent : length (take size (drop at half)) ≡ size = length-take-le size (drop at half) (rw length-drop (omega (arith, block-in h lt))) in
       rw (put-patched at size f half ys e) (record {
         turns = omega arith;
-        same = length-patched at size f half (block-in h lt) (o .long _) ∙ h .same;
+        same = length-patched at size f half (block-in h lt) (o .long _ lent) ∙ h .same;
         long = h .long;
-        words = words-patched at size f (omega arith) (h .words) (o .words _);
+        words = words-patched at size f (omega arith) (h .words) (o .words _ (words-part 65537 (omega arith) size at (h .words)));
         at-is = omega arith;
-        now = rw (h .now, h .at-is, add-one) (block-more b size f half₀ (o .long));
+        now = rw (h .now, h .at-is, add-one) (block-more b size f half₀ (omega (arith, h .long, row-in size lt)) (o .long));
       })
 
   pub blocks-end : {half : List ℕ} {at b : ℕ} → BlockLoop half₀ blocks size f half at b → blocks ≤ b → half ≡ eachBlock blocks size f half₀
@@ -130,10 +131,19 @@ module _ {half₀ : List ℕ} {blocks size : ℕ} {f : List ℕ → List ℕ} wh
 pub ruleset blocks-needs = (blocks-start, blocks-turn, blocks-end, block-in, block-fits, start-fits, part-long, part-words, mixing-block, unmixing-block, needs)
 
 -- all blocks
-pub words-each : (p b n : ℕ) (f : List ℕ → List ℕ) {l : List ℕ} → 0 < p → ((a : List ℕ) → Words p (f a)) → Words p l → Words p (eachBlock b n f l)
+pub words-each : (p b n : ℕ) (f : List ℕ → List ℕ) {l : List ℕ} → 0 < p → ((a : List ℕ) → Words p a → Words p (f a)) → Words p l → Words p (eachBlock b n f l)
 unfolding eachBlock
 words-each p zero n f h u w = w
-words-each p (suc b) n f {l} h u w = words-append p h {a = f (take n l)} (u (take n l)) (words-each p b n f h u (words-drop p h n w))
+words-each p (suc b) n f {l} h u w =
+    words-append p h {a = f (take n l)} (u (take n l) (words-take p h n w)) (words-each p b n f h u (words-drop p h n w))
+
+-- what is the same on each block
+pub each-same : (b n : ℕ) (f g : List ℕ → List ℕ) (l : List ℕ) → b * n ≤ length l → ((a : List ℕ) → length a ≡ n → f a ≡ g a)
+    → eachBlock b n f l ≡ eachBlock b n g l
+unfolding eachBlock
+each-same zero n f g l h e = refl
+each-same (suc b) n f g l h e =
+    ap₂ _++_ (e (take n l) (length-take-le n l (omega arith))) (each-same b n f g (drop n l) (rw length-drop (omega arith)) e)
 
 each-one : (n : ℕ) (f : List ℕ → List ℕ) (l : List ℕ) → length l ≡ n → eachBlock 1 n f l ≡ f l
 unfolding eachBlock

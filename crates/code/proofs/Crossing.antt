@@ -4,7 +4,7 @@ use mathlib.Core.Path.{_≡_, refl, sym, ap, ap₂, _∙_, subst}
 use mathlib.Core.Logic.{⊎-elim, _≢_}
 use mathlib.Core.List.{List}
 use Prim.Native.Nat.{ℕ, zero, suc, _+_, _-_, _*_, _/_, _%_, _^_, _≤_, _<_}
-use native.Mathlib.Nat.{eq-or-lt-of-le, add-zero, add-suc, add-mul, zero-mul}
+use native.Mathlib.Nat.{eq-or-lt-of-le, add-zero, zero-add, add-suc, add-mul, zero-mul}
 use native.Mathlib.Numerals.{add-one}
 use native.Mathlib.Decide.{decLt}
 use native.Mathlib.Omega.{arith}
@@ -21,7 +21,7 @@ use Rattle.field.proofs.Laws.{plus-lt, minus-lt, times-lt}
 use Rattle.field.proofs.WordLists.{words-set}
 use Rattle.code.specs.Rows.{column, lifted}
 use Rattle.code.specs.Transform.{mixedHalves, unmixed}
-use Rattle.code.specs.steps.Mixing.{Crossing, mixing, unmixing, summing, crossed, crossedRow, RowFactors}
+use Rattle.code.specs.steps.Mixing.{Crossing, mixing, unmixing, summing, crossed, crossedRow, RowFactors, factorAt, mixWords}
 use Rattle.code.proofs.Shapes.{mixed-low, mixed-high, unmixed-low, unmixed-high}
 use Rattle.code.proofs.Lifting.{column-at, length-column, is-lifted, row-in}
 
@@ -71,51 +71,59 @@ module _ {p : ℕ} (h : 0 < p) {c : Crossing} (s : Stores p c) where
   unfolding crossed
   words-crossed g x y w = words-set p h y (words-set p h x w (s .low-lt g _ _)) (s .high-lt g _ _)
 
-  words-row : (g n low high : ℕ) {l : List ℕ} → Words p l → Words p (crossedRow c g n low high l)
+  pub words-row : (f : ℕ → ℕ) (n low high : ℕ) {l : List ℕ} → Words p l → Words p (crossedRow c f n low high l)
   unfolding crossedRow
-  words-row g zero low high w = w
-  words-row g (suc n) low high w = words-crossed g (low + n) (high + n) (words-row g n low high w)
+  words-row f zero low high w = w
+  words-row f (suc n) low high w = words-crossed (f n) (low + n) (high + n) (words-row f n low high w)
 
-length-row : (c : Crossing) (g n low high : ℕ) (l : List ℕ) → length (crossedRow c g n low high l) ≡ length l
+pub length-row : (c : Crossing) (f : ℕ → ℕ) (n low high : ℕ) (l : List ℕ) → length (crossedRow c f n low high l) ≡ length l
 unfolding crossedRow
-length-row c g zero low high l = refl
-length-row c g (suc n) low high l = length-crossed c g (low + n) (high + n) _ ∙ length-row c g n low high l
+length-row c f zero low high l = refl
+length-row c f (suc n) low high l = length-crossed c (f n) (low + n) (high + n) _ ∙ length-row c f n low high l
 
 -- THE LOOP OVER A ROW: its first j words are crossed
-pub record RowLoop (c : Crossing) (part₀ : List ℕ) (low high width g : ℕ) (part : List ℕ) (j : ℕ) : Type 0 where
+pub record RowLoop (c : Crossing) (part₀ : List ℕ) (low high width : ℕ) (f : ℕ → ℕ) (part : List ℕ) (j : ℕ) : Type 0 where
   pub turns : j ≤ width
   pub same : length part ≡ length part₀
   pub words : Words 65537 part
-  pub now : part ≡ crossedRow c g j low high part₀
+  pub now : part ≡ crossedRow c f j low high part₀
 
-module _ {c : Crossing} {part₀ : List ℕ} {low high width g : ℕ} where
-  pub row-start : Words 65537 part₀ → RowLoop c part₀ low high width g part₀ 0
+module _ {c : Crossing} {part₀ : List ℕ} {low high width : ℕ} {f : ℕ → ℕ} where
+  pub row-start : Words 65537 part₀ → RowLoop c part₀ low high width f part₀ 0
   unfolding crossedRow
   row-start w = record { turns = omega arith; same = refl; words = w; now = refl }
 
-  pub row-room : {part : List ℕ} {j : ℕ} → high + width ≤ length part₀ → RowLoop c part₀ low high width g part j → j < width → high + j < length part
+  pub row-room : {part : List ℕ} {j : ℕ} → high + width ≤ length part₀ → RowLoop c part₀ low high width f part j → j < width → high + j < length part
   row-room b h lt = omega arith
 
-  pub row-word : {part : List ℕ} {j : ℕ} → RowLoop c part₀ low high width g part j → (i : ℕ) → getD part i 0 < 65537
+  pub row-word : {part : List ℕ} {j : ℕ} → RowLoop c part₀ low high width f part j → (i : ℕ) → getD part i 0 < 65537
   row-word h i = h .words .word i
 
-  pub row-turn : {part : List ℕ} {j r s : ℕ} → Stores 65537 c → RowLoop c part₀ low high width g part j → j < width
-      → r ≡ c .low g (getD part (low + j) 0) (getD part (high + j) 0) → s ≡ c .high g (getD part (low + j) 0) (getD part (high + j) 0)
-      → RowLoop c part₀ low high width g (set (set part (low + j) r) (high + j) s) (j + 1)
+  pub row-turn : {part : List ℕ} {j r s : ℕ} → Stores 65537 c → RowLoop c part₀ low high width f part j → j < width
+      → r ≡ c .low (f j) (getD part (low + j) 0) (getD part (high + j) 0) → s ≡ c .high (f j) (getD part (low + j) 0) (getD part (high + j) 0)
+      → RowLoop c part₀ low high width f (set (set part (low + j) r) (high + j) s) (j + 1)
   unfolding crossedRow crossed
   row-turn {part} {j} {r} {s} k h lt er es =
-      let e : set (set part (low + j) r) (high + j) s ≡ crossed c g (low + j) (high + j) part = rw (er, es) refl in
+      let e : set (set part (low + j) r) (high + j) s ≡ crossed c (f j) (low + j) (high + j) part = rw (er, es) refl in
       rw e (record {
         turns = omega arith;
-        same = length-crossed c g (low + j) (high + j) part ∙ h .same;
-        words = words-crossed (omega arith) k g (low + j) (high + j) (h .words);
-        now = rw add-one (ap (crossed c g (low + j) (high + j)) (h .now));
+        same = length-crossed c (f j) (low + j) (high + j) part ∙ h .same;
+        words = words-crossed (omega arith) k (f j) (low + j) (high + j) (h .words);
+        now = rw add-one (ap (crossed c (f j) (low + j) (high + j)) (h .now));
       })
 
-  pub row-end : {part : List ℕ} {j : ℕ} → RowLoop c part₀ low high width g part j → width ≤ j → part ≡ crossedRow c g width low high part₀
+  pub row-end : {part : List ℕ} {j : ℕ} → RowLoop c part₀ low high width f part j → width ≤ j → part ≡ crossedRow c f width low high part₀
   row-end {part} {j} h le =
       let e : j ≡ width = omega arith in
       rw e at (h .now)
+
+-- a turn of the loop over the first words and those behind them
+pub words-turn : {part₀ : List ℕ} {size : ℕ} {f : ℕ → ℕ} {part : List ℕ} {j r s : ℕ} → RowLoop (mixing 65537) part₀ 0 size size f part j → j < size
+    → r ≡ plus 65537 (getD part j 0) (times 65537 (f j) (getD part (size + j) 0)) → s ≡ minus 65537 (getD part j 0) (times 65537 (f j) (getD part (size + j) 0))
+    → RowLoop (mixing 65537) part₀ 0 size size f (set (set part j r) (size + j) s) (j + 1)
+words-turn {j = j} {r} {s} h lt er es =
+    let z : 0 + j ≡ j = zero-add j in
+    rw z at (row-turn {r = r} {s = s} mixing-stores h lt (rw z er) (rw z es))
 
 -- the words k and half + k crossed for k below n, each under its factor: what the two loops come to
 unfoldable pub pairs : (c : Crossing) → (f : ℕ → ℕ) → (half n : ℕ) → List ℕ → List ℕ
@@ -124,14 +132,23 @@ pairs c f half (suc n) l = crossed c (f n) n (half + n) (pairs c f half n l)
 
 -- a row is a stretch of the pairs whose factor is one
 row-pairs : (c : Crossing) (f : ℕ → ℕ) (half g n low : ℕ) (l : List ℕ) → ((j : ℕ) → j < n → f (low + j) ≡ g)
-    → crossedRow c g n low (half + low) (pairs c f half low l) ≡ pairs c f half (low + n) l
+    → crossedRow c (λ _. g) n low (half + low) (pairs c f half low l) ≡ pairs c f half (low + n) l
 unfolding crossedRow pairs
 row-pairs c f half g zero low l h = rw add-zero
 row-pairs c f half g (suc n) low l h =
-    let r : crossedRow c g n low (half + low) (pairs c f half low l) ≡ pairs c f half (low + n) l = row-pairs c f half g n low l (λ j lt. h j (omega arith)) in
+    let r : crossedRow c (λ _. g) n low (half + low) (pairs c f half low l) ≡ pairs c f half (low + n) l = row-pairs c f half g n low l (λ j lt. h j (omega arith)) in
     let y : half + low + n ≡ half + (low + n) = omega arith in
     let e : f (low + n) ≡ g = h n (omega arith) in
     rw (add-suc, r, y, ← e)
+
+-- and so are all words in one row
+pairs-row : (c : Crossing) (f g : ℕ → ℕ) (half n : ℕ) (l : List ℕ) → ((j : ℕ) → j < n → f j ≡ g j) → crossedRow c f n 0 half l ≡ pairs c g half n l
+unfolding crossedRow pairs
+pairs-row c f g half zero l h = refl
+pairs-row c f g half (suc n) l h =
+    let r : crossedRow c f n 0 half l ≡ pairs c g half n l = pairs-row c f g half n l (λ j lt. h j (omega arith)) in
+    let e : f n ≡ g n = h n (omega arith) in
+    rw (zero-add, r, e)
 
 module _ (c : Crossing) (f : ℕ → ℕ) (half : ℕ) (l : List ℕ) where
   length-pairs : (n : ℕ) → length (pairs c f half n l) ≡ length l
@@ -235,6 +252,15 @@ module _ (c : Crossing) (v m width : ℕ) (d : List ℕ → List ℕ) (t : Cross
           let s : m + (i - m) ≡ i = omega arith in
           subst (λ (k : ℕ). getD whole (k * width + j) 0 ≡ getD (d (column width (m + m) j l)) k 0) s (pairs-at (i - m) j (omega arith) b .1)
 
+-- and all words, each under the power of its row
+pub words-lifted-mixed : (v m width : ℕ) (fs l : List ℕ) → length l ≡ m * width + m * width
+    → ((x : ℕ) → x < m * width → getD fs x 0 ≡ power 65537 v (x / width))
+    → mixWords 65537 fs (m * width) l ≡ lifted width (m + m) (m + m) (mixedHalves 65537 v m) l
+unfolding factorAt
+words-lifted-mixed v m width fs l e h =
+    pairs-row (mixing 65537) (factorAt fs) (factor v width) (m * width) (m * width) l h
+    ∙ all-pairs (mixing 65537) v m width (mixedHalves 65537 v m) (mixing-crosses v m) l e
+
 -- THE LOOP OVER ROWS: the first i rows are crossed, under powers of entry `step` of a table
 pub record RowsLoop (c : Crossing) (part₀ : List ℕ) (m width : ℕ) (powers : List ℕ) (step : ℕ) (part : List ℕ) (e i low high : ℕ) : Type 0 where
   pub turns : i ≤ m
@@ -289,23 +315,23 @@ module _ {c : Crossing} {part₀ : List ℕ} {m width : ℕ} {powers : List ℕ}
   factor-fits f h lt = record { fits = omega (arith, row-in step lt, f .room) }
 
   pub rows-turn : {part part′ : List ℕ} {e i low high : ℕ} → Stores 65537 c → RowFactors 65537 m step powers → RowsLoop c part₀ m width powers step part e i low high → i < m
-      → part′ ≡ crossedRow c (getD powers (e % 2048) 0) width low high part → RowsLoop c part₀ m width powers step part′ (e + step) (i + 1) (low + width) (high + width)
+      → part′ ≡ crossedRow c (λ _. getD powers (e % 2048) 0) width low high part → RowsLoop c part₀ m width powers step part′ (e + step) (i + 1) (low + width) (high + width)
   rows-turn {part} {part′} {e} {i} {low} {high} s f h lt ep =
       let v = getD powers step 0 in
       let g = getD powers (e % 2048) 0 in
       let n : (i + 1) * width ≡ i * width + width = omega arith in
-      let r : crossedRow c (power 65537 v i) width (i * width) (m * width + i * width) (pairs c (factor v width) (m * width) (i * width) part₀) ≡ pairs c
+      let r : crossedRow c (λ _. power 65537 v i) width (i * width) (m * width + i * width) (pairs c (factor v width) (m * width) (i * width) part₀) ≡ pairs c
       (factor v width) (m * width) (i * width + width) part₀ =
       row-pairs c (factor v width) (m * width) (power 65537 v i) width (i * width) part₀ (λ j b. ap (power 65537 v) (digits-div i b)) in
       record {
         turns = omega arith;
-        same = ap length ep ∙ length-row c g width low high part ∙ h .same;
+        same = ap length ep ∙ length-row c (λ _. g) width low high part ∙ h .same;
         long = h .long;
-        words = rw ep (words-row (omega arith) s g width low high (h .words));
+        words = rw ep (words-row (omega arith) s (λ _. g) width low high (h .words));
         e-is = omega arith;
         low-is = omega arith;
         high-is = omega arith;
-        now = ep ∙ ap (λ (x : ℕ). crossedRow c x width low high part) (factor-is f h lt) ∙ rw (h .low-is, h .high-is, h .now, n) r;
+        now = ep ∙ ap (λ (x : ℕ). crossedRow c (λ _. x) width low high part) (factor-is f h lt) ∙ rw (h .low-is, h .high-is, h .now, n) r;
       }
 
   pub rows-end : {d : List ℕ → List ℕ} {part : List ℕ} {e i low high : ℕ} → Crosses c (getD powers step 0) m d → RowsLoop c part₀ m width powers step part e i low high → m ≤ i

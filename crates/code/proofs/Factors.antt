@@ -16,7 +16,7 @@ use Rattle.field.proofs.Unity.{root-short, root-back, two-div}
 use Rattle.field.proofs.Primes.{fermat-prime, fermat-root}
 use Rattle.field.proofs.PowerTables.{length-table-of-powers, table-power, table-root, table-back, level-root, level-inverse}
 use Rattle.code.specs.Transform.{reversed}
-use Rattle.code.specs.steps.Mixing.{Crossing, mixing, unmixing, summing, crossed, crossedRow, mixRow, unmixRow, sumRow, RowFactors}
+use Rattle.code.specs.steps.Mixing.{Crossing, mixing, unmixing, summing, crossed, crossedRow, mixRow, unmixRow, sumRow, RowFactors, LevelFactors}
 use Rattle.code.proofs.Shapes.{reversed-lt, reversed-more}
 
 -- the powers of an entry that is a root of order 2 * 2 ^ l are factors of 2 ^ l rows
@@ -28,14 +28,9 @@ table-factors l step b s R = record {
   short = root-short 65537 l (getD powerTable step 0) R;
 }
 
--- THE FACTORS OF A LEVEL, 2 ^ l rows mixed with 2 ^ l rows, by the numbers that a loop over levels has: entry `step` is the power of the root that
--- `transform` mixes them under
-pub record LevelFactors (w k l m step : ℕ) (powers : List ℕ) : Type 0 where
-  pub rows : RowFactors 65537 m step powers
-  pub entry : getD powers step 0 ≡ power 65537 w (2 ^ k / 2 ^ l)
-
+-- the factors of a level, by the numbers that a loop over levels has
 module _ {k l m step : ℕ} {powers : List ℕ} (is : powers ≡ powerTable) (b : l ≤ k) (t : k ≤ 10) (em : m ≡ 2 ^ l) where
-  pub mixing-factors : step ≡ 2 ^ (10 - l) → LevelFactors (rootOf fermat k) k l m step powers
+  pub mixing-factors : step ≡ 2 ^ (10 - l) → LevelFactors 65537 (rootOf fermat k) k l m step powers
   mixing-factors e =
       let R : Root 65537 l (getD powerTable (2 ^ (10 - l)) 0) = rw (table-root l (omega arith)) (fermat-root l (omega arith)) in
       rw (is, em, e) (record {
@@ -44,7 +39,7 @@ module _ {k l m step : ℕ} {powers : List ℕ} (is : powers ≡ powerTable) (b 
       })
 
   -- `untransform` unmixes under the inverse
-  pub unmixing-factors : step ≡ 2048 - 2 ^ (10 - l) → LevelFactors (inverse 65537 (rootOf fermat k)) k l m step powers
+  pub unmixing-factors : step ≡ 2048 - 2 ^ (10 - l) → LevelFactors 65537 (inverse 65537 (rootOf fermat k)) k l m step powers
   unmixing-factors e =
       let R : Root 65537 l (getD powerTable (2048 - 2 ^ (10 - l)) 0) =
       rw (table-back l (omega arith)) (root-back 65537 l (rootOf fermat l) fermat-prime (fermat-root l (omega arith))) in
@@ -79,7 +74,7 @@ turning-factor p k w t R = root-short p k w R (reversed k t) (reversed-lt k t)
 
 -- crossings that store the same under g cross a row alike
 module _ (c d : Crossing) (g : ℕ) (low-same : (a b : ℕ) → c .low g a b ≡ d .low g a b) (high-same : (a b : ℕ) → c .high g a b ≡ d .high g a b) where
-  row-same : (n low high : ℕ) (l : List ℕ) → crossedRow c g n low high l ≡ crossedRow d g n low high l
+  row-same : (n low high : ℕ) (l : List ℕ) → crossedRow c (λ _. g) n low high l ≡ crossedRow d (λ _. g) n low high l
   unfolding crossedRow crossed
   row-same zero low high l = refl
   row-same (suc n) low high l = rw (row-same n low high l, low-same, high-same) refl

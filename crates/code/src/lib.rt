@@ -2,6 +2,7 @@
 // width; each function does the same to every column.
 pub mod coding;
 pub mod mixing;
+mod narrow;
 pub mod number;
 pub mod table;
 pub mod unmixing;

@@ -1,4 +1,4 @@
-// Mixing in place. All mixing goes through `mix`.
+// Mixing in place: a row at a time here, and in crate::narrow where rows are short.
 use crate::Stripe;
 ghost use mathlib.Core.Path.{_≡_};
 ghost use Prim.Native.Nat.{_+_, _*_, _-_, _≤_, _<_};
@@ -107,8 +107,9 @@ fn mix_each(half: &mut [u32], blocks: usize, m: usize, width: usize, powers: &[u
     }
 }
 
-// All mixing of a half of a stripe, from single rows up. The root of 2^l records, under which 2^l rows are mixed with 2^l rows, is entry 1024 / 2^l.
-pub fn mix_all(half: &mut [u32], st: Stripe, powers: &[u32])
+// All mixing of a half of a stripe, from single rows up, a row at a time. The root of 2^l records, under which 2^l rows are mixed with 2^l rows, is entry
+// 1024 / 2^l.
+fn mix_rows(half: &mut [u32], st: Stripe, powers: &[u32])
     requires { ⌜ Numbers st ⌝ }
     requires { ⌜ length (now half) ≡ blockWords st ⌝ }
     requires { ⌜ now powers ≡ powerTable ⌝ }
@@ -128,5 +129,21 @@ pub fn mix_all(half: &mut [u32], st: Stripe, powers: &[u32])
         mix_each(half, blocks, m, width, powers, step);
         step = step / 2;
         m = m * 2;
+    }
+}
+
+// All mixing of a half of a stripe.
+pub fn mix_all(half: &mut [u32], st: Stripe, powers: &[u32])
+    requires { ⌜ Numbers st ⌝ }
+    requires { ⌜ length (now half) ≡ blockWords st ⌝ }
+    requires { ⌜ now powers ≡ powerTable ⌝ }
+    requires { ⌜ Words (modulusOf st) (now half) ⌝ }
+    ensures { λ _. ⌜ now (half .exit) ≡
+        lifted (st .width) (blockCount st) (blockCount st) (transform (modulusOf st) (rootIn st) (st .k) (st .level)) (now (half .entry)) ⌝ }
+{
+    if st.width < 4 {
+        crate::narrow::mix_narrow(half, st, powers);
+    } else {
+        mix_rows(half, st, powers);
     }
 }

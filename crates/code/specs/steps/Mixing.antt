@@ -1,7 +1,7 @@
 -- What the loops of mixing and unmixing make of a slice, step by step, and what they ask of their factors. Assumes nothing: these are definitions.
 use mathlib.Core.Path.{_≡_}
 use mathlib.Core.List.{List, _++_}
-use Prim.Native.Nat.{ℕ, zero, suc, _+_, _*_, _-_, _%_, _<_}
+use Prim.Native.Nat.{ℕ, zero, suc, _+_, _*_, _-_, _/_, _%_, _^_, _≤_, _<_}
 use lib.ListN.{length, getD, set, take, drop}
 use Rattle.field.specs.Residue.{plus, minus, times}
 use Rattle.field.specs.Power.{power}
@@ -25,19 +25,19 @@ summing p = record { low = λ g a b. plus p a b; high = λ g a b. minus p a b }
 unfoldable pub crossed : (c : Crossing) → (g x y : ℕ) → List ℕ → List ℕ
 crossed c g x y l = set (set l x (c .low g (getD l x 0) (getD l y 0))) y (c .high g (getD l x 0) (getD l y 0))
 
--- the n words from `low` on crossed with those from `high` on
-unfoldable pub crossedRow : (c : Crossing) → (g n low high : ℕ) → List ℕ → List ℕ
-crossedRow c g zero low high l = l
-crossedRow c g (suc n) low high l = crossed c g (low + n) (high + n) (crossedRow c g n low high l)
+-- the n words from `low` on crossed with those from `high` on, words j under the factor f j
+unfoldable pub crossedRow : (c : Crossing) → (f : ℕ → ℕ) → (n low high : ℕ) → List ℕ → List ℕ
+crossedRow c f zero low high l = l
+crossedRow c f (suc n) low high l = crossed c (f n) (low + n) (high + n) (crossedRow c f n low high l)
 
 abbrev pub mixRow : (p width low high g : ℕ) → List ℕ → List ℕ
-mixRow p width low high g l = crossedRow (mixing p) g width low high l
+mixRow p width low high g l = crossedRow (mixing p) (λ _. g) width low high l
 
 abbrev pub unmixRow : (p width low high g : ℕ) → List ℕ → List ℕ
-unmixRow p width low high g l = crossedRow (unmixing p) g width low high l
+unmixRow p width low high g l = crossedRow (unmixing p) (λ _. g) width low high l
 
 abbrev pub sumRow : (p width low high : ℕ) → List ℕ → List ℕ
-sumRow p width low high l = crossedRow (summing p) 1 width low high l
+sumRow p width low high l = crossedRow (summing p) (λ _. 1) width low high l
 
 -- THE FACTORS of m rows in a table of powers, v ^ i for row i where v is entry `step`: they stand `step` apart, around the table of 2,048; none is -1, so
 -- that the product of a factor and a word fits 32 bits
@@ -46,6 +46,27 @@ pub record RowFactors (p m step : ℕ) (powers : List ℕ) : Type 0 where
   pub within : (i : ℕ) → i < m → i * step % 2048 < length powers
   pub entry : (i : ℕ) → i < m → getD powers (i * step % 2048) 0 ≡ power p (getD powers step 0) i
   pub short : (i : ℕ) → i < m → power p (getD powers step 0) i < p - 1
+
+-- THE FACTORS OF A LEVEL, m = 2 ^ l rows mixed with as many: entry `step` is the power of the root w under which `transform` mixes them
+pub record LevelFactors (p w k l m step : ℕ) (powers : List ℕ) : Type 0 where
+  pub rows : RowFactors p m step powers
+  pub entry : getD powers step 0 ≡ power p w (2 ^ k / 2 ^ l)
+
+-- FACTORS OF WORDS: the factors of rows, each `width` times
+unfoldable pub repeatedAt : (powers : List ℕ) → (width step : ℕ) → (x : ℕ) → ℕ
+repeatedAt powers width step x = getD powers (x / width * step % 2048) 0
+
+-- word x of some factors; none of the first n is -1
+unfoldable pub factorAt : (factors : List ℕ) → (x : ℕ) → ℕ
+factorAt fs x = getD fs x 0
+
+pub record ShortFactors (p n : ℕ) (factors : List ℕ) : Type 0 where
+  pub room : n ≤ length factors
+  pub short : (x : ℕ) → x < n → getD factors x 0 < p - 1
+
+-- the first n words mixed with the next n, each under a factor of its own
+abbrev pub mixWords : (p : ℕ) → (factors : List ℕ) → (n : ℕ) → List ℕ → List ℕ
+mixWords p fs n l = crossedRow (mixing p) (factorAt fs) n 0 n l
 
 -- f done to each of the first b blocks of n words
 unfoldable pub eachBlock : (b n : ℕ) → (f : List ℕ → List ℕ) → List ℕ → List ℕ

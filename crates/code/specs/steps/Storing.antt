@@ -12,6 +12,10 @@ use Rattle.field.specs.Words.{table}
 unfoldable pub stored : (from : ℕ) → (f : ℕ → ℕ) → (n : ℕ) → (words : List ℕ) → List ℕ
 stored a f n l = sets l a (table n f)
 
+-- the same word each time
+unfoldable pub always : (g i : ℕ) → ℕ
+always g i = g
+
 -- THE ROW of `width` words from index `from` on times g
 unfoldable pub scaledWord : (p from g : ℕ) → (words : List ℕ) → (i : ℕ) → ℕ
 scaledWord p a g l i = times p g (getD l (a + i) 0)

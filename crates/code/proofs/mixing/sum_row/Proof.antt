@@ -6,7 +6,7 @@ use Rattle.code.proofs.mixing.sum_row.Statement.{statement}
 use Rattle.code.proofs.mixing.sum_row.Tie as tie
 
 abbrev Inv-loop : tie.InvT-loop
-Inv-loop part₀ low high width j₀ part j = RowLoop (summing 65537) part₀ low high width 1 part j
+Inv-loop part₀ low high width j₀ part j = RowLoop (summing 65537) part₀ low high width (λ _. 1) part j
 
 abbrev μ-loop : tie.MeasureT-loop
 μ-loop part₀ low high width j₀ part j = width - j
