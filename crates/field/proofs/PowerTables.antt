@@ -58,6 +58,9 @@ pub powers-at : (p x n i : ℕ) → i < n → getD (powersOf p x n) i 0 ≡ powe
 unfolding powersOf
 powers-at p x n i b = getD-table n i (power p x) b
 
+pub powers-entry : (p x n i : ℕ) {l : List ℕ} → l ≡ powersOf p x n → i < n → getD l i 0 ≡ power p x i
+powers-entry p x n i e b = rw e (powers-at p x n i b)
+
 -- the power of an inverse is the inverse of the power
 inverse-power : (p : ℕ) → 1 < p → (x e : ℕ) → power p (inverse p x) e ≡ inverse p (power p x e)
 unfolding inverse
@@ -147,3 +150,12 @@ pub table-back : (k : ℕ) → k ≤ 10 → getD powerTable (2048 - 2 ^ (10 - k)
 table-back k b =
     rw table-is (entry-back 65537 10 (rootOf fermat 10) fermat-prime (fermat-root 10 (omega arith)) (2 ^ (10 - k)) (pow-pos (10 - k))
     (omega (arith, pow-mono {i = 10 - k} {j = 10} (omega arith)))) ∙ ap (inverse 65537) (table-root k b)
+
+-- entry i is the product of two: of its digits to the base 32
+pub table-digits : (i : ℕ) → i < 2048 → times 65537 (power 65537 (rootOf fermat 5) (i / 32)) (power 65537 (rootOf fermat 10) (i % 32)) ≡ getD powerTable i 0
+table-digits i b =
+    let w = rootOf fermat 10 in
+    let e : power 65537 w (32 * (i / 32)) ≡ power 65537 (rootOf fermat 5) (i / 32) =
+    power-mul 65537 (omega arith) w 32 (i / 32) ∙ ap (λ (x : ℕ). power 65537 x (i / 32)) (level-root 10 5 (omega arith) (omega arith)) in
+    ap (λ (x : ℕ). times 65537 x (power 65537 w (i % 32))) (sym e) ∙ sym (power-add 65537 (omega arith) w (32 * (i / 32)) (i % 32))
+    ∙ ap (power 65537 w) {x = 32 * (i / 32) + i % 32} {y = i} (omega arith) ∙ sym (powers-entry 65537 w 2048 i table-is b)
