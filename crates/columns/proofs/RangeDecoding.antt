@@ -6,7 +6,7 @@ use Prim.Native.Nat.{ℕ, _+_, _*_, _≤_}
 use lib.ListN.{take, drop, replicate}
 use lib.Seq.{take-at, drop-at}
 use Rattle.code.specs.declared.Stripe.{Stripe}
-use Rattle.code.specs.Stripe.{modulusOf, blockCount, positionCount}
+use Rattle.code.specs.Stripe.{modulusOf, rootIn, blockCount, positionCount}
 use Rattle.decoder.specs.Decoding.{blocksIn}
 use Rattle.decoder.specs.steps.Decoder.{leftOf, weightsIn}
 use Rattle.decoder.proofs.DecodeRows.{leaves-blocks}
@@ -31,7 +31,7 @@ module _ (st : Stripe) (ms : List Bool) (r : List ℕ) (from cols : ℕ) where
         let bs = blocksIn (narrow st cols) ms words in
         let zs : List ℕ = replicate (blockCount st * cols) 0 in
         let a : part ≡ bs ++ (zs ++ weightsIn st ms) =
-        q ∙ ap (λ (x : List ℕ). x ++ weightsIn st ms) (leaves-blocks (modulusOf st) (st .root) (st .k) (st .level) (st .first) cols ms words c)
+        q ∙ ap (λ (x : List ℕ). x ++ weightsIn st ms) (leaves-blocks (modulusOf st) (rootIn st) (st .k) (st .level) (st .first) cols ms words c)
         ∙ append-assoc bs zs (weightsIn st ms) in
         ap (take (blockCount st * cols)) a ∙ take-at bs (zs ++ weightsIn st ms) (blockCount st * cols) (length-blocks (narrow st cols) ms words)
-        ∙ decoded-range (modulusOf st) (st .root) (st .k) (st .level) (st .first) ms (st .width) r from cols fit
+        ∙ decoded-range (modulusOf st) (rootIn st) (st .k) (st .level) (st .first) ms (st .width) r from cols fit

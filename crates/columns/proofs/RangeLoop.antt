@@ -11,7 +11,7 @@ use lib.Seq.{length-take-le, getD-take, getD-drop, ext-getD}
 use Rattle.decoder.specs.Decoding.{consistentTo, consistentColumn, isConsistent, blocksIn}
 use Rattle.code.specs.Rows.{column}
 use Rattle.code.specs.declared.Stripe.{Stripe}
-use Rattle.code.specs.Stripe.{modulusOf, blockCount, positionCount}
+use Rattle.code.specs.Stripe.{modulusOf, rootIn, blockCount, positionCount}
 use Rattle.image.specs.steps.Loading.{columnsOf}
 use Rattle.decoder.specs.steps.Decoder.{weightsIn}
 use Rattle.columns.specs.steps.Ranges.{copiedRows, columnsFit, RangeFits, isConsistentRange, rangeNumber, scratchWords}
@@ -92,7 +92,7 @@ less-consistent p w k l t width ms r i (suc n) b e = by (decLt n i) (less-consis
 -- THE LOOP before a range
 module _ (st : Stripe) (ms : List Bool) (r : List ℕ) (skip : ℕ) (o₀ : List ℕ) where
   abbrev areConsistent : (from : ℕ) → Bool
-  areConsistent from = consistentTo (modulusOf st) (st .root) (st .k) (st .level) (st .first) (st .width) ms r from
+  areConsistent from = consistentTo (modulusOf st) (rootIn st) (st .k) (st .level) (st .first) (st .width) ms r from
 
   abbrev fitTo : (from : ℕ) → Bool
   fitTo from = columnsFit (st .width) 0 0 from (blocksIn st ms r) (blockCount st)
@@ -121,8 +121,8 @@ module _ (st : Stripe) (ms : List Bool) (r : List ℕ) (skip : ℕ) (o₀ : List
     -- a range that is not consistent
     pub ranging-fails : found ≡ 9 → isConsistent st ms r ≡ false
     ranging-fails n =
-        less-consistent (modulusOf st) (st .root) (st .k) (st .level) (st .first) (st .width) ms r (from + cols) (st .width) (f .within)
-        (consistent-range (modulusOf st) (st .root) (st .k) (st .level) (st .first) ms (st .width) r from cols
+        less-consistent (modulusOf st) (rootIn st) (st .k) (st .level) (st .first) (st .width) ms r (from + cols) (st .width) (f .within)
+        (consistent-range (modulusOf st) (rootIn st) (st .k) (st .level) (st .first) ms (st .width) r from cols
         ∙ first-false (areConsistent from) (nine-differs (isConsistentRange st ms r from cols) (fitRange st ms r from cols) (sym e ∙ n)))
 
     -- a range that is taken: a number that is not 0 becomes that of all
@@ -150,7 +150,7 @@ module _ (st : Stripe) (ms : List Bool) (r : List ℕ) (skip : ℕ) (o₀ : List
         turns = f .within;
         sized = same ∙ R .sized;
         weighed = w ∙ R .weighed;
-        agreed = consistent-range (modulusOf st) (st .root) (st .k) (st .level) (st .first) ms (st .width) r from cols ∙ both-true fine (R .agreed);
+        agreed = consistent-range (modulusOf st) (rootIn st) (st .k) (st .level) (st .first) ms (st .width) r from cols ∙ both-true fine (R .agreed);
         numbered = n;
         copied = filled-more (R .copied) cols (f .within) few room (q fine);
       }

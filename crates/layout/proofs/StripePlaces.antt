@@ -3,11 +3,10 @@ use mathlib.Core.Path.{_≡_, ap, _∙_}
 use mathlib.Core.Bool.{true}
 use mathlib.Core.Logic.{⊎-elim}
 use Prim.Native.Nat.{ℕ, suc, _+_, _*_, _-_, _/_, _%_, _^_, _≤_, _<_}
-use native.Mathlib.Nat.{div-mul-le-self, eq-or-lt-of-le, mul-mod-left, mul-le-mul-right, zero-mod}
+use native.Mathlib.Nat.{div-lt-iff-lt-mul, eq-or-lt-of-le, mul-mod-left, mul-le-mul-right, zero-mod}
 use native.Mathlib.Omega.{arith}
 use borrow.Author.Tests.{eq-eqb, ne-eqb}
-use lib.Pow.{pow-pos, pow-mono}
-use Rattle.field.proofs.Primes.{fermat-root}
+use lib.Pow.{pow-pos, pow-mono, pow-add}
 use Rattle.code.specs.Stripe.{Numbers}
 use Rattle.layout.specs.declared.Header.{Header}
 use Rattle.layout.specs.Header.{headerFits, width, fullSize, imageSize, levelAt, firstOf, stripeAt, stripeOf}
@@ -21,6 +20,14 @@ power-less b = omega arith
 
 doubled : (x m n : ℕ) → m ≡ n + n → x * m % n ≡ 0
 doubled x m n e = ap (λ (y : ℕ). y % n) {x = x * m} {y = x * 2 * n} (ap (λ (y : ℕ). x * y) e ∙ omega arith) ∙ mul-mod-left (x * 2) n
+
+-- the multiple of 2^(l+1) below c is followed by 2^(l+1) numbers that are below 2^k too
+block-in : (c l k : ℕ) → suc l ≤ k → c < 2 ^ k → c / 2 ^ suc l * 2 ^ suc l + 2 ^ suc l ≤ 2 ^ k
+block-in c l k b u =
+    let e : 2 ^ k ≡ 2 ^ (k - suc l) * 2 ^ suc l =
+    ap (λ (x : ℕ). 2 ^ x) {x = k} {y = k - suc l + suc l} (omega arith) ∙ pow-add 2 (k - suc l) (suc l) in
+    let d : c / 2 ^ suc l < 2 ^ (k - suc l) = div-lt-iff-lt-mul (pow-pos (suc l)) .1 (rw e at u) in
+    omega (arith, e, mul-le-mul-right (2 ^ suc l) d)
 
 module _ (h : Header) (l : ℕ) where
   pub first-full : l ≡ h .k → firstOf h l ≡ 0
@@ -39,10 +46,11 @@ module _ (h : Header) (l : ℕ) where
     pub level-low : levelAt h l ≤ 264192
     level-low = omega (arith, mul-le-mul-right (width h) (power-less (pow-mono {i = suc l} {j = suc (h .k)} (omega arith))), f .full-low)
 
-    pub first-low : firstOf h l < 1024
-    first-low =
-        ⊎-elim (λ e. rw (first-full e) (omega arith))
-        (λ b. rw (first-level (λ e. omega arith)) (omega (arith, div-mul-le-self (h .c) (2 ^ suc l), f .c-low, f .few))) (eq-or-lt-of-le w)
+    -- a stripe's writes are among n
+    pub first-ends : firstOf h l + 2 ^ l ≤ 2 ^ h .k
+    first-ends =
+        ⊎-elim (λ e. rw (first-full e, e) (omega arith))
+        (λ b. rw (first-level (λ e. omega arith)) (omega (arith, block-in (h .c) l (h .k) b (f .c-low)))) (eq-or-lt-of-le w)
 
     -- a stripe's first write number is a multiple of its blocks
     pub first-aligned : firstOf h l % 2 ^ l ≡ 0
@@ -71,8 +79,7 @@ stripe-numbers h l e w =
     let f = fits h e in
     record {
       within = w;
-      small = omega (arith, f .k-high);
+      small = f .k-high;
       aligned = first-aligned h l f w;
-      ends = omega (arith, first-low h l f w, pow-mono {i = l} {j = 10} (omega (arith, f .k-high)));
-      rooted = fermat-root (h .k) (omega (arith, f .k-high));
+      ends = first-ends h l f w;
     }

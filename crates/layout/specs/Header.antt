@@ -88,4 +88,4 @@ levelFor h = firstEmpty (h .k) 0 (h .c)
 
 -- the numbers of a stripe
 abbrev pub stripeOf : Header → (stripe : ℕ) → Stripe
-stripeOf h l = record { level = l; k = h .k; first = firstOf h l; root = vaultRoot h; width = width h }
+stripeOf h l = record { level = l; k = h .k; first = firstOf h l; width = width h }

@@ -13,7 +13,7 @@ use lib.Seq.{take-at, drop-at, length-take-le}
 use Rattle.field.specs.Words.{Words, table}
 use Rattle.field.proofs.WordLists.{length-table, words-append}
 use Rattle.code.specs.declared.Stripe.{Stripe}
-use Rattle.code.specs.Stripe.{modulusOf, positionCount, blockWords, stripeWords, Numbers}
+use Rattle.code.specs.Stripe.{modulusOf, rootIn, positionCount, blockWords, stripeWords, Numbers}
 use Rattle.decoder.specs.Decoding.{pointAt, isConsistent, blocksIn}
 use Rattle.decoder.specs.steps.Decoder.{leftOf, weightAt, weightsIn}
 use Rattle.decoder.proofs.DecodeRows.{leaves-blocks, leaves-zeros}
@@ -29,10 +29,10 @@ pub twice : (st : Stripe) → blockWords st + blockWords st ≡ stripeWords st
 twice st = let e : 2 ^ suc (st .level) ≡ 2 ^ st .level + 2 ^ st .level = omega arith in rw e (omega arith)
 
 pub narrow-numbers : {st : Stripe} (cols : ℕ) → Numbers st → Numbers (narrow st cols)
-narrow-numbers cols n = record { within = n .within; small = n .small; aligned = n .aligned; ends = n .ends; rooted = n .rooted }
+narrow-numbers cols n = record { within = n .within; small = n .small; aligned = n .aligned; ends = n .ends }
 
 pub length-weights : (st : Stripe) (ms : List Bool) → length (weightsIn st ms) ≡ positionCount st
-length-weights st ms = length-table (positionCount st) (weightAt (modulusOf st) (st .root) (st .k) (st .level) ms)
+length-weights st ms = length-table (positionCount st) (weightAt (modulusOf st) (rootIn st) (st .k) (st .level) ms)
 
 -- COLUMNS LOADED, and the weights behind them
 module _ (st : Stripe) (ms : List Bool) (r : List ℕ) (from cols : ℕ) where
@@ -55,7 +55,7 @@ module _ (st : Stripe) (ms : List Bool) (r : List ℕ) (from cols : ℕ) where
     pub loaded-words : areBelow (modulusOf st) r ≡ true → Words (modulusOf st) part
     loaded-words e =
         rw L (words-append (modulusOf st) (lit< tt) {a = columns} (columns-words (modulusOf st) (st .width) from cols (positionCount st) r (lit< tt) e)
-        (words-weights (modulusOf st) (lit< tt) (st .root) (st .k) (st .level) ms (positionCount st) (positionCount st)))
+        (words-weights (modulusOf st) (lit< tt) (rootIn st) (st .k) (st .level) ms (positionCount st) (positionCount st)))
 
 -- ROWS of words of the field, and the weights behind them
 pub part-words : (st : Stripe) (ms : List Bool) (part : List ℕ) → areBelow (modulusOf st) (take (stripeWords st) part) ≡ true
@@ -63,23 +63,23 @@ pub part-words : (st : Stripe) (ms : List Bool) (part : List ℕ) → areBelow (
 part-words st ms part e w =
     rw (← take-append-drop (stripeWords st) part)
     (words-append (modulusOf st) (lit< tt) {a = take (stripeWords st) part} (below-words (modulusOf st) (lit< tt) (take (stripeWords st) part) e)
-    (rw w (words-weights (modulusOf st) (lit< tt) (st .root) (st .k) (st .level) ms (positionCount st) (positionCount st))))
+    (rw w (words-weights (modulusOf st) (lit< tt) (rootIn st) (st .k) (st .level) ms (positionCount st) (positionCount st))))
 
 -- THE WEIGHTS STORED in the last words of a part
 pub weights-last : (st : Stripe) (ms : List Bool) {part : List ℕ} (part₀ : List ℕ) (cols : ℕ) → 0 < cols
     → length part₀ ≡ positionCount st * cols + positionCount st
-    → part ≡ table (positionCount st) (pointAt (modulusOf st) (st .root) (st .k) (st .level)) ++ take (length part₀ - (positionCount st + positionCount st))
+    → part ≡ table (positionCount st) (pointAt (modulusOf st) (rootIn st) (st .k) (st .level)) ++ take (length part₀ - (positionCount st + positionCount st))
     (drop (positionCount st) part₀) ++ weightsIn st ms
     → drop (positionCount st * cols) part ≡ weightsIn st ms
 weights-last st ms {part} part₀ cols z e q =
     let n = positionCount st in
     let m : ℕ = length part₀ - (n + n) in
-    let ps = table n (pointAt (modulusOf st) (st .root) (st .k) (st .level)) in
+    let ps = table n (pointAt (modulusOf st) (rootIn st) (st .k) (st .level)) in
     let b : n ≤ n * cols = some n cols z in
     let long : length (ps ++ take m (drop n part₀)) ≡ n * cols =
     length-append ps (take m (drop n part₀)) ∙ omega (
       arith,
-      length-table n (pointAt (modulusOf st) (st .root) (st .k) (st .level)),
+      length-table n (pointAt (modulusOf st) (rootIn st) (st .k) (st .level)),
       length-take-le m (drop n part₀) (rw length-drop (omega arith)),
     ) in
     ap (drop (n * cols)) q ∙ drop-at (ps ++ take m (drop n part₀)) (weightsIn st ms) (n * cols) long
@@ -94,13 +94,13 @@ module _ (st : Stripe) (ms : List Bool) (r : List ℕ) where
     where
       by : (b : Bool) → isConsistent st ms r ≡ b → length (leftOf st ms r) ≡ stripeWords st
       by true e =
-          ap length (leaves-blocks (modulusOf st) (st .root) (st .k) (st .level) (st .first) (st .width) ms r e)
+          ap length (leaves-blocks (modulusOf st) (rootIn st) (st .k) (st .level) (st .first) (st .width) ms r e)
           ∙ length-append (blocksIn st ms r) (replicate (blockWords st) 0)
-          ∙ ap₂ _+_ (length-decoded (modulusOf st) (st .root) (st .k) (st .level) (st .first) ms (st .width) r) (length-replicate (blockWords st) 0) ∙ twice st
-      by false e = ap length (leaves-zeros (modulusOf st) (st .root) (st .k) (st .level) (st .first) (st .width) ms r e) ∙ length-replicate (stripeWords st) 0
+          ∙ ap₂ _+_ (length-decoded (modulusOf st) (rootIn st) (st .k) (st .level) (st .first) ms (st .width) r) (length-replicate (blockWords st) 0) ∙ twice st
+      by false e = ap length (leaves-zeros (modulusOf st) (rootIn st) (st .k) (st .level) (st .first) (st .width) ms r e) ∙ length-replicate (stripeWords st) 0
 
   pub length-blocks : length (blocksIn st ms r) ≡ blockWords st
-  length-blocks = length-decoded (modulusOf st) (st .root) (st .k) (st .level) (st .first) ms (st .width) r
+  length-blocks = length-decoded (modulusOf st) (rootIn st) (st .k) (st .level) (st .first) ms (st .width) r
 
   -- zeros in place of the weights
   pub weights-cleared : {rows : ℕ} {part x : List ℕ} → part ≡ leftOf st ms r ++ weightsIn st ms → rows ≡ stripeWords st
@@ -121,14 +121,14 @@ module _ (st : Stripe) (ms : List Bool) (r : List ℕ) where
   -- no blocks: zeros
   pub left-zeros : isConsistent st ms r ≡ false → leftOf st ms r ++ replicate (positionCount st) 0 ≡ replicate (stripeWords st + positionCount st) 0
   left-zeros c =
-      ap (λ (y : List ℕ). y ++ replicate (positionCount st) 0) (leaves-zeros (modulusOf st) (st .root) (st .k) (st .level) (st .first) (st .width) ms r c)
+      ap (λ (y : List ℕ). y ++ replicate (positionCount st) 0) (leaves-zeros (modulusOf st) (rootIn st) (st .k) (st .level) (st .first) (st .width) ms r c)
       ∙ replicate-append-replicate (stripeWords st) (positionCount st) 0
 
   -- blocks, and zeros after them
   pub left-blocks : isConsistent st ms r ≡ true
       → leftOf st ms r ++ replicate (positionCount st) 0 ≡ blocksIn st ms r ++ replicate (stripeWords st + positionCount st - length (blocksIn st ms r)) 0
   left-blocks c =
-      ap (λ (y : List ℕ). y ++ replicate (positionCount st) 0) (leaves-blocks (modulusOf st) (st .root) (st .k) (st .level) (st .first) (st .width) ms r c)
+      ap (λ (y : List ℕ). y ++ replicate (positionCount st) 0) (leaves-blocks (modulusOf st) (rootIn st) (st .k) (st .level) (st .first) (st .width) ms r c)
       ∙ append-assoc (blocksIn st ms r) (replicate (blockWords st) 0) (replicate (positionCount st) 0)
       ∙ ap (λ (y : List ℕ). blocksIn st ms r ++ y) (replicate-append-replicate (blockWords st) (positionCount st) 0
       ∙ ap (λ (m : ℕ). replicate m 0) {x = blockWords st + positionCount st} {y = stripeWords st + positionCount st - length (blocksIn st ms r)}

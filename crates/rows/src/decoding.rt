@@ -55,7 +55,6 @@ pub fn decode_columns(
         level: st.level,
         k: st.k,
         first: st.first,
-        root: st.root,
         width: cols,
     };
     decoder::decoding::decode(part, marks, range)

@@ -10,18 +10,16 @@ use lib.ListN.{length, drop, length-append, take-append-drop}
 use lib.Pow.{pow-mono}
 use lib.Seq.{drop-at, drop-length}
 use Rattle.field.specs.Words.{Words}
-use Rattle.field.specs.Field.{fermat, rootOf}
-use Rattle.field.proofs.Primes.{is-root}
 use Rattle.code.specs.Stripe.{Numbers}
 use Rattle.field.proofs.WordLists.{words-append, words-nil, length-table}
 use Rattle.decoder.specs.steps.Decoder.{weightTo, weights}
 use Rattle.decoder.proofs.WeightLaws.{words-weights}
 use Rattle.test_stripes.specs.Input.{Loaded}
 
--- the numbers of a stripe, where the code has 2 ^ l in a local and tests the others
-pub numbers : {l k first w width size : ℕ} → size ≡ 2 ^ l → first % size ≡ 0 → l ≤ k → k ≤ 15 → first + size ≤ 65536 → w ≡ rootOf fermat k
-    → Numbers (record { level = l; k = k; first = first; root = w; width = width })
-numbers e aligned within small ends r = record { within = within; small = small; aligned = rw e at aligned; ends = rw e at ends; rooted = is-root small r }
+-- the numbers of a stripe, where the code has 2 ^ l and 2 ^ k in locals and tests the others
+pub numbers : {l k first width size records : ℕ} → size ≡ 2 ^ l → records ≡ 2 ^ k → first % size ≡ 0 → l ≤ k → k ≤ 10 → first + size ≤ records
+    → Numbers (record { level = l; k = k; first = first; width = width })
+numbers e n aligned within small ends = record { within = within; small = small; aligned = rw e at aligned; ends = rw (e, n) at ends }
 
 -- lengths, where the code has 2 ^ l in a local
 module _ (l width : ℕ) {size : ℕ} (e : size ≡ 2 ^ l) where

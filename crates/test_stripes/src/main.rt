@@ -68,21 +68,21 @@ fn run_case(part: &mut [u32], marks: &mut [bool]) {
     let k = input::byte() as usize;
     let width = input::byte() as usize;
     let first = input::pair() as usize;
-    if k < level || 15 < k || width == 0 {
+    if k < level || 10 < k || width == 0 {
         return;
     }
+    let records = code::number::two_to(k);
     let size = code::number::two_to(level);
     let positions = size + size;
     let count = positions * width;
     let all = count + positions;
-    if first % size != 0 || 65536 < first + size || marks.len() < positions || part.len() < all {
+    if first % size != 0 || records < first + size || marks.len() < positions || part.len() < all {
         return;
     }
     let st = Stripe {
         level: level,
         k: k,
         first: first,
-        root: code::number::root(k),
         width: width,
     };
     if decodes == 1 {

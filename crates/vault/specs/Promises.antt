@@ -48,9 +48,9 @@
 --   layout     headerOf k s c: the header of these numbers. headerFits h: k is 1 to 10, s 1 to 128, c below n. rawSize, outSize, scratchSize, imageSize: the
 --              lengths of docs/FORMAT.md, section 3. width h: 1 + s. isFull h l: l is k. isFilled h l: bit l of c is 1. firstOf h l: t0, the write that the
 --              first block of a level is. stripeAt h l: the word of the image at which the stripe begins; stripeSize h l: how many it has. stripeOf h l: the
---              stripe's numbers: l, k, its t0, w of order 2n, and 1 + s. recordIn s r i: record i of the raw records r
---   code       p: the field's modulus, 65537. codedStripe st bs: the words that the blocks bs of the stripe st are coded to. Column p n xs: xs are n words
---              below p
+--              stripe's numbers: l, k, its t0, and 1 + s. recordIn s r i: record i of the raw records r
+--   code       p: the field's modulus, 65537. codedStripe st bs: the words that the blocks bs of the stripe st are coded to, with the w of order 2n that its
+--              k has. Column p n xs: xs are n words below p
 --   decoder    survivors l ms: the positions of stripe l that are not erased. AgreesRows ms n width xs ys: xs and ys have the same words at these, of n
 --              positions
 --   store      blocksOf h raw: the raw records as blocks, in number order

@@ -28,7 +28,7 @@ pub record LevelReady (st : Stripe) (bytes : List ℕ) (marks : List Bool) : Typ
 
 -- a stripe of so many of its columns
 abbrev pub narrow : Stripe → (cols : ℕ) → Stripe
-narrow st cols = record { level = st .level; k = st .k; first = st .first; root = st .root; width = cols }
+narrow st cols = record { level = st .level; k = st .k; first = st .first; width = cols }
 
 -- 7 or 8, which is known before a stripe is decoded; 0 if neither. The rows have zeros at erased positions
 abbrev pub readyNumber : Stripe → (marks : List Bool) → (rows : List ℕ) → ℕ

@@ -8,7 +8,7 @@ use borrow.Author.Needs.{needs}
 use lib.ListN.{length, take, drop}
 use Rattle.field.specs.Words.{table}
 use Rattle.decoder.specs.Decoding.{pointAt}
-use Rattle.code.specs.Stripe.{positionCount, stripeWords}
+use Rattle.code.specs.Stripe.{rootIn, positionCount, stripeWords}
 use Rattle.code.proofs.Shapes.{positions}
 use Rattle.test_stripes.proofs.Buffers.{loaded}
 use Rattle.test_stripes.proofs.decode_case.Statement.{statement}
@@ -60,8 +60,8 @@ decode-and-print-requires c κs =
       s .pre .0,
       (
         omega (arith, marked .marks .ensures),
-        loaded (st .root) (st .k) l n (marked .marks .last .0)
-            (table (positionCount st) (pointAt 65537 (st .root) (st .k) l) ++
+        loaded (rootIn st) (st .k) l n (marked .marks .last .0)
+            (table (positionCount st) (pointAt 65537 (rootIn st) (st .k) l) ++
             take (length (s .args .part .now) - (positionCount st + positionCount st)) (drop (positionCount st) (s .args .part .now)))
             (weighed .weights .ensures) long count (c .before .before .before .before .words .ensures),
       ),

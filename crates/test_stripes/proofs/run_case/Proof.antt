@@ -10,17 +10,17 @@ use Rattle.test_stripes.proofs.run_case.Statement.{statement}
 use Rattle.test_stripes.proofs.run_case.Tie as tie
 
 -- PLACES: `x-at-y c` is the place x that stands before y
-abbrev byte2-at-byte4 : tie.After-byte4 → tie.After-byte2
-byte2-at-byte4 c = c .before .before
+abbrev byte4-at-two-to2 : tie.After-two-to2 → tie.After-byte4
+byte4-at-two-to2 c = c .before .before .before .before .before .before
 
-abbrev byte2-at-two-to : tie.After-two-to → tie.After-byte2
-byte2-at-two-to c = byte2-at-byte4 (c .before .before .before .before .before)
+abbrev byte2-at-two-to2 : tie.After-two-to2 → tie.After-byte2
+byte2-at-two-to2 c = byte4-at-two-to2 c .before .before
 
-abbrev two-to-at-root : tie.After-root → tie.After-two-to
-two-to-at-root c = c .before .before .before .before .before
+abbrev else4-at-else7 : tie.Else7 → tie.Else4
+else4-at-else7 c = c .before .before .before
 
-abbrev else4-at-root : tie.After-root → tie.Else4
-else4-at-root c = c .before .before .before .before
+abbrev two-to2-at-else7 : tie.Else7 → tie.After-two-to2
+two-to2-at-else7 c = else4-at-else7 c .before
 
 byte-requires : tie.Need-byte-requires
 byte-requires c κs = search needs
@@ -55,42 +55,39 @@ returns c = search needs
 two-to-requires : tie.Need-two-to-requires
 two-to-requires c κs = omega (arith, ltb-false)
 
+two-to-requires-2 : tie.Need-two-to-requires-2
+two-to-requires-2 c κs = omega (arith, ltb-false)
+
 add-positions : tie.Need-add-positions
 add-positions c = omega (
   arith,
-  small-length (byte2-at-two-to c .byte2 .result) (c .before .before .before .before .before .byte4 .result) (c .two-to .ensures)
-      (omega (arith, ltb-false)) (omega arith),
+  small-length (byte2-at-two-to2 c .byte2 .result) (byte4-at-two-to2 c .byte4 .result) (c .two-to2 .ensures) (omega (arith, ltb-false)) (omega arith),
 )
 
 mul-count : tie.Need-mul-count
 mul-count c = omega (
   arith,
-  small-length (byte2-at-two-to c .byte2 .result) (c .before .before .before .before .before .byte4 .result) (c .two-to .ensures)
-      (omega (arith, ltb-false)) (omega arith),
+  small-length (byte2-at-two-to2 c .byte2 .result) (byte4-at-two-to2 c .byte4 .result) (c .two-to2 .ensures) (omega (arith, ltb-false)) (omega arith),
 )
 
 add-all : tie.Need-add-all
 add-all c = omega (
   arith,
-  small-length (byte2-at-two-to c .byte2 .result) (c .before .before .before .before .before .byte4 .result) (c .two-to .ensures)
-      (omega (arith, ltb-false)) (omega arith),
+  small-length (byte2-at-two-to2 c .byte2 .result) (byte4-at-two-to2 c .byte4 .result) (c .two-to2 .ensures) (omega (arith, ltb-false)) (omega arith),
 )
 
 rem-if4 : tie.Need-rem-if4
-rem-if4 c = rw (c .two-to .ensures) (pow-pos (byte2-at-two-to c .byte2 .result))
+rem-if4 c = rw (c .two-to2 .ensures) (pow-pos (byte2-at-two-to2 c .byte2 .result))
 
 add-if5 : tie.Need-add-if5
 add-if5 c = omega (
   arith,
-  small-length (byte2-at-two-to (c .before) .byte2 .result) (c .before .before .before .before .before .before .byte4 .result)
-      (c .before .two-to .ensures) (omega (arith, ltb-false)) (omega arith),
+  small-length (byte2-at-two-to2 (c .before) .byte2 .result) (byte4-at-two-to2 (c .before) .byte4 .result) (c .before .two-to2 .ensures)
+      (omega (arith, ltb-false)) (omega arith),
 )
 
 returns-2 : tie.Need-returns-2
 returns-2 c = search needs
-
-root-requires : tie.Need-root-requires
-root-requires c κs = omega (arith, ltb-false)
 
 slice-relend-prefix-decode-case : tie.Need-slice-relend-prefix-decode-case
 slice-relend-prefix-decode-case c = search needs
@@ -100,12 +97,12 @@ slice-aggregate-decode-case c = sym (length-take-le _ _ (omega (arith, ltb-false
 
 decode-case-requires : tie.Need-decode-case-requires
 decode-case-requires c κs =
-    let t = two-to-at-root (c .before .before .before) in
-    let l = byte2-at-two-to t .byte2 .result in
-    let width = t .before .before .before .before .before .byte4 .result in
-    let e = t .two-to .ensures in (
-      numbers e (else4-at-root (c .before .before .before) .if4 .left) (omega (arith, ltb-false)) (omega (arith, ltb-false)) (omega (arith, ltb-false))
-          (c .before .before .before .root .ensures),
+    let t = two-to2-at-else7 (c .before .before .before) in
+    let l = byte2-at-two-to2 t .byte2 .result in
+    let width = byte4-at-two-to2 t .byte4 .result in
+    let e = t .two-to2 .ensures in (
+      numbers e (t .before .two-to .ensures) (else4-at-else7 (c .before .before .before) .if4 .left) (omega (arith, ltb-false))
+          (omega (arith, ltb-false)) (omega (arith, ltb-false)),
       (
         omega (arith, eqb-false),
         (
@@ -123,12 +120,12 @@ slice-aggregate-code-case c = sym (length-take-le _ _ (omega (arith, ltb-false))
 
 code-case-requires : tie.Need-code-case-requires
 code-case-requires c κs =
-    let t = two-to-at-root (c .before .before) in
-    let l = byte2-at-two-to t .byte2 .result in
-    let width = t .before .before .before .before .before .byte4 .result in
-    let e = t .two-to .ensures in (
-      numbers e (c .before .before .before .before .before .before .if4 .left) (omega (arith, ltb-false)) (omega (arith, ltb-false)) (omega (arith, ltb-false))
-          (c .before .before .root .ensures),
+    let t = two-to2-at-else7 (c .before .before) in
+    let l = byte2-at-two-to2 t .byte2 .result in
+    let width = byte4-at-two-to2 t .byte4 .result in
+    let e = t .two-to2 .ensures in (
+      numbers e (t .before .two-to .ensures) (else4-at-else7 (c .before .before) .if4 .left) (omega (arith, ltb-false)) (omega (arith, ltb-false))
+          (omega (arith, ltb-false)),
       length-take-le _ _ (omega (arith, ltb-false)) ∙ stripe-length l width e,
     )
 
@@ -162,13 +159,13 @@ run-case-spec =
     cast-first
     returns
     two-to-requires
+    two-to-requires-2
     add-positions
     mul-count
     add-all
     rem-if4
     add-if5
     returns-2
-    root-requires
     slice-relend-prefix-decode-case
     slice-aggregate-decode-case
     decode-case-requires

@@ -6,7 +6,7 @@ use borrow.Author.Needs.{needs}
 use lib.ListN.{length}
 use Rattle.field.specs.Words.{table}
 use Rattle.field.proofs.WordLists.{length-table}
-use Rattle.code.specs.Stripe.{modulusOf, positionCount}
+use Rattle.code.specs.Stripe.{modulusOf, rootIn, positionCount}
 use Rattle.code.proofs.Shapes.{positions}
 use Rattle.decoder.specs.Decoding.{pointAt}
 use Rattle.columns.specs.steps.Ranges.{scratchWords}
@@ -72,8 +72,8 @@ returns : tie.Need-returns
 returns c =
     let st = start-at-two-to (c .before .before .before .before) .args .st in
     stored-weights (tail (c .before .before .before .before)) (c .before .before .weights .last .0)
-    (table (positionCount st) (pointAt (modulusOf st) (st .root) (st .k) (st .level))) _ _
-    (length-table (positionCount st) (pointAt (modulusOf st) (st .root) (st .k) (st .level))) (c .before .before .weights .ensures)
+    (table (positionCount st) (pointAt (modulusOf st) (rootIn st) (st .k) (st .level))) _ _
+    (length-table (positionCount st) (pointAt (modulusOf st) (rootIn st) (st .k) (st .level))) (c .before .before .weights .ensures)
 
 pub store-weights-spec : {M : Type 1} → statement M
 store-weights-spec =

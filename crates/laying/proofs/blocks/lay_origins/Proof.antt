@@ -4,6 +4,7 @@ use Prim.Native.Nat.{suc, _+_, _-_, _≤_, _<_}
 use native.Mathlib.Nat.{mul-le-mul-right}
 use native.Mathlib.Omega.{arith}
 use lib.ListN.{length}
+use lib.Pow.{pow-mono}
 use Rattle.code.specs.Stripe.{blockCount}
 use Rattle.laying.proofs.PairLoops.{Naming, naming-start, naming-turn, naming-done}
 use Rattle.laying.proofs.blocks.lay_origins.Statement.{statement}
@@ -36,10 +37,11 @@ reads d =
 inside : (d : tie.In-loop Inv-loop μ-loop) → d .before .loop .from < length (start-at-two-to (d .before .before) .args .blocks .now)
 inside d = omega (arith, reads d, start-at-two-to (d .before .before) .pre .0 .thick)
 
-small : (d : tie.In-loop Inv-loop μ-loop) → start-at-two-to (d .before .before) .args .st .first + d .before .loop .i < 65536
+small : (d : tie.In-loop Inv-loop μ-loop) → start-at-two-to (d .before .before) .args .st .first + d .before .loop .i < 1024
 small d =
     let t = d .before .before in
-    omega (arith, d .loop-test .taken, t .two-to .ensures, start-at-two-to t .pre .0 .numbers .ends)
+    let n = start-at-two-to t .pre .0 .numbers in
+    omega (arith, d .loop-test .taken, t .two-to .ensures, n .ends, pow-mono {i = start-at-two-to t .args .st .k} {j = 10} (n .small))
 
 add-write : tie.Need-add-write Inv-loop μ-loop
 add-write c = omega (arith, small c)
