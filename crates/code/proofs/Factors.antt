@@ -3,20 +3,21 @@
 use mathlib.Core.Path.{_≡_, refl, sym, ap, _∙_}
 use mathlib.Core.List.{List}
 use Prim.Native.Nat.{ℕ, zero, suc, _+_, _*_, _-_, _/_, _%_, _^_, _≤_, _<_}
-use native.Mathlib.Nat.{mod-lt, mul-le-mul, mul-comm}
+use native.Mathlib.Nat.{mod-lt, mod-eq-of-lt, mul-le-mul, mul-comm, div-le-self}
 use native.Mathlib.Omega.{arith}
 use lib.Dec.{lit<}
-use lib.Pow.{pow-mono, pow-pos}
+use lib.Pow.{pow-mono, pow-pos, pow-add}
 use lib.ListN.{length, getD}
 use Rattle.field.specs.Power.{power, inverse}
-use Rattle.field.specs.Field.{Root, fermat, rootOf, powerTable}
+use Rattle.field.specs.Field.{Root, fermat, rootOf, powersOf, powerTable}
 use Rattle.field.proofs.Ring.{v, _⊕_, _⊖_, _⊗_, ring}
 use Rattle.field.proofs.Powers.{power-mul}
 use Rattle.field.proofs.Unity.{root-short, root-back, two-div}
 use Rattle.field.proofs.Primes.{fermat-prime, fermat-root}
-use Rattle.field.proofs.PowerTables.{length-table-of-powers, table-power, table-root, table-back, level-root, level-inverse}
+use Rattle.field.proofs.PowerTables.{table-is, length-powers, powers-entry, length-table-of-powers, table-power, table-root, table-back, level-root, level-inverse}
 use Rattle.code.specs.Transform.{reversed}
-use Rattle.code.specs.steps.Mixing.{Crossing, mixing, unmixing, summing, crossed, crossedRow, mixRow, unmixRow, sumRow, RowFactors, LevelFactors}
+use Rattle.code.specs.steps.Mixing.{Crossing, mixing, unmixing, summing, crossed, crossedRow, mixRow, unmixRow, sumRow, RowFactors}
+use Rattle.code.proofs.Lifting.{row-in}
 use Rattle.code.proofs.Shapes.{reversed-lt, reversed-more}
 
 -- the powers of an entry that is a root of order 2 * 2 ^ l are factors of 2 ^ l rows
@@ -28,9 +29,14 @@ table-factors l step b s R = record {
   short = root-short 65537 l (getD powerTable step 0) R;
 }
 
--- the factors of a level, by the numbers that a loop over levels has
+-- THE FACTORS OF A LEVEL, m = 2 ^ l rows mixed with as many: entry `step` is the power of the root w under which `transform` mixes them
+pub record LevelFactors (w k l m step : ℕ) (powers : List ℕ) : Type 0 where
+  pub rows : RowFactors 65537 m step powers
+  pub entry : getD powers step 0 ≡ power 65537 w (2 ^ k / 2 ^ l)
+
+-- by the numbers that a loop over levels has
 module _ {k l m step : ℕ} {powers : List ℕ} (is : powers ≡ powerTable) (b : l ≤ k) (t : k ≤ 10) (em : m ≡ 2 ^ l) where
-  pub mixing-factors : step ≡ 2 ^ (10 - l) → LevelFactors 65537 (rootOf fermat k) k l m step powers
+  pub mixing-factors : step ≡ 2 ^ (10 - l) → LevelFactors (rootOf fermat k) k l m step powers
   mixing-factors e =
       let R : Root 65537 l (getD powerTable (2 ^ (10 - l)) 0) = rw (table-root l (omega arith)) (fermat-root l (omega arith)) in
       rw (is, em, e) (record {
@@ -39,7 +45,7 @@ module _ {k l m step : ℕ} {powers : List ℕ} (is : powers ≡ powerTable) (b 
       })
 
   -- `untransform` unmixes under the inverse
-  pub unmixing-factors : step ≡ 2048 - 2 ^ (10 - l) → LevelFactors 65537 (inverse 65537 (rootOf fermat k)) k l m step powers
+  pub unmixing-factors : step ≡ 2048 - 2 ^ (10 - l) → LevelFactors (inverse 65537 (rootOf fermat k)) k l m step powers
   unmixing-factors e =
       let R : Root 65537 l (getD powerTable (2048 - 2 ^ (10 - l)) 0) =
       rw (table-back l (omega arith)) (root-back 65537 l (rootOf fermat l) fermat-prime (fermat-root l (omega arith))) in
@@ -47,6 +53,31 @@ module _ {k l m step : ℕ} {powers : List ℕ} (is : powers ≡ powerTable) (b 
         rows = table-factors l (2048 - 2 ^ (10 - l)) (omega arith) (omega (arith, pow-pos (10 - l))) R;
         entry = table-back l (omega arith) ∙ sym (level-inverse k l b (omega arith));
       })
+
+-- A SHORTER TABLE, all powers of the root of 2 ^ n records: entry 2 ^ n / 2 ^ l is the root of 2 ^ l records, and its powers are factors of 2 ^ l rows
+module _ {n l : ℕ} {powers : List ℕ} (is : powers ≡ powersOf 65537 (rootOf fermat n) (2 ^ suc n)) (b : l ≤ n) (t : n ≤ 10) where
+  pub root-there : getD powers (2 ^ n / 2 ^ l) 0 ≡ rootOf fermat l
+  root-there =
+      powers-entry 65537 (rootOf fermat n) (2 ^ suc n) (2 ^ n / 2 ^ l) is (omega (arith, div-le-self (2 ^ n) (2 ^ l), pow-pos n)) ∙ level-root n l b (omega arith)
+
+  pub root-factors : RowFactors 65537 (2 ^ l) (2 ^ n / 2 ^ l) powers
+  root-factors =
+      let s = 2 ^ n / 2 ^ l in
+      let whole : 2 ^ l * s ≡ 2 ^ n = ap (λ (e : ℕ). 2 ^ l * e) (two-div n l b) ∙ sym (pow-add 2 l (n - l)) ∙ ap (λ (e : ℕ). 2 ^ e) {x = l + (n - l)} {y = n}
+      (omega arith) in
+      let few : 2 ^ n ≤ 1024 = pow-mono {i = n} {j = 10} t in
+      let some : 0 < s = rw (two-div n l b) (pow-pos (n - l)) in
+      let low : (i : ℕ) → i < 2 ^ l → i * s < 2 ^ n = λ i h. omega (arith, whole, row-in s h) in
+      let flat : (i : ℕ) → i < 2 ^ l → i * s % 2048 ≡ i * s = λ i h. mod-eq-of-lt (omega (arith, low i h, few)) in
+      record {
+        room = omega (arith, whole, few);
+        within = λ i h. rw (flat i h, ap length is ∙ length-powers 65537 (rootOf fermat n) (2 ^ suc n)) (omega (arith, low i h));
+        entry = λ i h. ap (λ (e : ℕ). getD powers e 0) (flat i h)
+            ∙ powers-entry 65537 (rootOf fermat n) (2 ^ suc n) (i * s) is (omega (arith, low i h)) ∙ ap (power 65537 (rootOf fermat n)) (mul-comm i s)
+            ∙ power-mul 65537 (lit< tt) (rootOf fermat n) s i
+            ∙ ap (λ (x : ℕ). power 65537 x i) (level-root n l b (omega arith) ∙ sym root-there);
+        short = λ i h. rw root-there (root-short 65537 l (rootOf fermat l) (fermat-root l (omega arith)) i h);
+      }
 
 -- the power r of entry `step`
 pub power-entry : {powers : List ℕ} {step r e : ℕ} → powers ≡ powerTable → step < 2048 → r ≡ e → getD powers (r * step % 2048) 0 ≡ power 65537 (getD powers step 0) e
@@ -67,6 +98,13 @@ pub turning-back : {powers : List ℕ} {k : ℕ} → powers ≡ powerTable → k
 turning-back {powers} {k} e b =
     rw e (ap (λ (x : ℕ). power 65537 x (2 ^ (10 - k))) (table-back 10 (omega arith)) ∙ ap (power 65537 (inverse 65537 (rootOf fermat 10))) (sym (two-div 10 k b))
     ∙ level-inverse 10 k b (omega arith))
+
+-- so that the entry at the reversed bits is the factor of write t
+pub turning-entry : {k t e : ℕ} → k ≤ 10 → t < 2 ^ k → e ≡ reversed 10 t → getD powerTable e 0 ≡ power 65537 (rootOf fermat k) (reversed k t)
+turning-entry {k} {t} b h q =
+    let r : reversed 10 t < 2048 = omega (arith, reversed-lt 10 t) in
+    rw q (powers-entry 65537 (rootOf fermat 10) 2048 (reversed 10 t) table-is r ∙ turning-power (rootOf fermat 10) k t b h
+    ∙ ap (λ (x : ℕ). power 65537 x (reversed k t)) (ap (power 65537 (rootOf fermat 10)) (sym (two-div 10 k b)) ∙ level-root 10 k b (omega arith)))
 
 -- the factor by which `turned` turns the word of write number t
 pub turning-factor : (p k w t : ℕ) → Root p k w → power p w (reversed k t) < p - 1

@@ -125,7 +125,7 @@ pub base-is : power 65537 3 32 ≡ 61869
 unfolding power powerFrom times
 base-is = refl
 
-table-is : powerTable ≡ powersOf 65537 (rootOf fermat 10) (2 ^ suc 10)
+pub table-is : powerTable ≡ powersOf 65537 (rootOf fermat 10) (2 ^ suc 10)
 unfolding rootOf
 table-is = refl
 

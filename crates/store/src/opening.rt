@@ -46,7 +46,6 @@ pub(crate) fn build(raw: &[u32], full: &mut [u32], k: usize, s: usize)
         level: k,
         k: k,
         first: 0,
-        root: code::number::root(k),
         width: width,
     };
     code::coding::code(full, st);

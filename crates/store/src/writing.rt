@@ -7,14 +7,14 @@ ghost use mathlib.Core.List.{_∷_};
 ghost use Prim.Native.Nat.{suc, _+_, _*_, _-_, _^_, _≤_, _<_};
 ghost use lib.ListN.{length, take, drop};
 ghost use lib.Seq.{sets};
-ghost use Rattle.field.specs.Field.{fermat, Root};
+ghost use Rattle.field.specs.Field.{fermat, rootOf};
 ghost use Rattle.field.specs.Words.{Words};
 ghost use Rattle.code.specs.Transform.{scaled};
 ghost use Rattle.layout.specs.Header.{headerOf, primeOf, headerFits, logSize};
 ghost use Rattle.layout.specs.Records.{replaced};
 ghost use Rattle.store.specs.Buffers.{reduced, buffers};
 ghost use Rattle.store.specs.Writing.{logWith};
-ghost use Rattle.store.specs.steps.Writing.{halfStart, gathered, folded};
+ghost use Rattle.store.specs.steps.Writing.{halfStart, gathered, folded, foldedBoth, rootEntry, FoldFactors};
 ghost use Rattle.store.specs.StoreCalls.{writeNumber, writeAnswer, writeLeaves};
 
 // Replaces raw record i, of s words, by a block.
@@ -91,45 +91,70 @@ fn gather(log: &mut [u32], level: usize, half: usize, number: u32, block: &[u32]
     put_row(log, at, number, block, g);
 }
 
-// Mixes the last row of 2^level rows with the one before it, those two with the two before them, and so on.
-fn fold(half: &mut [u32], level: usize, k: usize, width: usize, root: u32)
-    requires { ⌜ (level ≤ k) × (k ≤ 15) ⌝ }
+// Mixes the last row of 2^level rows with the one before it, those two with the two before them, and so on. Entry `top` of the powers is -1.
+fn fold(half: &mut [u32], level: usize, width: usize, powers: &[u32], top: usize)
+    requires { ⌜ level ≤ 10 ⌝ }
     requires { ⌜ length (now half) ≡ 2 ^ level * width ⌝ }
-    requires { ⌜ Root (fermat .modulus) k root ⌝ }
+    requires { ⌜ FoldFactors (fermat .modulus) level top (now powers) ⌝ }
     requires { ⌜ Words (fermat .modulus) (now half) ⌝ }
-    ensures { λ _. ⌜ now (half .exit) ≡ folded (fermat .modulus) root k width level (now (half .entry)) ⌝ }
+    ensures { λ _. ⌜ now (half .exit) ≡ folded (fermat .modulus) (rootEntry (now (powers .entry)) top) width level (now (half .entry)) ⌝ }
 {
-    let mut exponent = code::number::two_to(k);
+    let mut step = top;
     let mut m: usize = 1;
     let mut from = half.len() - width;
     for l in 0..level {
-        let v = field::power(root, exponent as u32);
         from = from - m * width;
-        code::mixing::mix(&mut half[from..], m, width, v);
-        exponent = exponent / 2;
+        code::mixing::mix(&mut half[from..], m, width, powers, step);
+        step = step / 2;
         m = m * 2;
     }
 }
 
-// Rebuilds a level from all levels below it and the block, and empties those. The level is lent on as two parts from the middle of the log; what follows it
-// stays.
+// Folds X and Y of a level.
+fn fold_both(part: &mut [u32], level: usize, width: usize, powers: &[u32], top: usize)
+    requires { ⌜ level ≤ 10 ⌝ }
+    requires { ⌜ length (now part) ≡ 2 ^ suc level * width ⌝ }
+    requires { ⌜ FoldFactors (fermat .modulus) level top (now powers) ⌝ }
+    requires { ⌜ Words (fermat .modulus) (now part) ⌝ }
+    ensures { λ _. ⌜ now (part .exit) ≡ foldedBoth (fermat .modulus) (rootEntry (now (powers .entry)) top) width level (now (part .entry)) ⌝ }
+{
+    let half = code::number::two_to(level) * width;
+    fold(&mut part[..half], level, width, powers, top);
+    fold(&mut part[half..], level, width, powers, top);
+}
+
+// The same under the roots of the field. Up to level 2 only one or two rows are merged, and the table of powers would cost more than the rest of the write.
+fn fold_level(part: &mut [u32], level: usize, width: usize)
+    requires { ⌜ level ≤ 10 ⌝ }
+    requires { ⌜ length (now part) ≡ 2 ^ suc level * width ⌝ }
+    requires { ⌜ Words (fermat .modulus) (now part) ⌝ }
+    ensures { λ _. ⌜ now (part .exit) ≡ foldedBoth (fermat .modulus) (rootOf fermat) width level (now (part .entry)) ⌝ }
+{
+    if level <= 2 {
+        let powers = code::table::few_powers();
+        fold_both(part, level, width, &powers, 2);
+    } else {
+        let powers = code::table::powers();
+        fold_both(part, level, width, &powers, 1024);
+    }
+}
+
+// Rebuilds a level from all levels below it and the block, and empties those. The level is lent on as a part from the middle of the log; what follows it
+// stays. Entry rev(c) of the table, c with its ten bits reversed, is w^rev(c).
 fn rebuild(header: Header, log: &mut [u32], level: usize, number: u32, block: &[u32])
     requires { ⌜ (headerFits header ≡ true) × (level < header .k) ⌝ }
     requires { ⌜ (length (now log) ≡ logSize header) × (length (now block) ≡ header .s) ⌝ }
     requires { ⌜ Words (primeOf header) (number ∷ now block) ⌝ }
     ensures { λ _. ⌜ now (log .exit) ≡ logWith header (now (log .entry)) (number ∷ now (block .entry)) level ⌝ }
 {
-    let k = header.k as usize;
     let width = header.s as usize + 1;
-    let root = code::number::root(k);
-    let turn = field::power(root, code::number::reversed(k, header.c as usize));
+    let e = code::number::reversed(10, header.c as usize);
+    let turn = code::table::entry(e as usize);
     gather(log, level, 0, number, block, 1);
     gather(log, level, 1, number, block, turn);
     let start = half_at(level, 0, width);
-    let middle = half_at(level, 1, width);
     let end = half_at(level + 1, 0, width);
-    fold(&mut log[start..middle], level, k, width, root);
-    fold(&mut log[middle..end], level, k, width, root);
+    fold_level(&mut log[start..end], level, width);
     layout::words::clear(&mut log[..start]);
 }
 

@@ -1,7 +1,7 @@
 -- What the loops of mixing and unmixing make of a slice, step by step, and what they ask of their factors. Assumes nothing: these are definitions.
 use mathlib.Core.Path.{_≡_}
 use mathlib.Core.List.{List, _++_}
-use Prim.Native.Nat.{ℕ, zero, suc, _+_, _*_, _-_, _/_, _%_, _^_, _≤_, _<_}
+use Prim.Native.Nat.{ℕ, zero, suc, _+_, _*_, _-_, _/_, _%_, _≤_, _<_}
 use lib.ListN.{length, getD, set, take, drop}
 use Rattle.field.specs.Residue.{plus, minus, times}
 use Rattle.field.specs.Power.{power}
@@ -46,11 +46,6 @@ pub record RowFactors (p m step : ℕ) (powers : List ℕ) : Type 0 where
   pub within : (i : ℕ) → i < m → i * step % 2048 < length powers
   pub entry : (i : ℕ) → i < m → getD powers (i * step % 2048) 0 ≡ power p (getD powers step 0) i
   pub short : (i : ℕ) → i < m → power p (getD powers step 0) i < p - 1
-
--- THE FACTORS OF A LEVEL, m = 2 ^ l rows mixed with as many: entry `step` is the power of the root w under which `transform` mixes them
-pub record LevelFactors (p w k l m step : ℕ) (powers : List ℕ) : Type 0 where
-  pub rows : RowFactors p m step powers
-  pub entry : getD powers step 0 ≡ power p w (2 ^ k / 2 ^ l)
 
 -- FACTORS OF WORDS: the factors of rows, each `width` times
 unfoldable pub repeatedAt : (powers : List ℕ) → (width step : ℕ) → (x : ℕ) → ℕ

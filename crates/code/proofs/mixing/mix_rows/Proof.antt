@@ -3,9 +3,8 @@ use Prim.Native.Nat.{_+_, _-_, _*_, _/_}
 use native.Mathlib.Omega.{arith}
 use lib.ListN.{length}
 use Rattle.field.specs.Field.{fermat, rootOf}
-use Rattle.code.specs.steps.Mixing.{LevelFactors}
 use Rattle.code.proofs.Blocks.{Level}
-use Rattle.code.proofs.Factors.{mixing-factors}
+use Rattle.code.proofs.Factors.{LevelFactors, mixing-factors}
 use Rattle.code.proofs.MixLevels.{MixLoop, mix-start, level-in, mix-turn, mix-done}
 use Rattle.code.proofs.mixing.mix_rows.Statement.{statement}
 use Rattle.code.proofs.mixing.mix_rows.Tie as tie
@@ -34,7 +33,7 @@ here : (c : tie.In-loop Inv-loop μ-loop)
 here c = level-in (c .before .loop .inv) (c .loop-test .taken)
 
 factors : (c : tie.In-loop Inv-loop μ-loop) → let k = begin c .args .st .k in
-    LevelFactors 65537 (rootOf fermat k) k (c .before .loop .l) (c .before .loop .m) (c .before .loop .step) (begin c .args .powers .now)
+    LevelFactors (rootOf fermat k) k (c .before .loop .l) (c .before .loop .m) (c .before .loop .step) (begin c .args .powers .now)
 factors c =
     let i = c .before .loop .inv in
     mixing-factors (begin c .pre .1 .1 .0) (omega arith) (i .few) (i .m-is) (i .step-is)

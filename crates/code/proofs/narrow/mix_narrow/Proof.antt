@@ -8,9 +8,8 @@ use borrow.Author.Needs.{needs}
 use lib.Pow.{pow-mono}
 use lib.ListN.{length, length-replicate}
 use Rattle.field.specs.Field.{fermat, rootOf}
-use Rattle.code.specs.steps.Mixing.{LevelFactors}
 use Rattle.code.proofs.Blocks.{Level}
-use Rattle.code.proofs.Factors.{mixing-factors}
+use Rattle.code.proofs.Factors.{LevelFactors, mixing-factors}
 use Rattle.code.proofs.MixLevels.{MixLoop, mix-start, level-in, mix-turn, mix-done, repeated-is, repeated-short, words-level}
 use Rattle.code.proofs.narrow.mix_narrow.Statement.{statement}
 use Rattle.code.proofs.narrow.mix_narrow.Tie as tie
@@ -58,7 +57,7 @@ module _ (c : tie.In-loop Inv-loop μ-loop) where
   here = level-in (c .before .loop .inv .levels) (c .loop-test .taken)
 
   factors : let k = start-at-test c .args .st .k in
-      LevelFactors 65537 (rootOf fermat k) k (c .before .loop .l) (c .before .loop .m) (c .before .loop .step) (start-at-test c .args .powers .now)
+      LevelFactors (rootOf fermat k) k (c .before .loop .l) (c .before .loop .m) (c .before .loop .step) (start-at-test c .args .powers .now)
   factors =
       let i = c .before .loop .inv .levels in
       mixing-factors (start-at-test c .pre .1 .1 .0) (omega arith) (i .few) (i .m-is) (i .step-is)

@@ -11,11 +11,10 @@ use Rattle.field.specs.Field.{fermat, rootOf}
 use Rattle.field.specs.Words.{Words}
 use Rattle.code.specs.Rows.{lifted}
 use Rattle.code.specs.Transform.{unmixed, untransform}
-use Rattle.code.specs.steps.Mixing.{LevelFactors}
 use Rattle.code.proofs.Shapes.{length-unmixed, length-untransform}
 use Rattle.field.proofs.Unity.{two-div}
 use Rattle.code.proofs.Blocks.{Level, level-at, pow-down, words-each, eachRows, rows-id, rows-one, both, rows-then, rows-double, unmixing-block}
-use Rattle.code.proofs.Factors.{unmixing-factors}
+use Rattle.code.proofs.Factors.{LevelFactors, unmixing-factors}
 use Rattle.code.proofs.unmixing.unmix_all.Statement.{statement}
 use Rattle.code.proofs.unmixing.unmix_all.Tie as tie
 
@@ -123,7 +122,7 @@ step-is c =
     ap (λ (n : ℕ). 1024 / n) (here c .m-is) ∙ two-div 10 (c .before .loop .left - 1) (omega arith)
 
 factors : (c : tie.In-loop Inv-loop μ-loop) → let k = begin c .args .st .k in
-    LevelFactors 65537 (inverse 65537 (rootOf fermat k)) k (c .before .loop .left - 1) (c .before .loop .m / 2) (2048 - 1024 / (c .before .loop .m / 2))
+    LevelFactors (inverse 65537 (rootOf fermat k)) k (c .before .loop .left - 1) (c .before .loop .m / 2) (2048 - 1024 / (c .before .loop .m / 2))
     (begin c .args .powers .now)
 factors c =
     let i = c .before .loop .inv in

@@ -96,19 +96,13 @@ module _ {raw full₀ : List ℕ} {k s n width : ℕ} {full : List ℕ} {at i : 
   words h l = rw (filled h l) (words-blocks 65537 s (omega arith) raw 0 n (omega arith))
 
 -- the coded blocks are the full stripe
-built : (raw full : List ℕ) {full′ : List ℕ} (k s n w : ℕ) → n ≡ 2 ^ k → take (n * (s + 1)) full ≡ blocksFrom 65537 s raw 0 n → w ≡ rootOf fermat k
-    → full′ ≡ codedRows 65537 w k k 0 (s + 1) (take (2 ^ k * (s + 1)) full) → full′ ≡ fullStripe (headerOf k s 0) raw
-built raw full k s n w e b r q = q ∙ rw (r, (rw e at b), add-one s)
+built : (raw full : List ℕ) {full′ : List ℕ} (k s n : ℕ) → n ≡ 2 ^ k → take (n * (s + 1)) full ≡ blocksFrom 65537 s raw 0 n
+    → full′ ≡ codedRows 65537 (rootOf fermat k) k k 0 (s + 1) (take (2 ^ k * (s + 1)) full) → full′ ≡ fullStripe (headerOf k s 0) raw
+built raw full k s n e b q = q ∙ rw ((rw e at b), add-one s)
 
 -- the full stripe's numbers
-numbers : {k w width : ℕ} → k ≤ 10 → w ≡ rootOf fermat k → Numbers (record { level = k; k = k; first = 0; root = w; width = width })
-numbers {k} b e = record {
-  within = omega arith;
-  small = omega arith;
-  aligned = zero-mod (2 ^ k);
-  ends = omega (arith, pow-mono {i = k} {j = 10} b);
-  rooted = is-root (omega arith) e;
-}
+numbers : {k width : ℕ} → k ≤ 10 → Numbers (record { level = k; k = k; first = 0; width = width })
+numbers {k} b = record { within = omega arith; small = b; aligned = zero-mod (2 ^ k); ends = omega arith }
 
 abbrev Inv-loop : tie.InvT-loop
 Inv-loop raw full₀ k s n width at₀ i₀ full at i = Inv raw full₀ k s n width full at i
@@ -147,27 +141,22 @@ loop-again c =
     let at-test = c .before .before .before .before in
     turn (at-test .before .loop .inv) (at-test .loop-test .taken) (c .before .before .block-row .kept .0) (c .before .before .block-row .ensures)
 
-root-requires : tie.Need-root-requires Inv-loop μ-loop
-root-requires c κs = omega arith
-
 code-requires : tie.Need-code-requires Inv-loop μ-loop
 code-requires c κs =
-    let h = c .before .before .before .loop .inv in
-    let l = c .before .before .loop-test .left in
-    (numbers (omega arith) (c .before .root .ensures), (rw (← h .n-is, h .width-is) (h .same ∙ h .long), rw (← h .n-is) (words h l)))
+    let h = c .before .before .loop .inv in
+    let l = c .before .loop-test .left in
+    (numbers (omega arith), (rw (← h .n-is, h .width-is) (h .same ∙ h .long), rw (← h .n-is) (words h l)))
 
 same-length : tie.Need-same-length Inv-loop μ-loop
-same-length c = c .before .before .code .kept .0 ∙ c .before .before .before .before .before .before .loop .inv .same
+same-length c = c .before .before .code .kept .0 ∙ c .before .before .before .before .before .loop .inv .same
 
 returns : tie.Need-returns Inv-loop μ-loop
 returns c =
     let at-code = c .before .before in
-    let at-root = at-code .before .before in
-    let at-test = at-root .before in
+    let at-test = at-code .before .before in
     let a = at-test .before .before .before .before .before .args in
     let h = at-test .before .loop .inv in
-    built (a .raw .now) (at-test .before .loop .full) (a .k) (a .s) _ _ (h .n-is) (filled h (at-test .loop-test .left)) (at-root .root .ensures)
-    (at-code .code .ensures)
+    built (a .raw .now) (at-test .before .loop .full) (a .k) (a .s) _ (h .n-is) (filled h (at-test .loop-test .left)) (at-code .code .ensures)
 
 pub build-spec : {M : Type 1} → statement M
 build-spec =
@@ -183,7 +172,6 @@ build-spec =
     add-i
     loop-less
     loop-again
-    root-requires
     code-requires
     same-length
     returns)

@@ -1,82 +1,86 @@
 -- `store::writing::fold` meets its contract, by the loop of a fold of proofs/Folding. Assumes nothing.
-use Prim.Native.Nat.{_*_, _-_, _≤_}
+use mathlib.Core.Path.{ap}
+use Prim.Native.Nat.{ℕ, _*_, _-_, _≤_}
 use native.Mathlib.Omega.{arith}
 use native.Mathlib.Nat.{mul-le-mul-right}
 use lib.Pow.{pow-pos, pow-mono}
-use lib.ListN.{length}
-use Rattle.code.proofs.Factors.{level-factors}
-use Rattle.store.proofs.Folding.{FoldLoop, fold-start, fold-turn, fold-done, room, lent-in, lent-long, lent-words}
+use lib.ListN.{length, getD}
+use Rattle.store.specs.steps.Writing.{rootEntry}
+use Rattle.store.proofs.Folding.{FoldLoop, fold-start, fold-turn, fold-done, room, turn-factors, lent-in, lent-long, lent-words}
 use Rattle.store.proofs.writing.fold.Statement.{statement}
 use Rattle.store.proofs.writing.fold.Tie as tie
 
 abbrev Inv-loop : tie.InvT-loop
-Inv-loop half₀ level k width root exponent₀ m₀ from₀ l₀ half exponent m from l = FoldLoop half₀ level k width root half exponent m from l
+Inv-loop half₀ level width powers top step₀ m₀ from₀ l₀ half step m from l = FoldLoop half₀ level width top (rootEntry powers top) half step m from l
 
 abbrev μ-loop : tie.MeasureT-loop
-μ-loop half₀ level k width root exponent₀ m₀ from₀ l₀ half exponent m from l = level - l
+μ-loop half₀ level width powers top step₀ m₀ from₀ l₀ half step m from l = level - l
+
+-- PLACES: `x-at-y c` is the place x that stands before y
+abbrev start-at-test : tie.In-loop Inv-loop μ-loop → tie.Start Inv-loop μ-loop
+start-at-test c = c .before .before .before .before
+
+abbrev test-at-end : tie.After-slice-known2 Inv-loop μ-loop → tie.In-loop Inv-loop μ-loop
+test-at-end c = c .before .before .before .before
 
 -- the rows that a turn mixes are within the half
-row-room : (c : tie.In-loop Inv-loop μ-loop) → c .before .loop .m * c .before .before .before .before .args .width ≤ c .before .loop .from
+row-room : (c : tie.In-loop Inv-loop μ-loop) → c .before .loop .m * start-at-test c .args .width ≤ c .before .loop .from
 row-room c = room (c .before .loop .inv) (c .loop-test .taken)
 
 start-in : (c : tie.In-loop Inv-loop μ-loop)
-    → c .before .loop .from - c .before .loop .m * c .before .before .before .before .args .width ≤ length (c .before .loop .half)
+    → c .before .loop .from - c .before .loop .m * start-at-test c .args .width ≤ length (c .before .loop .half)
 start-in c = lent-in (c .before .loop .inv) (c .loop-test .taken)
 
-two-to-requires : tie.Need-two-to-requires Inv-loop μ-loop
-two-to-requires c κs = omega arith
-
 sub-from : tie.Need-sub-from Inv-loop μ-loop
-sub-from c = omega (arith, mul-le-mul-right {m = 1} (c .before .before .args .width) (pow-pos (c .before .before .args .level)))
+sub-from c =
+    let s = c .before .before in
+    omega (arith, s .pre .1 .0, mul-le-mul-right {m = 1} (s .args .width) (pow-pos (s .args .level)))
 
 loop-holds : tie.Need-loop-holds Inv-loop μ-loop
-loop-holds c = let p = c .before .before .pre in fold-start (p .0) (p .1 .0) (p .1 .1 .1) (c .two-to .ensures)
-
-cast-power : tie.Need-cast-power Inv-loop μ-loop
-cast-power c = omega (arith, pow-mono {i = c .before .before .before .before .args .k - c .before .loop .l} {j = 16} (omega arith))
-
-power-requires : tie.Need-power-requires Inv-loop μ-loop
-power-requires c κs = c .before .before .before .before .pre .1 .1 .0 .small
+loop-holds c = let p = c .before .before .pre in fold-start (p .0) (p .1 .0) (p .1 .1 .1)
 
 mul-from : tie.Need-mul-from Inv-loop μ-loop
-mul-from c = omega (arith, row-room (c .before))
+mul-from c = omega (arith, row-room c)
 
 sub-from-2 : tie.Need-sub-from-2 Inv-loop μ-loop
-sub-from-2 c = row-room (c .before)
+sub-from-2 c = row-room c
 
 mul-mix : tie.Need-mul-mix Inv-loop μ-loop
-mul-mix c = omega (arith, start-in (c .before))
+mul-mix c = omega (arith, start-in c)
 
 sub-mix : tie.Need-sub-mix Inv-loop μ-loop
-sub-mix c = start-in (c .before)
+sub-mix c = start-in c
 
 part-mix-start : tie.Need-part-mix-start Inv-loop μ-loop
-part-mix-start c = start-in (c .before)
+part-mix-start c = start-in c
 
 part-mix-end : tie.Need-part-mix-end Inv-loop μ-loop
 part-mix-end c = omega arith
 
 mix-requires : tie.Need-mix-requires Inv-loop μ-loop
 mix-requires c κs =
-    let at-test = c .before .before in
+    let at-test = c .before in
     let inv = at-test .before .loop .inv in
-    let root = at-test .before .before .before .before .pre .1 .1 .0 in
-    let f = level-factors root (omega arith) (inv .exponent-is) (c .before .power .ensures) (inv .m-is) in
-    (lent-long inv (at-test .loop-test .taken), (f, lent-words inv (at-test .loop-test .taken)))
+    (lent-long inv (at-test .loop-test .taken), (turn-factors inv (at-test .loop-test .taken) (start-at-test at-test .pre .1 .1 .0), lent-words inv (at-test .loop-test .taken)))
 
 mul-m : tie.Need-mul-m Inv-loop μ-loop
-mul-m c = omega (arith, pow-mono {i = c .before .before .before .before .before .before .loop .l} {j = 16} (omega arith))
+mul-m c =
+    let at-test = test-at-end c in
+    let h = at-test .before .loop .inv in
+    omega (arith, h .m-is, pow-mono {i = at-test .before .loop .l} {j = 10} (omega (arith, h .few, at-test .loop-test .taken)))
 
 add-l : tie.Need-add-l Inv-loop μ-loop
-add-l c = omega arith
+add-l c = omega (arith, test-at-end c .loop-test .taken)
 
 loop-less : tie.Need-loop-less Inv-loop μ-loop
-loop-less c = omega arith
+loop-less c = omega (arith, test-at-end c .loop-test .taken)
 
 loop-again : tie.Need-loop-again Inv-loop μ-loop
+unfolding rootEntry
 loop-again c =
-    let at-test = c .before .before .before .before .before in
-    fold-turn (at-test .before .loop .inv) (at-test .loop-test .taken) (c .before .before .before .before .power .ensures) (c .before .before .mix .ensures)
+    let at-test = test-at-end c in
+    let h = at-test .before .loop .inv in
+    fold-turn h (at-test .loop-test .taken) (ap (λ (e : ℕ). getD (start-at-test at-test .args .powers .now) e 0) (h .step-is)) (c .before .before .mix .ensures)
 
 same-length : tie.Need-same-length Inv-loop μ-loop
 same-length c = c .before .loop .inv .same
@@ -90,11 +94,8 @@ fold-spec =
     (tie.spec
     Inv-loop
     μ-loop
-    two-to-requires
     sub-from
     loop-holds
-    cast-power
-    power-requires
     mul-from
     sub-from-2
     mul-mix

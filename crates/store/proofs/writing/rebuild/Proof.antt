@@ -1,48 +1,41 @@
 -- `store::writing::rebuild` meets its contract, by the steps of proofs/RebuiltLog. Assumes nothing.
-use mathlib.Core.Path.{_≡_, sym, ap, ap₂, _∙_}
-use mathlib.Core.List.{List, _∷_}
-use Prim.Native.Nat.{ℕ, suc, _-_, _≤_, _<_}
+use mathlib.Core.Path.{_≡_, sym, ap, _∙_}
+use mathlib.Core.List.{List, _∷_, _++_}
+use Prim.Native.Nat.{ℕ, suc, _-_, _≤_}
 use native.Mathlib.Numerals.{add-one}
 use native.Mathlib.Omega.{arith}
+use borrow.Author.Needs.{needs}
 use borrow.Rule.Slice.PartMut.{putMid}
 use lib.Dec.{lit<}
 use lib.ListN.{length}
-use Rattle.field.specs.Field.{Root}
+use Rattle.field.specs.Field.{fermat, rootOf}
 use Rattle.field.specs.Power.{power}
-use Rattle.field.proofs.Primes.{is-root}
-use Rattle.code.proofs.Factors.{turning-factor}
-use Rattle.code.specs.Transform.{scaled}
-use Rattle.code.proofs.Shapes.{length-scaled, words-scaled}
-use Rattle.layout.specs.Header.{width}
-use Rattle.store.specs.steps.Writing.{halfStart, gathered, folded}
+use Rattle.field.proofs.Primes.{fermat-root}
+use Rattle.field.proofs.WordLists.{words-append}
+use Rattle.code.specs.Transform.{reversed, scaled}
+use Rattle.code.proofs.Factors.{turning-factor, turning-entry}
+use Rattle.code.proofs.Shapes.{length-scaled, words-scaled, reversed-lt}
+use Rattle.layout.specs.Header.{width, vaultRoot}
 use Rattle.layout.proofs.Bounds.{Fits, fits}
-use Rattle.store.proofs.Folding.{length-folded}
-use Rattle.store.proofs.Gathering.{level-within}
-use Rattle.store.proofs.RebuiltLog.{Places, places, Halves, gathered-halves, words-gathered, lent-x, put-x, lent-y, put-y, front-long, place-in}
-use Rattle.store.proofs.RebuiltLog.{length-log, cleared, scaled-one, rebuilt-half, finished}
-use borrow.Author.Needs.{needs}
+use Rattle.store.specs.steps.Writing.{halfStart, gathered, foldedBoth}
+use Rattle.store.proofs.Gathering.{level-within, rows-double}
+use Rattle.store.proofs.RebuiltLog.{Places, places, place-in, LevelIn, length-log, lent-level, put-level, front-long, cleared, gathered-level}
+use Rattle.store.proofs.RebuiltLog.{words-gathered, scaled-one, rebuilt-level, finished}
 use Rattle.store.proofs.writing.rebuild.Statement.{statement}
 use Rattle.store.proofs.writing.rebuild.Tie as tie
 
 -- PLACES: `x-at-y c` is the place x that stands before y
-abbrev start-at-root : tie.After-root → tie.Start
-start-at-root c = c .before .before .before .before .before
+abbrev start-at-entry : tie.After-entry → tie.Start
+start-at-entry c = c .before .before .before .before .before .before
 
--- the places, from the last to the first
-abbrev entry : tie.After-power → tie.Start
-entry c = start-at-root (c .before .before .before)
+abbrev entry-at-gather2 : tie.After-gather2 → tie.After-entry
+entry-at-gather2 c = c .before .before .before .before .before .before
 
-abbrev to-power : tie.After-gather2 → tie.After-power
-to-power c = c .before .before .before .before .before .before
+abbrev gather2-at-half-at2 : tie.After-half-at2 → tie.After-gather2
+gather2-at-half-at2 c = c .before .before .before .before
 
-abbrev to-gather : tie.After-half-at3 → tie.After-gather2
-to-gather c = c .before .before .before .before .before
-
-abbrev to-half : tie.After-fold → tie.After-half-at3
-to-half c = c .before .before
-
-abbrev to-fold : tie.After-fold2 → tie.After-fold
-to-fold c = c .before .before .before .before
+abbrev half-at2-at-fold : tie.After-fold-level → tie.After-half-at2
+half-at2-at-fold c = c .before .before
 
 -- what the arguments tell
 fit : (c : tie.Start) → Fits (c .args .header)
@@ -61,68 +54,49 @@ half c y g = gathered 65537 (width (c .args .header)) (c .args .log .now) y (row
 length-row : (c : tie.Start) (g : ℕ) → length (row c g) ≡ width (c .args .header)
 length-row c g = length-scaled 65537 g (c .args .number ∷ c .args .block .now) ∙ ap suc (c .pre .1 .0 .1)
 
-rooted : (c : tie.After-root) → Root 65537 (start-at-root c .args .header .k) (c .root .result)
-rooted c = is-root (omega (arith, fit (start-at-root c))) (c .root .ensures)
+-- Y's factor
+turn-is : (c : tie.After-entry) → let h = start-at-entry c .args .header in
+    c .entry .result ≡ power 65537 (vaultRoot h) (reversed (h .k) (h .c))
+turn-is c =
+    let s = start-at-entry c in
+    c .entry .ensures ∙ turning-entry (fit s .k-high) (fit s .c-low) (c .before .reversed .ensures)
 
 -- where the level stands
-level-at : (c : tie.After-half-at3) → let a = entry (to-power (to-gather c)) .args in
-    Places (width (a .header)) (a .level) (c .before .before .half-at .result) (c .before .half-at2 .result) (c .half-at3 .result)
+level-at : (c : tie.After-half-at2) → let a = start-at-entry (entry-at-gather2 (gather2-at-half-at2 c)) .args in
+    Places (width (a .header)) (a .level) (c .before .half-at .result) (c .half-at2 .result)
 level-at c =
-    let a = entry (to-power (to-gather c)) .args in
-    places (a .header .s) (a .level) (c .before .before .half-at .ensures) (c .before .half-at2 .ensures) (c .half-at3 .ensures)
+    let a = start-at-entry (entry-at-gather2 (gather2-at-half-at2 c)) .args in
+    places (a .header .s) (a .level) (c .before .half-at .ensures) (c .half-at2 .ensures)
 
 -- the log once both halves are gathered
-gathered-at : (c : tie.After-half-at3) → let t = to-power (to-gather c) in
-    let a = entry t .args in
-    Halves (width (a .header)) (a .level) (c .before .before .half-at .result) (c .before .half-at2 .result) (c .half-at3 .result) (a .log .now)
-    (to-gather c .gather2 .last .0) (half (entry t) 0 1) (half (entry t) 1 (t .power .result))
+gathered-at : (c : tie.After-half-at2) → let t = entry-at-gather2 (gather2-at-half-at2 c) in
+    let s = start-at-entry t in
+    LevelIn (width (s .args .header)) (s .args .level) (c .before .half-at .result) (c .half-at2 .result) (s .args .log .now)
+    (gather2-at-half-at2 c .gather2 .last .0) (half s 0 1 ++ half s 1 (t .entry .result))
 gathered-at c =
-    let c₂ = to-gather c in
-    let t = to-power c₂ in
-    let s = entry t in
+    let c₂ = gather2-at-half-at2 c in
+    let t = entry-at-gather2 c₂ in
+    let s = start-at-entry t in
     let e = s .pre .1 .0 .1 in
-    gathered-halves (s .args .log .now) (c₂ .before .before .before .before .gather .last .0) (c₂ .gather2 .last .0) (row s 1) (row s (t .power .result))
+    gathered-level (s .args .log .now) (c₂ .before .before .before .before .gather .last .0) (c₂ .gather2 .last .0) (row s 1) (row s (t .entry .result))
     (level-at c) (place-in (level-at c) (room s))
-    (length-row s 1) (length-row s (t .power .result)) (rw e at (c₂ .before .before .before .before .gather .ensures)) (rw e at (c₂ .gather2 .ensures))
+    (length-row s 1) (length-row s (t .entry .result)) (rw e at (c₂ .before .before .before .before .gather .ensures)) (rw e at (c₂ .gather2 .ensures))
 
--- the log once X is folded, and once Y is
-folded-x : (c : tie.After-fold) → let t = to-power (to-gather (to-half c)) in
-    let a = entry t .args in
-    c .fold .last .0 ≡ folded 65537 (t .before .before .before .root .result) (a .header .k) (width (a .header)) (a .level) (half (entry t) 0 1)
-folded-x c = (rw add-one at (c .fold .ensures)) ∙ ap (folded 65537 _ _ _ _) (lent-x (gathered-at (to-half c)))
+-- and once they are folded
+folded-level : (c : tie.After-fold-level) → let t = entry-at-gather2 (gather2-at-half-at2 (half-at2-at-fold c)) in
+    let s = start-at-entry t in
+    c .fold-level .last .0 ≡ foldedBoth 65537 (rootOf fermat) (width (s .args .header)) (s .args .level) (half s 0 1 ++ half s 1 (t .entry .result))
+folded-level c = (rw add-one at (c .fold-level .ensures)) ∙ ap (foldedBoth 65537 (rootOf fermat) _ _) (lent-level (gathered-at (half-at2-at-fold c)))
 
-x-at : (c : tie.After-fold) → let c₃ = to-half c in
-    let t = to-power (to-gather c₃) in
-    let a = entry t .args in
-    let from = c₃ .before .before .half-at .result in
-    let to = c₃ .before .half-at2 .result in
-    Halves (width (a .header)) (a .level) from to (c₃ .half-at3 .result) (a .log .now)
-    (putMid from (to - from) (to-gather c₃ .gather2 .last .0) (c .fold .last .0)) (c .fold .last .0)
-    (half (entry t) 1 (t .power .result))
-x-at c =
-    let h = gathered-at (to-half c) in
-    put-x h (ap length (folded-x c) ∙ length-folded 65537 _ _ _ _ _ (h .long-x))
-
-folded-y : (c : tie.After-fold2) → let t = to-power (to-gather (to-half (to-fold c))) in
-    let a = entry t .args in
-    c .fold2 .last .0 ≡ folded 65537 (t .before .before .before .root .result) (a .header .k) (width (a .header)) (a .level)
-    (half (entry t) 1 (t .power .result))
-folded-y c = (rw add-one at (c .fold2 .ensures)) ∙ ap (folded 65537 _ _ _ _) (lent-y (x-at (to-fold c)))
-
-y-at : (c : tie.After-fold2) → let c₃ = to-half (to-fold c) in
-    let a = entry (to-power (to-gather c₃)) .args in
-    let from = c₃ .before .before .half-at .result in
-    let middle = c₃ .before .half-at2 .result in
-    let to = c₃ .half-at3 .result in
-    let x = to-fold c .fold .last .0 in
-    Halves (width (a .header)) (a .level) from middle to (a .log .now)
-    (putMid middle (to - middle) (putMid from (middle - from) (to-gather c₃ .gather2 .last .0) x) (c .fold2 .last .0)) x (c .fold2 .last .0)
-y-at c =
-    let h = x-at (to-fold c) in
-    put-y h (ap length (folded-y c) ∙ length-folded 65537 _ _ _ _ _ (h .long-y))
-
-cast-k : tie.Need-cast-k
-cast-k c = search needs
+level-in : (c : tie.After-fold-level) → let c₂ = half-at2-at-fold c in
+    let s = start-at-entry (entry-at-gather2 (gather2-at-half-at2 c₂)) in
+    let from = c₂ .before .half-at .result in
+    let to = c₂ .half-at2 .result in
+    LevelIn (width (s .args .header)) (s .args .level) from to (s .args .log .now)
+    (putMid from (to - from) (gather2-at-half-at2 c₂ .gather2 .last .0) (c .fold-level .last .0)) (c .fold-level .last .0)
+level-in c =
+    let h = gathered-at (half-at2-at-fold c) in
+    put-level h (c .fold-level .kept .0 ∙ ap length (lent-level h) ∙ h .long)
 
 cast-width : tie.Need-cast-width
 cast-width c = search needs
@@ -130,101 +104,79 @@ cast-width c = search needs
 add-width : tie.Need-add-width
 add-width c = search needs
 
-root-requires : tie.Need-root-requires
-root-requires c κs = omega (arith, fit (c .before .before .before .before))
-
 cast-reversed : tie.Need-cast-reversed
 cast-reversed c = search needs
 
 reversed-requires : tie.Need-reversed-requires
-reversed-requires c κs = omega (arith, fit (c .before .before .before .before .before .before))
+reversed-requires c κs = search needs
 
-power-requires : tie.Need-power-requires
-power-requires c κs = rooted (c .before .before) .small
+cast-entry : tie.Need-cast-entry
+cast-entry c = search needs
+
+entry-requires : tie.Need-entry-requires
+entry-requires c κs = rw (c .reversed .ensures) (omega (arith, reversed-lt 10 (c .before .before .before .before .before .args .header .c)))
 
 gather-requires : tie.Need-gather-requires
 gather-requires c κs =
-    let s = entry (c .before) in
+    let s = start-at-entry (c .before) in
     (omega (arith, fit s, s .pre .0 .1, s .pre .1 .0 .1), (rw (s .pre .1 .0 .1) (room s), (lit< tt, s .pre .1 .1)))
 
 gather-requires-2 : tie.Need-gather-requires-2
 gather-requires-2 c κs =
     let c₁ = c .before .before .before in
     let t = c₁ .before .before in
-    let s = entry t in (
+    let s = start-at-entry t in (
       omega (arith, fit s, s .pre .0 .1, s .pre .1 .0 .1),
       (
         rw (s .pre .1 .0 .1) (omega (arith, room s, c₁ .gather .kept .0)),
-        (rw (t .power .ensures, t .before .reversed .ensures) (turning-factor 65537 _ _ _ (rooted (t .before .before .before))), s .pre .1 .1),
+        (rw (turn-is t) (turning-factor 65537 _ _ _ (fermat-root _ (omega (arith, fit s)))), s .pre .1 .1),
       ),
     )
 
 half-at-requires : tie.Need-half-at-requires
-half-at-requires c κs = let s = entry (to-power (c .before .before)) in omega (arith, fit s, s .pre .0 .1)
-
-half-at-requires-2 : tie.Need-half-at-requires-2
-half-at-requires-2 c κs = let s = entry (to-power (c .before .before .before)) in omega (arith, fit s, s .pre .0 .1)
+half-at-requires c κs = let s = start-at-entry (entry-at-gather2 (c .before .before)) in omega (arith, fit s, s .pre .0 .1)
 
 add-half-at : tie.Need-add-half-at
 add-half-at c = search needs
 
-half-at-requires-3 : tie.Need-half-at-requires-3
-half-at-requires-3 c κs = let s = entry (to-power (c .before .before .before .before)) in omega (arith, fit s, s .pre .0 .1)
+half-at-requires-2 : tie.Need-half-at-requires-2
+half-at-requires-2 c κs = let s = start-at-entry (entry-at-gather2 (c .before .before .before)) in omega (arith, fit s, s .pre .0 .1)
 
-mul-fold : tie.Need-mul-fold
-mul-fold c = let h = gathered-at c in omega (arith, h .at, h .fits, entry (to-power (to-gather c)) .good)
+-- the level is within the log
+inside : (c : tie.After-half-at2) → let h = c .half-at2 .result in (c .before .half-at .result ≤ h) × (h ≤ length (gather2-at-half-at2 c .gather2 .last .0))
+inside c = let h = gathered-at c in (omega (arith, h .at .end-is), omega (arith, h .fits, length-log h))
 
-sub-fold : tie.Need-sub-fold
-sub-fold c = search needs
+mul-fold-level : tie.Need-mul-fold-level
+mul-fold-level c = omega (arith, inside c)
 
-part-fold-start : tie.Need-part-fold-start
-part-fold-start c = search needs
+sub-fold-level : tie.Need-sub-fold-level
+sub-fold-level c = inside c .0
 
-part-fold-end : tie.Need-part-fold-end
-part-fold-end c = let h = gathered-at c in omega (arith, h .at, h .fits, length-log h)
+part-fold-level-start : tie.Need-part-fold-level-start
+part-fold-level-start c = inside c .0
 
-fold-requires : tie.Need-fold-requires
-fold-requires c κs =
-    let c₃ = c .before in
-    let s = entry (to-power (to-gather c₃)) in
-    let h = gathered-at c₃ in (
-      (omega (arith, s .pre .0 .1), omega (arith, fit s)),
+part-fold-level-end : tie.Need-part-fold-level-end
+part-fold-level-end c = inside c .1
+
+fold-level-requires : tie.Need-fold-level-requires
+fold-level-requires c κs =
+    let c₂ = c .before in
+    let s = start-at-entry (entry-at-gather2 (gather2-at-half-at2 c₂)) in
+    let h = gathered-at c₂ in
+    let e = lent-level h in (
+      omega (arith, fit s, s .pre .0 .1),
       (
-        ap length (lent-x h) ∙ rw add-one (h .long-x),
-        (rooted (to-power (to-gather c₃) .before .before .before), rw (lent-x h) (words-gathered 65537 _ (lit< tt) _ _ _ (words-scaled 65537 (lit< tt) _ _))),
-      ),
-    )
-
-mul-fold-2 : tie.Need-mul-fold-2
-mul-fold-2 c = let h = x-at (c .before .before) in omega (arith, h .at, h .fits, entry (to-power (to-gather (to-half (c .before .before)))) .good)
-
-sub-fold-2 : tie.Need-sub-fold-2
-sub-fold-2 c = let h = x-at (c .before .before) in omega (arith, h .at)
-
-part-fold-start-2 : tie.Need-part-fold-start-2
-part-fold-start-2 c = let h = x-at (c .before .before) in omega (arith, h .at)
-
-part-fold-end-2 : tie.Need-part-fold-end-2
-part-fold-end-2 c = let h = x-at (c .before .before) in omega (arith, h .at, h .fits, length-log h)
-
-fold-requires-2 : tie.Need-fold-requires-2
-fold-requires-2 c κs =
-    let c₄ = c .before .before .before in
-    let t = to-power (to-gather (to-half c₄)) in
-    let s = entry t in
-    let h = x-at c₄ in (
-      (omega (arith, s .pre .0 .1), omega (arith, fit s)),
-      (
-        ap length (lent-y h) ∙ rw add-one (h .long-y),
-        (rooted (t .before .before .before), rw (lent-y h) (words-gathered 65537 _ (lit< tt) _ _ _ (words-scaled 65537 (lit< tt) _ _))),
+        ap length e ∙ h .long ∙ sym (rows-double _ _) ∙ rw add-one,
+        rw e (words-append 65537 (lit< tt) (words-gathered 65537 _ (lit< tt) _ _ _ (words-scaled 65537 (lit< tt) _ _))
+            (words-gathered 65537 _ (lit< tt) _ _ _ (words-scaled 65537 (lit< tt) _ _))),
       ),
     )
 
 slice-relend-prefix-clear : tie.Need-slice-relend-prefix-clear
-slice-relend-prefix-clear c = let h = y-at (c .before .before) in omega (arith, h .at, h .fits, length-log h)
+slice-relend-prefix-clear c = let h = level-in (c .before .before) in omega (arith, h .at .end-is, h .fits, length-log h)
 
 slice-aggregate-clear : tie.Need-slice-aggregate-clear
-slice-aggregate-clear c = sym (front-long (y-at (c .before .before .before)))
+slice-aggregate-clear c = sym (front-long (level-in (c .before .before .before)))
 
 clear-requires : tie.Need-clear-requires
 clear-requires c κs = search needs
@@ -234,49 +186,39 @@ same-length c = search needs
 
 returns : tie.Need-returns
 returns c =
-    let c₆ = c .before .before in
-    let c₅ = c₆ .before .before .before .before in
-    let c₃ = to-half (to-fold c₅) in
-    let t = to-power (to-gather c₃) in
-    let s = entry t in
+    let at-clear = c .before .before in
+    let at-fold = at-clear .before .before .before .before in
+    let t = entry-at-gather2 (gather2-at-half-at2 (half-at2-at-fold at-fold)) in
+    let s = start-at-entry t in
     let a = s .args in
     let b = a .number ∷ a .block .now in
-    let r = t .before .before .before .root .ensures in
-    let h = y-at c₅ in
-    let f : halfStart (width (a .header)) (a .level) 0 ≤ length (a .log .now) = omega (arith, h .at, h .fits) in
-    cleared h (c₆ .clear .ensures)
+    let h = level-in at-fold in
+    let f : halfStart (width (a .header)) (a .level) 0 ≤ length (a .log .now) = omega (arith, h .at .start-is, h .at .end-is, h .fits) in
+    cleared h (at-clear .clear .ensures)
     ∙ finished (a .header) (a .log .now) b (a .level) (h .at)
-    (rebuilt-half (a .header) (a .log .now) b (a .level) (omega arith) f r (scaled-one 65537 (lit< tt) b (s .pre .1 .1)) (folded-x (to-fold c₅)))
-    (rebuilt-half (a .header) (a .log .now) b (a .level) (omega arith) f r
-    (ap (λ (g : ℕ). scaled 65537 g b) (t .power .ensures ∙ ap₂ (power 65537) r (t .before .reversed .ensures))) (folded-y c₅))
+    (rebuilt-level (a .header) (a .log .now) b (a .level) f (omega (arith, s .pre .0 .1)) (fit s .k-high) (length-row s 1)
+    (scaled-one 65537 (lit< tt) b (s .pre .1 .1)) (ap (λ (g : ℕ). scaled 65537 g b) (turn-is t)) (folded-level at-fold))
 
 pub rebuild-spec : {M : Type 1} → statement M
 rebuild-spec =
     tie.close
     (tie.spec
-    cast-k
     cast-width
     add-width
-    root-requires
     cast-reversed
     reversed-requires
-    power-requires
+    cast-entry
+    entry-requires
     gather-requires
     gather-requires-2
     half-at-requires
-    half-at-requires-2
     add-half-at
-    half-at-requires-3
-    mul-fold
-    sub-fold
-    part-fold-start
-    part-fold-end
-    fold-requires
-    mul-fold-2
-    sub-fold-2
-    part-fold-start-2
-    part-fold-end-2
-    fold-requires-2
+    half-at-requires-2
+    mul-fold-level
+    sub-fold-level
+    part-fold-level-start
+    part-fold-level-end
+    fold-level-requires
     slice-relend-prefix-clear
     slice-aggregate-clear
     clear-requires
