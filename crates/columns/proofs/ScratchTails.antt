@@ -27,7 +27,7 @@ room-half st cols t =
 
 pub scratch-low : (st : Stripe) → StripeFits st → scratchWords st ≤ 136192
 scratch-low st f =
-    let b : 2 ^ st .level ≤ 1024 = pow-mono {i = st .level} {j = 10} (omega (arith, f .low, f .numbers .within)) in
+    let b : 2 ^ st .level ≤ 1024 = pow-mono {i = st .level} {j = 10} (omega (arith, f .numbers)) in
     omega (arith, mul-le-mul {n₂ = 1024} {m₂ = 129} b (f .thin))
 
 -- how many words that is, of 2 ^ suc l rows

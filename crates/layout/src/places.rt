@@ -35,9 +35,10 @@ pub fn stripe_of(header: Header, level: usize) -> Stripe
     requires { ⌜ (headerFits header ≡ true) × (level ≤ header .k) ⌝ }
     ensures { λ r. ⌜ r ≡ stripeOf header level ⌝ }
 {
+    let k = header.k as usize;
     Stripe {
         level: level,
-        k: header.k as usize,
+        k: k,
         first: first_of(header, level),
         width: header.s as usize + 1,
     }

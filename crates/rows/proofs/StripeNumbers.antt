@@ -78,4 +78,4 @@ module _ (st : Stripe) (ms : List Bool) (r : List ℕ) where
 pub stripe-fits : (h : Header) (l : ℕ) → headerFits h ≡ true → l ≤ h .k → StripeFits (stripeOf h l)
 stripe-fits h l e w =
     let f = fits h e in
-    record { numbers = stripe-numbers h l e w; low = f .k-high; thick = omega (arith, f .s-low); thin = omega (arith, f .s-high) }
+    record { numbers = stripe-numbers h l e w; thick = omega (arith, f .s-low); thin = omega (arith, f .s-high) }

@@ -3,9 +3,8 @@ use Prim.Native.Nat.{_≤_, _<_}
 use Rattle.code.specs.declared.Stripe.{Stripe}
 use Rattle.code.specs.Stripe.{Numbers}
 
--- numbers that a stripe of a vault can have: k up to 10, a block of its number and 1 to 128 data words
+-- numbers that a stripe of a vault can have: a block of its number and 1 to 128 data words
 pub record StripeFits (st : Stripe) : Type 0 where
   pub numbers : Numbers st
-  pub low : st .k ≤ 10
   pub thick : 1 < st .width
   pub thin : st .width ≤ 129

@@ -42,7 +42,7 @@ module _ (st : Stripe) (w : st .level < st .k) where
 
     pub size-fits : StripeFits st → Fits w64 (b * st .width)
     size-fits f =
-        let c : 2 ^ st .k ≤ 1024 = pow-mono {i = st .k} {j = 10} (f .low) in
+        let c : 2 ^ st .k ≤ 1024 = pow-mono {i = st .k} {j = 10} (f .numbers .small) in
         record { fits = omega (arith, size, blocks-in st w, mul-le-mul {n₂ = 1024} {m₂ = 129} c (f .thin)) }
 
     pub scratch-in : {n n′ : ℕ} → n ≡ 2 ^ st .k * st .width + 4 * 2 ^ st .k → n′ ≡ n → b * st .width ≤ n′

@@ -22,7 +22,7 @@ add-two-to : tie.Need-add-two-to
 add-two-to c = search needs
 
 two-to-requires : tie.Need-two-to-requires
-two-to-requires c κs = omega (arith, c .before .before .before .pre .0 .low, c .before .before .before .pre .0 .numbers .within)
+two-to-requires c κs = omega (arith, c .before .before .before .pre .0 .numbers)
 
 -- twice the positions fit into the scratch
 pos : (c : tie.After-two-to) → c .two-to .result ≡ positionCount (c .before .before .before .before .args .st)

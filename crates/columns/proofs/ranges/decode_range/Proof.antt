@@ -28,7 +28,7 @@ abbrev decode-columns-at-take-range : tie.After-take-range → tie.After-decode-
 decode-columns-at-take-range c = decode-columns-at-scratch2 (c .before .before .before)
 
 two-to-requires : tie.Need-two-to-requires
-two-to-requires c κs = let f = c .before .before .before .before .pre .0 .ready .fits in omega (arith, f .low, f .numbers .within)
+two-to-requires c κs = omega (arith, c .before .before .before .before .pre .0 .ready .fits .numbers)
 
 mul-start : tie.Need-mul-start
 mul-start c = search needs
@@ -131,7 +131,7 @@ take-range-requires c κs =
     let d = decode-columns-at-scratch2 (c .before .before) in
     let s = start-at-part (d .before) in
     let f = s .pre .1 .0 in (
-      (omega (arith, s .pre .0 .ready .fits .low, s .pre .0 .ready .fits .numbers .within), f .some, f .within, s .pre .0 .few),
+      (omega (arith, s .pre .0 .ready .fits .numbers), f .some, f .within, s .pre .0 .few),
       (rw (words-are d) (words-long d), s .pre .1 .1 .0),
     )
 

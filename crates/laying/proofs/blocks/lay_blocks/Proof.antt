@@ -20,7 +20,7 @@ lay-origins-requires c κs =
     (s .pre .0, (s .pre .1 .0, i .inside))
 
 two-to-requires : tie.Need-two-to-requires
-two-to-requires c κs = let f = start-at-else c .pre .0 in omega (arith, f .numbers .within, f .low)
+two-to-requires c κs = omega (arith, start-at-else c .pre .0 .numbers)
 
 sub-lay-data : tie.Need-sub-lay-data
 sub-lay-data c = omega (arith, start-at-else (c .before .before) .pre .0 .thick)

@@ -21,7 +21,7 @@ abbrev start-at-two-to : tie.After-two-to Inv-loop μ-loop → tie.Start Inv-loo
 start-at-two-to c = c .before .before .before
 
 two-to-requires : tie.Need-two-to-requires Inv-loop μ-loop
-two-to-requires c κs = let f = c .before .before .pre .0 in omega (arith, f .numbers .within, f .low)
+two-to-requires c κs = omega (arith, c .before .before .pre .0 .numbers)
 
 loop-holds : tie.Need-loop-holds Inv-loop μ-loop
 loop-holds c = naming-start _ _ _ _ _ _
@@ -56,9 +56,7 @@ cast-put-pair : tie.Need-cast-put-pair Inv-loop μ-loop
 cast-put-pair c = omega (arith, c .shared-slice-known2 .given (c .before .before .before .loop .from))
 
 cast-put-pair-2 : tie.Need-cast-put-pair-2 Inv-loop μ-loop
-cast-put-pair-2 c =
-    let f = start-at-two-to (c .before .before .before .before) .pre .0 in
-    record { fits = omega (arith, f .numbers .within, f .low) }
+cast-put-pair-2 c = record { fits = omega (arith, start-at-two-to (c .before .before .before .before) .pre .0 .numbers) }
 
 cast-put-pair-3 : tie.Need-cast-put-pair-3 Inv-loop μ-loop
 cast-put-pair-3 c = record { fits = omega (arith, small (c .before .before)) }

@@ -22,7 +22,7 @@ start-at-slice-known2 c = start-at-load (c .before .before)
 load-requires : tie.Need-load-requires
 load-requires c κs =
     let s = c .before .before .before .before in (
-      (omega (arith, s .pre .0 .fits .low, s .pre .0 .fits .numbers .within), s .pre .1 .0 .0, s .pre .0 .long),
+      (omega (arith, s .pre .0 .fits .numbers), s .pre .1 .0 .0, s .pre .0 .long),
       (s .pre .1 .0 .1, omega (arith, s .pre .1 .1 .0)),
     )
 

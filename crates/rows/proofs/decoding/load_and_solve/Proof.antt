@@ -29,7 +29,7 @@ weights-requires c κs =
 load-requires : tie.Need-load-requires
 load-requires c κs =
     let s = start-at-weights (c .before .before .before) in (
-      (omega (arith, s .pre .0 .fits .low, s .pre .0 .fits .numbers .within), s .pre .1 .0, s .pre .0 .long),
+      (omega (arith, s .pre .0 .fits .numbers), s .pre .1 .0, s .pre .0 .long),
       (omega arith, omega (arith, c .before .before .before .weights .kept .0, s .pre .1 .1)),
     )
 

@@ -56,10 +56,10 @@ all c = ap₂ _+_ (size c) (size c) ∙ twice (stripe c)
 few : (c : tie.After-two-to) → stripeWords (stripe c) ≤ 264192
 few c =
     let f = start c .pre .0 .fits in
-    omega (arith, mul-le-mul {n₂ = 2048} {m₂ = 129} (pow-mono {i = suc (stripe c .level)} {j = 11} (omega (arith, f .low, f .numbers .within))) (f .thin))
+    omega (arith, mul-le-mul {n₂ = 2048} {m₂ = 129} (pow-mono {i = suc (stripe c .level)} {j = 11} (omega (arith, f .numbers))) (f .thin))
 
 two-to-requires : tie.Need-two-to-requires
-two-to-requires c κs = omega (arith, c .before .before .pre .0 .fits .low, c .before .before .pre .0 .fits .numbers .within)
+two-to-requires c κs = omega (arith, c .before .before .pre .0 .fits .numbers)
 
 mul-size : tie.Need-mul-size
 mul-size c = omega (arith, all (c .before), few (c .before))

@@ -32,10 +32,10 @@ abbrev loop-at-number-fits : tie.After-number-fits Inv-loop μ-loop → tie.At-l
 loop-at-number-fits c = c .before .before .before
 
 two-to-requires : tie.Need-two-to-requires Inv-loop μ-loop
-two-to-requires c κs = omega (arith, c .before .pre .0 .low)
+two-to-requires c κs = omega (arith, c .before .pre .0 .numbers .small)
 
 two-to-requires-2 : tie.Need-two-to-requires-2 Inv-loop μ-loop
-two-to-requires-2 c κs = omega (arith, c .before .before .pre .0 .low, c .before .before .pre .0 .numbers .within)
+two-to-requires-2 c κs = omega (arith, c .before .before .pre .0 .numbers)
 
 loop-holds : tie.Need-loop-holds Inv-loop μ-loop
 loop-holds c = testing-start _ _ _ _ _ _
