@@ -12,6 +12,7 @@ pub mod Half
 pub mod Inverse
 pub mod Points
 pub mod TablePoints
+pub mod TablePromises
 pub mod Products
 pub mod Proved
 pub mod Survivors

@@ -10,6 +10,8 @@ use Rattle.decoder.proofs.Inverse.{untransforms, transforms, unscales}
 use Rattle.decoder.proofs.Half.{halfFixes}
 use Rattle.decoder.proofs.Columns.{findsColumn, foundColumn}
 use Rattle.decoder.proofs.BlockDecoding.{findsBlocks, foundBlocks}
+use Rattle.decoder.proofs.TablePromises.{tableRule, rootInTable, powersInTable, inversesInTable, mixingInTable, unmixingInTable, turningInTable}
+use Rattle.decoder.proofs.TablePromises.{pointsInTable}
 use Rattle.decoder.proofs.Decoder.{Solves, Low, solves, low}
 
 -- a stripe's numbers are what the promises for any prime ask
@@ -37,6 +39,14 @@ proved = record {
   found-blocks = foundBlocks;
   finds-stripe = findsStripe;
   found-stripe = foundStripe;
+  table-rule = tableRule;
+  root-in-table = rootInTable;
+  powers-in-table = powersInTable;
+  inverses-in-table = inversesInTable;
+  mixing-in-table = mixingInTable;
+  unmixing-in-table = unmixingInTable;
+  turning-in-table = turningInTable;
+  points-in-table = pointsInTable;
 }
 
 -- those that other crates use

@@ -1,14 +1,14 @@
--- What is promised of coding and decoding, for any prime p and root w of order 2n, and of a stripe by its numbers. Each promise is a type, and all of
--- them are the fields of `Promises`, whose proof is `proved` of proofs/Proved. Assumes nothing.
+-- What is promised of coding and decoding, for any prime p and root w of order 2n, of a stripe by its numbers, and of the table of powers. Each promise is a
+-- type, and all of them are the fields of `Promises`, whose proof is `proved` of proofs/Proved. Assumes nothing.
 use mathlib.Core.Path.{_≡_}
 use mathlib.Core.Bool.{Bool, true, false}
 use mathlib.Core.List.{List}
-use Prim.Native.Nat.{ℕ, suc, _+_, _*_, _%_, _^_, _≤_, _<_}
+use Prim.Native.Nat.{ℕ, suc, _+_, _*_, _-_, _/_, _%_, _^_, _≤_, _<_}
 use lib.ListN.{length, getD}
 use Rattle.field.specs.Residue.{times}
 use Rattle.field.specs.Power.{power, inverse}
 use Rattle.field.specs.Polynomial.{horner}
-use Rattle.field.specs.Field.{Prime, Root}
+use Rattle.field.specs.Field.{Prime, Root, fermat, rootOf, powerTable}
 use Rattle.code.specs.Transform.{transform, untransform, scaled, reversed, bitReversed}
 use Rattle.code.specs.declared.Stripe.{Stripe}
 use Rattle.code.specs.Stripe.{coded, codedRows, Numbers, modulusOf, positionCount, blockWords, stripeWords, codedStripe}
@@ -111,6 +111,46 @@ FoundStripe =
     isConsistent st ms rows ≡ true →
     Column (modulusOf st) (blockWords st) (blocksIn st ms rows) × AgreesRows ms (positionCount st) (st .width) (codedStripe st (blocksIn st ms rows)) rows
 
+-- THE TABLE OF POWERS (docs/FORMAT.md, section 2): entry i is (3^32)^i modulo 65537, for all 2,048 entries together
+abbrev pub TableRule : Type 0
+TableRule =
+    (length powerTable ≡ 2048) × ((i : ℕ) → i < 2048 → getD powerTable i 0 ≡ power (fermat .modulus) (power (fermat .modulus) (fermat .generator) 32) i)
+
+-- THE ROOT of every k is entry 1024 / n, n = 2 ^ k; its powers, and those of its inverse, are entries too
+abbrev pub RootInTable : Type 0
+RootInTable = (k : ℕ) → k ≤ 10 → getD powerTable (1024 / 2 ^ k) 0 ≡ rootOf fermat k
+
+abbrev pub PowersInTable : Type 0
+PowersInTable =
+    (k j : ℕ) → k ≤ 10 → j < 2 ^ suc k → getD powerTable (j * (1024 / 2 ^ k)) 0 ≡ power (fermat .modulus) (rootOf fermat k) j
+
+abbrev pub InversesInTable : Type 0
+InversesInTable =
+    (k j : ℕ) → k ≤ 10 → 0 < j → j < 2 ^ suc k →
+    getD powerTable (2048 - j * (1024 / 2 ^ k)) 0 ≡ power (fermat .modulus) (inverse (fermat .modulus) (rootOf fermat k)) j
+
+-- THE FACTORS: v ^ i of mixing 2 ^ l rows with 2 ^ l rows, where `transform` has v = w^(n/2^l), and of unmixing them; w^rev(t) of turning write t
+abbrev pub MixingInTable : Type 0
+MixingInTable =
+    (k l i : ℕ) → l ≤ k → k ≤ 10 → i < 2 ^ l →
+    getD powerTable (i * (1024 / 2 ^ l)) 0 ≡ power (fermat .modulus) (power (fermat .modulus) (rootOf fermat k) (2 ^ k / 2 ^ l)) i
+
+abbrev pub UnmixingInTable : Type 0
+UnmixingInTable =
+    (k l i : ℕ) → l ≤ k → k ≤ 10 → 0 < i → i < 2 ^ l →
+    getD powerTable (2048 - i * (1024 / 2 ^ l)) 0 ≡
+    power (fermat .modulus) (power (fermat .modulus) (inverse (fermat .modulus) (rootOf fermat k)) (2 ^ k / 2 ^ l)) i
+
+abbrev pub TurningInTable : Type 0
+TurningInTable = (k t : ℕ) → k ≤ 10 → t < 2 ^ k → getD powerTable (reversed 10 t) 0 ≡ power (fermat .modulus) (rootOf fermat k) (reversed k t)
+
+-- THE POINTS of the positions of X, and of Y
+abbrev pub PointsInTable : Type 0
+PointsInTable =
+    (k l i : ℕ) → l ≤ k → k ≤ 10 → i < 2 ^ l →
+    (getD powerTable (2 * i * (1024 / 2 ^ l)) 0 ≡ pointAt (fermat .modulus) (rootOf fermat k) k l i) ×
+    (getD powerTable (suc (2 * i) * (1024 / 2 ^ l)) 0 ≡ pointAt (fermat .modulus) (rootOf fermat k) k l (2 ^ l + i))
+
 -- ALL OF THEM
 pub record Promises : Type 0 where
   pub values-x : ValuesX
@@ -126,3 +166,11 @@ pub record Promises : Type 0 where
   pub found-blocks : FoundBlocks
   pub finds-stripe : FindsStripe
   pub found-stripe : FoundStripe
+  pub table-rule : TableRule
+  pub root-in-table : RootInTable
+  pub powers-in-table : PowersInTable
+  pub inverses-in-table : InversesInTable
+  pub mixing-in-table : MixingInTable
+  pub unmixing-in-table : UnmixingInTable
+  pub turning-in-table : TurningInTable
+  pub points-in-table : PointsInTable

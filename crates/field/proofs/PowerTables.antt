@@ -62,7 +62,7 @@ pub powers-entry : (p x n i : ℕ) {l : List ℕ} → l ≡ powersOf p x n → i
 powers-entry p x n i e b = rw e (powers-at p x n i b)
 
 -- the power of an inverse is the inverse of the power
-inverse-power : (p : ℕ) → 1 < p → (x e : ℕ) → power p (inverse p x) e ≡ inverse p (power p x e)
+pub inverse-power : (p : ℕ) → 1 < p → (x e : ℕ) → power p (inverse p x) e ≡ inverse p (power p x e)
 unfolding inverse
 inverse-power p h x e = sym (power-mul p h x (p - 2) e) ∙ ap (power p x) (mul-comm (p - 2) e) ∙ power-mul p h x e (p - 2)
 
@@ -146,10 +146,12 @@ table-root k b =
     ∙ ap (power 65537 (rootOf fermat 10)) (sym (two-div 10 k b)) ∙ level-root 10 k b (omega arith))
 
 -- and its inverse entry 2048 - 1024 / n
+pub table-inverse : (e : ℕ) → 0 < e → e < 2048 → getD powerTable (2048 - e) 0 ≡ inverse 65537 (getD powerTable e 0)
+table-inverse e z b = rw table-is (entry-back 65537 10 (rootOf fermat 10) fermat-prime (fermat-root 10 (omega arith)) e z b)
+
 pub table-back : (k : ℕ) → k ≤ 10 → getD powerTable (2048 - 2 ^ (10 - k)) 0 ≡ inverse 65537 (rootOf fermat k)
 table-back k b =
-    rw table-is (entry-back 65537 10 (rootOf fermat 10) fermat-prime (fermat-root 10 (omega arith)) (2 ^ (10 - k)) (pow-pos (10 - k))
-    (omega (arith, pow-mono {i = 10 - k} {j = 10} (omega arith)))) ∙ ap (inverse 65537) (table-root k b)
+    table-inverse (2 ^ (10 - k)) (pow-pos (10 - k)) (omega (arith, pow-mono {i = 10 - k} {j = 10} (omega arith))) ∙ ap (inverse 65537) (table-root k b)
 
 -- entry i is the product of two: of its digits to the base 32
 pub table-digits : (i : ℕ) → i < 2048 → times 65537 (power 65537 (rootOf fermat 5) (i / 32)) (power 65537 (rootOf fermat 10) (i % 32)) ≡ getD powerTable i 0

@@ -45,7 +45,3 @@ fermat-root k l = record {
   small = power-lt 65537 (lit< tt) 3 (65536 / (2 * 2 ^ k));
   half = sym (power-mul 65537 (lit< tt) 3 (65536 / (2 * 2 ^ k)) (2 ^ k)) ∙ ap (power 65537 3) (exponent k l) ∙ half;
 }
-
--- a number that is the vault's root
-pub is-root : {k w : ℕ} → k ≤ 15 → w ≡ rootOf fermat k → Root 65537 k w
-is-root {k} b e = rw e (fermat-root k b)

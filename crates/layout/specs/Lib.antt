@@ -1,3 +1,4 @@
 pub mod Header
+pub mod PowersCall
 pub mod Records
 pub mod Refusals

@@ -3,6 +3,7 @@ use layout::Header;
 use recovery::Recovery;
 ghost use mathlib.Core.Path.{_≡_};
 ghost use Rattle.layout.specs.Header.{headerOf};
+ghost use Rattle.layout.specs.PowersCall.{powersNumber, powersLeaves};
 ghost use Rattle.store.specs.Buffers.{buffers};
 ghost use Rattle.store.specs.StoreCalls.{openNumber, openLeaves, writeNumber, writeAnswer, writeLeaves, readNumber};
 ghost use Rattle.stripe.specs.StripeCall.{decodeNumber, decodeLeaves, decodeScratch};
@@ -197,4 +198,13 @@ pub extern "C" fn vault_image(
     ensures { λ _. ⌜ now (image .exit) ≡ imageLeaves (headerOf k s c) (now (full .entry)) (now (log .entry)) (now (image .entry)) ⌝ }
 {
     image::images::image(Header { k: k, s: s, c: c }, full, log, image)
+}
+
+// The table of powers.
+#[no_mangle]
+pub extern "C" fn vault_powers(powers: &mut [u32]) -> u32
+    ensures { λ r. ⌜ r ≡ powersNumber (now (powers .entry)) ⌝ }
+    ensures { λ _. ⌜ now (powers .exit) ≡ powersLeaves (now (powers .entry)) ⌝ }
+{
+    layout::table::powers(powers)
 }

@@ -10,7 +10,6 @@ use lib.ListN.{length, take, drop}
 use lib.Seq.{sets, sets-eq, take-at}
 use Rattle.field.specs.Words.{Words}
 use Rattle.field.specs.Field.{fermat, rootOf}
-use Rattle.field.proofs.Primes.{is-root}
 use Rattle.code.specs.Stripe.{Numbers, codedRows}
 use Rattle.layout.specs.Header.{headerOf}
 use Rattle.layout.specs.Records.{recordIn}
