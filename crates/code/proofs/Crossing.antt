@@ -136,7 +136,8 @@ row-pairs : (c : Crossing) (f : ℕ → ℕ) (half g n low : ℕ) (l : List ℕ)
 unfolding crossedRow pairs
 row-pairs c f half g zero low l h = rw add-zero
 row-pairs c f half g (suc n) low l h =
-    let r : crossedRow c (λ _. g) n low (half + low) (pairs c f half low l) ≡ pairs c f half (low + n) l = row-pairs c f half g n low l (λ j lt. h j (omega arith)) in
+    let r : crossedRow c (λ _. g) n low (half + low) (pairs c f half low l) ≡ pairs c f half (low + n) l =
+    row-pairs c f half g n low l (λ j lt. h j (omega arith)) in
     let y : half + low + n ≡ half + (low + n) = omega arith in
     let e : f (low + n) ≡ g = h n (omega arith) in
     rw (add-suc, r, y, ← e)
@@ -294,28 +295,35 @@ module _ {c : Crossing} {part₀ : List ℕ} {m width : ℕ} {powers : List ℕ}
   high-in h lt = omega (arith, row-in width lt)
 
   -- and where the next row starts is a `usize`
-  pub low-fits : {part : List ℕ} {e i low high : ℕ} → length part₀ * 4 < 2 ^ 63 → RowsLoop c part₀ m width powers step part e i low high → i < m → Fits w64 (low + width)
+  pub low-fits : {part : List ℕ} {e i low high : ℕ} → length part₀ * 4 < 2 ^ 63 → RowsLoop c part₀ m width powers step part e i low high → i < m
+      → Fits w64 (low + width)
   low-fits b h lt = record { fits = omega (arith, row-in width lt) }
 
-  pub high-fits : {part : List ℕ} {e i low high : ℕ} → length part₀ * 4 < 2 ^ 63 → RowsLoop c part₀ m width powers step part e i low high → i < m → Fits w64 (high + width)
+  pub high-fits : {part : List ℕ} {e i low high : ℕ} → length part₀ * 4 < 2 ^ 63 → RowsLoop c part₀ m width powers step part e i low high → i < m
+      → Fits w64 (high + width)
   high-fits b h lt = record { fits = omega (arith, row-in width lt) }
 
   -- row i's factor, since i is below m: its place in the table, which power it is, and that it is not -1
-  pub factor-in : {part : List ℕ} {e i low high : ℕ} → RowFactors 65537 m step powers → RowsLoop c part₀ m width powers step part e i low high → i < m → e % 2048 < length powers
+  pub factor-in : {part : List ℕ} {e i low high : ℕ} → RowFactors 65537 m step powers → RowsLoop c part₀ m width powers step part e i low high → i < m
+      → e % 2048 < length powers
   factor-in f h lt = rw (h .e-is) (f .within _ lt)
 
   factor-is : {part : List ℕ} {e i low high : ℕ} → RowFactors 65537 m step powers → RowsLoop c part₀ m width powers step part e i low high → i < m
       → getD powers (e % 2048) 0 ≡ power 65537 (getD powers step 0) i
   factor-is f h lt = rw (h .e-is) (f .entry _ lt)
 
-  pub factor-short : {part : List ℕ} {e i low high : ℕ} → RowFactors 65537 m step powers → RowsLoop c part₀ m width powers step part e i low high → i < m → getD powers (e % 2048) 0 < 65536
+  pub factor-short : {part : List ℕ} {e i low high : ℕ} → RowFactors 65537 m step powers → RowsLoop c part₀ m width powers step part e i low high → i < m
+      → getD powers (e % 2048) 0 < 65536
   factor-short f h lt = rw (factor-is f h lt) (f .short _ lt)
 
-  pub factor-fits : {part : List ℕ} {e i low high : ℕ} → RowFactors 65537 m step powers → RowsLoop c part₀ m width powers step part e i low high → i < m → Fits w64 (e + step)
+  pub factor-fits : {part : List ℕ} {e i low high : ℕ} → RowFactors 65537 m step powers → RowsLoop c part₀ m width powers step part e i low high → i < m
+      → Fits w64 (e + step)
   factor-fits f h lt = record { fits = omega (arith, row-in step lt, f .room) }
 
-  pub rows-turn : {part part′ : List ℕ} {e i low high : ℕ} → Stores 65537 c → RowFactors 65537 m step powers → RowsLoop c part₀ m width powers step part e i low high → i < m
-      → part′ ≡ crossedRow c (λ _. getD powers (e % 2048) 0) width low high part → RowsLoop c part₀ m width powers step part′ (e + step) (i + 1) (low + width) (high + width)
+  pub rows-turn : {part part′ : List ℕ} {e i low high : ℕ} → Stores 65537 c → RowFactors 65537 m step powers
+      → RowsLoop c part₀ m width powers step part e i low high → i < m
+      → part′ ≡ crossedRow c (λ _. getD powers (e % 2048) 0) width low high part
+      → RowsLoop c part₀ m width powers step part′ (e + step) (i + 1) (low + width) (high + width)
   rows-turn {part} {part′} {e} {i} {low} {high} s f h lt ep =
       let v = getD powers step 0 in
       let g = getD powers (e % 2048) 0 in
@@ -334,7 +342,8 @@ module _ {c : Crossing} {part₀ : List ℕ} {m width : ℕ} {powers : List ℕ}
         now = ep ∙ ap (λ (x : ℕ). crossedRow c (λ _. x) width low high part) (factor-is f h lt) ∙ rw (h .low-is, h .high-is, h .now, n) r;
       }
 
-  pub rows-end : {d : List ℕ → List ℕ} {part : List ℕ} {e i low high : ℕ} → Crosses c (getD powers step 0) m d → RowsLoop c part₀ m width powers step part e i low high → m ≤ i
+  pub rows-end : {d : List ℕ → List ℕ} {part : List ℕ} {e i low high : ℕ} → Crosses c (getD powers step 0) m d
+      → RowsLoop c part₀ m width powers step part e i low high → m ≤ i
       → part ≡ lifted width (m + m) (m + m) d part₀
   rows-end {d} {part} {e} {i} t h le =
       let q : i ≡ m = omega arith in

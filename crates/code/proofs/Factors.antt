@@ -14,7 +14,8 @@ use Rattle.field.proofs.Ring.{v, _⊕_, _⊖_, _⊗_, ring}
 use Rattle.field.proofs.Powers.{power-mul}
 use Rattle.field.proofs.Unity.{root-short, root-back, two-div}
 use Rattle.field.proofs.Primes.{fermat-prime, fermat-root}
-use Rattle.field.proofs.PowerTables.{table-is, length-powers, powers-entry, length-table-of-powers, table-power, table-root, table-back, level-root, level-inverse}
+use Rattle.field.proofs.PowerTables.{table-is, length-powers, powers-entry, length-table-of-powers, table-power}
+use Rattle.field.proofs.PowerTables.{table-root, table-back, level-root, level-inverse}
 use Rattle.code.specs.Transform.{reversed}
 use Rattle.code.specs.steps.Mixing.{Crossing, mixing, unmixing, summing, crossed, crossedRow, mixRow, unmixRow, sumRow, RowFactors}
 use Rattle.code.proofs.Lifting.{row-in}
@@ -58,7 +59,8 @@ module _ {k l m step : ℕ} {powers : List ℕ} (is : powers ≡ powerTable) (b 
 module _ {n l : ℕ} {powers : List ℕ} (is : powers ≡ powersOf 65537 (rootOf fermat n) (2 ^ suc n)) (b : l ≤ n) (t : n ≤ 10) where
   pub root-there : getD powers (2 ^ n / 2 ^ l) 0 ≡ rootOf fermat l
   root-there =
-      powers-entry 65537 (rootOf fermat n) (2 ^ suc n) (2 ^ n / 2 ^ l) is (omega (arith, div-le-self (2 ^ n) (2 ^ l), pow-pos n)) ∙ level-root n l b (omega arith)
+      powers-entry 65537 (rootOf fermat n) (2 ^ suc n) (2 ^ n / 2 ^ l) is (omega (arith, div-le-self (2 ^ n) (2 ^ l), pow-pos n))
+      ∙ level-root n l b (omega arith)
 
   pub root-factors : RowFactors 65537 (2 ^ l) (2 ^ n / 2 ^ l) powers
   root-factors =
@@ -80,14 +82,16 @@ module _ {n l : ℕ} {powers : List ℕ} (is : powers ≡ powersOf 65537 (rootOf
       }
 
 -- the power r of entry `step`
-pub power-entry : {powers : List ℕ} {step r e : ℕ} → powers ≡ powerTable → step < 2048 → r ≡ e → getD powers (r * step % 2048) 0 ≡ power 65537 (getD powers step 0) e
+pub power-entry : {powers : List ℕ} {step r e : ℕ} → powers ≡ powerTable → step < 2048 → r ≡ e
+    → getD powers (r * step % 2048) 0 ≡ power 65537 (getD powers step 0) e
 power-entry {powers} {step} {r} {e} is b q = rw (is, q) (table-power step e b)
 
 -- turning takes the powers of entry 1 at t with its ten bits reversed, which is rev(t) times 1024 / n; to turn back, those of entry 2047
 pub turning-power : (x k t : ℕ) → k ≤ 10 → t < 2 ^ k → power 65537 x (reversed 10 t) ≡ power 65537 (power 65537 x (2 ^ (10 - k))) (reversed k t)
 turning-power x k t b h =
     let e : k + (10 - k) ≡ 10 = omega arith in
-    ap (power 65537 x) ((rw e at (reversed-more k (10 - k) t h)) ∙ mul-comm (reversed k t) (2 ^ (10 - k))) ∙ power-mul 65537 (lit< tt) x (2 ^ (10 - k)) (reversed k t)
+    ap (power 65537 x) ((rw e at (reversed-more k (10 - k) t h)) ∙ mul-comm (reversed k t) (2 ^ (10 - k)))
+    ∙ power-mul 65537 (lit< tt) x (2 ^ (10 - k)) (reversed k t)
 
 pub turning-root : {powers : List ℕ} {k : ℕ} → powers ≡ powerTable → k ≤ 10 → power 65537 (getD powers 1 0) (2 ^ (10 - k)) ≡ rootOf fermat k
 turning-root {powers} {k} e b =
@@ -96,7 +100,8 @@ turning-root {powers} {k} e b =
 
 pub turning-back : {powers : List ℕ} {k : ℕ} → powers ≡ powerTable → k ≤ 10 → power 65537 (getD powers 2047 0) (2 ^ (10 - k)) ≡ inverse 65537 (rootOf fermat k)
 turning-back {powers} {k} e b =
-    rw e (ap (λ (x : ℕ). power 65537 x (2 ^ (10 - k))) (table-back 10 (omega arith)) ∙ ap (power 65537 (inverse 65537 (rootOf fermat 10))) (sym (two-div 10 k b))
+    rw e (ap (λ (x : ℕ). power 65537 x (2 ^ (10 - k))) (table-back 10 (omega arith))
+    ∙ ap (power 65537 (inverse 65537 (rootOf fermat 10))) (sym (two-div 10 k b))
     ∙ level-inverse 10 k b (omega arith))
 
 -- so that the entry at the reversed bits is the factor of write t

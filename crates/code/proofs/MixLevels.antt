@@ -17,7 +17,8 @@ use Rattle.code.specs.steps.Storing.{stored}
 use Rattle.code.proofs.RowLaws.{length-stored, stored-at}
 use Rattle.code.proofs.Shapes.{length-two, length-transform}
 use Rattle.code.proofs.Crossing.{mixing-stores, length-row, words-row, words-lifted-mixed}
-use Rattle.code.proofs.Blocks.{OnBlock, each-same, Level, level-at, pow-down, words-each, eachRows, rows-id, rows-one, both, rows-then, rows-double, mixing-block}
+use Rattle.code.proofs.Blocks.{OnBlock, each-same, Level, level-at, pow-down, words-each, eachRows}
+use Rattle.code.proofs.Blocks.{rows-id, rows-one, both, rows-then, rows-double, mixing-block}
 
 -- what holds after l levels: each block of 2 ^ l rows is transformed
 pub record MixLoop (half₀ : List ℕ) (level k width root : ℕ) (half : List ℕ) (blocks step m l : ℕ) : Type 0 where
@@ -99,7 +100,8 @@ module _ {half₀ : List ℕ} {level k width root : ℕ} {half : List ℕ} {bloc
         now = eh ∙ rw (s .blocks-is, s .m-is, u, h .now, pow-down lt) (mix-level width root k l (2 ^ (level - suc l)) half₀ (omega arith));
       })
 
-  pub mix-done : MixLoop half₀ level k width root half blocks step m l → level ≤ l → half ≡ lifted width (2 ^ level) (2 ^ level) (transform 65537 root k level) half₀
+  pub mix-done : MixLoop half₀ level k width root half blocks step m l → level ≤ l
+      → half ≡ lifted width (2 ^ level) (2 ^ level) (transform 65537 root k level) half₀
   mix-done h le =
       let d : l ≡ level = omega arith in
       let z : level - level ≡ 0 = omega arith in
@@ -126,7 +128,8 @@ module _ (width : ℕ) (fs₀ : List ℕ) {m step : ℕ} {powers fs : List ℕ} 
   unfolding repeatedAt
   repeated-is x h =
       let z : 0 + x ≡ x = zero-add x in
-      ap (λ (l : List ℕ). getD l x 0) e ∙ (rw z at (stored-at 0 (repeatedAt powers width step) (m * width) fs₀ x (omega arith) h)) ∙ f .entry (x / width) (row-of x h)
+      ap (λ (l : List ℕ). getD l x 0) e ∙ (rw z at (stored-at 0 (repeatedAt powers width step) (m * width) fs₀ x (omega arith) h))
+      ∙ f .entry (x / width) (row-of x h)
 
   pub repeated-short : ShortFactors 65537 (m * width) fs
   repeated-short = record {

@@ -88,7 +88,8 @@ after-mix c = c .mix-all .last .0 ++ drop (half (mix-two c)) (after-copy (mix-co
 
 -- X stands first
 mixed : (c : tie.After-mix-all) → let at-two = mix-two c in
-    let a = stripe at-two in c .mix-all .last .0 ≡ lifted (a .width) (2 ^ a .level) (2 ^ a .level) (transform 65537 (rootOf fermat (a .k)) (a .k) (a .level)) (blocks at-two)
+    let a = stripe at-two in c .mix-all .last .0
+    ≡ lifted (a .width) (2 ^ a .level) (2 ^ a .level) (transform 65537 (rootOf fermat (a .k)) (a .k) (a .level)) (blocks at-two)
 mixed c = c .mix-all .ensures ∙ ap (lifted _ _ _ _) (lent-front (copied (mix-copy c)))
 
 mixed-parts : (c : tie.After-mix-all) → let at-two = mix-two c in Parts (half at-two) (after-mix c) (c .mix-all .last .0) (blocks at-two)

@@ -66,7 +66,8 @@ few c = rw (c .reversed .ensures) (reversed-lt 10 _)
 mul-e : tie.Need-mul-e Inv-loop μ-loop
 mul-e c = omega (
   arith,
-  mul-le-mul {n₁ = c .reversed .result} {m₁ = start (c .before) .args .step} {n₂ = 1024} {m₂ = 2048} (omega (arith, few c)) (omega (arith, start (c .before) .pre .1 .1 .0 .1)),
+  mul-le-mul {n₁ = c .reversed .result} {m₁ = start (c .before) .args .step} {n₂ = 1024} {m₂ = 2048} (omega (arith, few c))
+      (omega (arith, start (c .before) .pre .1 .1 .0 .1)),
 )
 
 mul-turn-row : tie.Need-mul-turn-row Inv-loop μ-loop
@@ -83,7 +84,8 @@ root c = power 65537 (getD (start c .args .powers .now) (start c .args .step) 0)
 
 -- the factor of row j, an entry of the table
 abbrev entry : (c : tie.After-shared-slice-known2 Inv-loop μ-loop) → ℕ
-entry c = getD (start (c .before .before .before) .args .powers .now) (c .before .before .reversed .result * start (c .before .before .before) .args .step % 2048) 0
+entry c = getD (start (c .before .before .before) .args .powers .now)
+    (c .before .before .reversed .result * start (c .before .before .before) .args .step % 2048) 0
 
 entry-is : (c : tie.After-shared-slice-known2 Inv-loop μ-loop) → let at-test = c .before .before .before in
     let a = start at-test .args in entry c ≡ factor (root at-test) (a .st .k) (a .st .first) (at-test .before .loop .j)

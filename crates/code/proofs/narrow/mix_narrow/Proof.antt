@@ -53,7 +53,8 @@ module _ (c : tie.In-loop Inv-loop μ-loop) where
   abbrev st-width : ℕ
   st-width = start-at-test c .args .st .width
 
-  here : Level st-width (start-at-test c .args .st .level) (c .before .loop .l) (length (c .before .loop .half)) (c .before .loop .blocks / 2) (c .before .loop .m)
+  here : Level st-width (start-at-test c .args .st .level) (c .before .loop .l) (length (c .before .loop .half)) (c .before .loop .blocks / 2)
+      (c .before .loop .m)
   here = level-in (c .before .loop .inv .levels) (c .loop-test .taken)
 
   factors : let k = start-at-test c .args .st .k in
@@ -100,7 +101,8 @@ mix-words-each-requires c κs =
       (
         omega (arith, room at-test),
         (
-          repeated-short w (at-test .before .loop .factors) (factors at-test .rows) (omega (arith, room at-test, at-test .before .loop .inv .held)) (at-repeat .repeat .ensures),
+          repeated-short w (at-test .before .loop .factors) (factors at-test .rows) (omega (arith, room at-test, at-test .before .loop .inv .held))
+              (at-repeat .repeat .ensures),
           at-test .before .loop .inv .levels .words,
         ),
       ),
@@ -121,7 +123,8 @@ loop-again c =
     let at-repeat = repeat-at-each at-each in
     let at-test = test-at-repeat at-repeat in
     let h = at-test .before .loop .inv in
-    let is = repeated-is (st-width at-test) (at-test .before .loop .factors) (factors at-test .rows) (omega (arith, room at-test, h .held)) (at-repeat .repeat .ensures) in
+    let is = repeated-is (st-width at-test) (at-test .before .loop .factors) (factors at-test .rows) (omega (arith, room at-test, h .held))
+    (at-repeat .repeat .ensures) in
     record {
       levels = mix-turn (h .levels) (at-test .loop-test .taken) (at-each .mix-words-each .kept .0) (factors at-test .entry)
           (at-each .mix-words-each .ensures ∙ words-level _ _ _ _ _ _ (here at-test .rows) is);

@@ -159,7 +159,8 @@ module _ (c : tie.In-loop Inv-loop μ-loop) where
   point-there : getD (begin .args .powers .now) place 0 ≡ pointAt 65537 (rootOf fermat (begin .args .st .k)) (begin .args .st .k) (begin .args .st .level)
       (c .before .loop .i)
   point-there =
-      ap (λ (n : ℕ). getD (begin .args .powers .now) n 0) place-is ∙ even-point (begin .pre .1 .1 .1 .0) (begin .pre .0 .within) (begin .pre .0 .small) refl below
+      ap (λ (n : ℕ). getD (begin .args .powers .now) n 0) place-is
+      ∙ even-point (begin .pre .1 .1 .1 .0) (begin .pre .0 .within) (begin .pre .0 .small) refl below
 
 picked : (c : tie.Joined1 Inv-loop μ-loop) → let loop = c .before .before .before .before in
     let mul = loop .before in
@@ -292,7 +293,8 @@ returns c =
     let s = start-at-mul (c .before .before) in
     let a = s .args in
     storing-rows-done (h .storing) (c .loop-test .left)
-    ∙ rw (h .rows-is) (choose-rows 65537 (rootOf fermat (a .st .k)) (a .st .k) (a .st .level) (a .st .width) (a .marks .now) (a .part .now) (omega (arith, s .pre .1 .1 .0)))
+    ∙ rw (h .rows-is) (choose-rows 65537 (rootOf fermat (a .st .k)) (a .st .k) (a .st .level) (a .st .width) (a .marks .now) (a .part .now)
+    (omega (arith, s .pre .1 .1 .0)))
 
 pub choose-spec : {M : Type 1} → statement M
 choose-spec =

@@ -164,7 +164,8 @@ pointed : (c : tie.After-points Inv-loop μ-loop) → let n = two-to-at-points c
 pointed c =
     let a = two-to-at-points c .before .before .before .args in
     let st = a .st in
-    c .points .ensures ∙ ap (λ (n : ℕ). table n (pointAt 65537 (rootOf fermat (st .k)) (st .k) (st .level)) ++ drop n (a .part .now)) (sym (count-is (two-to-at-points c)))
+    c .points .ensures ∙ ap (λ (n : ℕ). table n (pointAt 65537 (rootOf fermat (st .k)) (st .k) (st .level)) ++ drop n (a .part .now))
+    (sym (count-is (two-to-at-points c)))
 
 add-two-to : tie.Need-add-two-to Inv-loop μ-loop
 add-two-to c = omega arith
@@ -245,8 +246,10 @@ returns c =
     let e : at-loop .loop .j ≡ n = omega (arith, inv .turns, c .loop-test .left) in
     inv .now
     ∙ ap₂ (λ (l : List ℕ) (j : ℕ). l ++ weightsTo (rootOf fermat (st .k)) (st .k) (st .level) (a .marks .now) n j)
-    (front-is (rootOf fermat (st .k)) (st .k) (st .level) (a .marks .now) n _ (a .part .now) _ _ (room at-two) refl (pointed at-points) (at-ones .ones .ensures)) e
-    ∙ ap (λ (m : ℕ). table m (pointAt 65537 (rootOf fermat (st .k)) (st .k) (st .level)) ++ take (length (a .part .now) - (m + m)) (drop m (a .part .now)) ++ weightsTo
+    (front-is (rootOf fermat (st .k)) (st .k) (st .level) (a .marks .now) n _ (a .part .now) _ _ (room at-two) refl (pointed at-points)
+    (at-ones .ones .ensures)) e
+    ∙ ap (λ (m : ℕ). table m (pointAt 65537 (rootOf fermat (st .k)) (st .k) (st .level)) ++ take (length (a .part .now) - (m + m))
+    (drop m (a .part .now)) ++ weightsTo
     (rootOf fermat (st .k)) (st .k) (st .level) (a .marks .now) m m) (count-is at-two)
 
 pub weights-spec : {M : Type 1} → statement M

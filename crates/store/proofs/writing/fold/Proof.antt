@@ -61,7 +61,8 @@ mix-requires : tie.Need-mix-requires Inv-loop μ-loop
 mix-requires c κs =
     let at-test = c .before in
     let inv = at-test .before .loop .inv in
-    (lent-long inv (at-test .loop-test .taken), (turn-factors inv (at-test .loop-test .taken) (start-at-test at-test .pre .1 .1 .0), lent-words inv (at-test .loop-test .taken)))
+    let lt = at-test .loop-test .taken in
+    (lent-long inv lt, (turn-factors inv lt (start-at-test at-test .pre .1 .1 .0), lent-words inv lt))
 
 mul-m : tie.Need-mul-m Inv-loop μ-loop
 mul-m c =
