@@ -12,7 +12,7 @@ use lib.ListN.{length, take, drop, length-drop}
 use lib.Seq.{sets, sets-eq, length-take-le, take-add, take-all, take-at, drop-at}
 use borrow.Author.Tests.{leb-true, le-leb}
 use Rattle.field.specs.Words.{Words}
-use Rattle.field.proofs.WordLists.{words-nil, words-cons, words-tail, part-inside, take-sets, drop-sets}
+use Rattle.field.proofs.WordLists.{words-nil, words-cons, words-tail, words-take, part-inside, take-sets, drop-sets}
 use Rattle.layout.specs.Records.{isData, areData, recordIn, replaced, recordsFit}
 use Rattle.field.proofs.Booleans.{both-true, first-true, second-true, first-false, second-false}
 
@@ -96,6 +96,9 @@ fit-front s r zero = sym (ap (λ (m : ℕ). areData (take m r)) (zero-mul s))
 fit-front s r (suc n) =
     let e : suc n * s ≡ n * s + s = omega arith in
     rw (e, take-add (n * s) s r, data-append, fit-front s r n)
+
+pub fit-all : (s : ℕ) (r : List ℕ) (n : ℕ) → areData r ≡ true → recordsFit s r n ≡ true
+fit-all s r n e = fit-front s r n ∙ are-data (take (n * s) r) (words-take 65536 (lit< tt) (n * s) (data-words r e))
 
 pub records-data : (s : ℕ) (r : List ℕ) (n : ℕ) → length r ≡ n * s → recordsFit s r n ≡ areData r
 records-data s r n e = fit-front s r n ∙ ap areData (take-all (n * s) r (omega arith))

@@ -32,11 +32,14 @@ pub fn all_data(words: &[u32]) -> bool
     fit
 }
 
-// Test 5 of n records of s words: whether each holds such data.
+// Test 5 of n records of s words: whether each holds such data. Most often all words do, which one pass over them shows.
 pub fn records_fit(raw: &[u32], s: usize, n: usize) -> bool
     requires { ⌜ n * s ≤ length (now raw) ⌝ }
     ensures { λ r. ⌜ r ≡ recordsFit s (now (raw .entry)) n ⌝ }
 {
+    if all_data(raw) {
+        return true;
+    }
     let mut at = 0;
     for i in 0..n {
         let next = at + s;

@@ -229,7 +229,7 @@ pub fn write(
     let c = header.c;
     put_record(raw, number as usize, s, block);
     if c as usize + 1 == code::number::two_to(k) {
-        crate::opening::build(raw, full, k, s);
+        crate::opening::build(raw, full, k, s, false);
         layout::words::clear(log);
         return taken(header, 0);
     }

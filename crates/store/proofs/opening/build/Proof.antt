@@ -104,10 +104,10 @@ numbers : {k width : ℕ} → k ≤ 10 → Numbers (record { level = k; k = k; f
 numbers {k} b = record { within = omega arith; small = b; aligned = zero-mod (2 ^ k); ends = omega arith }
 
 abbrev Inv-loop : tie.InvT-loop
-Inv-loop raw full₀ k s n width at₀ i₀ full at i = Inv raw full₀ k s n width full at i
+Inv-loop raw full₀ k s whole n width at₀ i₀ full at i = Inv raw full₀ k s n width full at i
 
 abbrev μ-loop : tie.MeasureT-loop
-μ-loop raw full₀ k s n width at₀ i₀ full at i = n - i
+μ-loop raw full₀ k s whole n width at₀ i₀ full at i = n - i
 
 two-to-requires : tie.Need-two-to-requires Inv-loop μ-loop
 two-to-requires c κs = omega arith
@@ -118,13 +118,14 @@ add-width c = omega arith
 loop-holds : tie.Need-loop-holds Inv-loop μ-loop
 loop-holds c =
     let p = c .before .before .before .pre in
-    start (p .0 .0) (c .two-to .ensures) (p .1 .0) (p .1 .1)
+    start (p .0 .0) (c .two-to .ensures) (p .1 .0 .0) (p .1 .0 .1)
 
 block-row-requires : tie.Need-block-row-requires Inv-loop μ-loop
 block-row-requires c κs =
     let h = c .before .before .loop .inv in
     let l = c .before .loop-test .taken in
-    (room h l, (record-inside h l, omega arith))
+    let whole = c .before .before .before .before .before .before .pre .1 .1 in
+    (room h l, (record-inside h l, (omega arith, whole)))
 
 add-at : tie.Need-add-at Inv-loop μ-loop
 add-at c = omega (arith, room (c .before .before .before .before .before .loop .inv) (c .before .before .before .before .loop-test .taken))

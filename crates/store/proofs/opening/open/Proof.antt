@@ -9,8 +9,9 @@ use Rattle.layout.specs.Header.{headerOf}
 use Rattle.store.specs.Buffers.{fullStripe, Buffers, buffers, opened}
 use Rattle.store.specs.StoreCalls.{openNumber, openAnswer, openLeaves}
 use Rattle.layout.proofs.Bounds.{fits}
+use Rattle.layout.proofs.RecordWords.{data-words, field-words}
 use Rattle.layout.proofs.Refusals.{if-taken, if-refused}
-use Rattle.store.proofs.OpenRefusals.{open-taken}
+use Rattle.store.proofs.OpenRefusals.{open-taken, open-data}
 use borrow.Author.Needs.{needs}
 use Rattle.store.proofs.opening.open.Statement.{statement}
 use Rattle.store.proofs.opening.open.Tie as tie
@@ -73,7 +74,8 @@ build-requires c κs =
     let a = start-at-open-number (c .before .before) .args in
     let t = open-taken (a .k) (a .s) (a .raw .now) (a .full .now) (a .log .now) (number-zero (c .before)) in
     let z = fits (headerOf (a .k) (a .s) 0) (t .fitting) in
-    ((z .k-high, z .s-high), (t .raw-long, t .full-long))
+    let words = field-words (data-words _ (open-data (a .k) (a .s) (a .raw .now) (a .full .now) (a .log .now) (number-zero (c .before)))) in
+    ((z .k-high, z .s-high), ((t .raw-long, t .full-long), record { words-of = λ _. words }))
 
 clear-requires : tie.Need-clear-requires
 clear-requires c κs = search needs

@@ -1,6 +1,6 @@
 -- `store::writing::write` meets its contract. Assumes nothing.
 use mathlib.Core.Path.{_≡_, refl, sym, ap, ap₂, _∙_}
-use mathlib.Core.Bool.{true, false}
+use mathlib.Core.Bool.{true, false, false≢true}
 use mathlib.Core.List.{List, _∷_}
 use Prim.Native.Nat.{ℕ, suc, _<_}
 use native.Mathlib.Nat.{mul-le-mul-right}
@@ -141,8 +141,10 @@ build-requires : tie.Need-build-requires
 build-requires c κs =
     let c₂ = c .before .before .before .before in
     let t = told (to-else c₂) in
-    let z = bounds (to-else c₂) in
-    ((z .k-high, z .s-high), (c₂ .before .before .put-record .kept .0 ∙ t .raw-long, t .full-long))
+    let z = bounds (to-else c₂) in (
+      (z .k-high, z .s-high),
+      ((c₂ .before .before .put-record .kept .0 ∙ t .raw-long, t .full-long), record { words-of = λ e. absurd (false≢true e) }),
+    )
 
 clear-requires : tie.Need-clear-requires
 clear-requires c κs = search needs
