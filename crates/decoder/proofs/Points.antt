@@ -8,11 +8,11 @@ use native.Mathlib.Decide.{decLt}
 use native.Mathlib.Omega.{arith, ne-cases}
 use lib.Dec.{ltb}
 use borrow.Author.Tests.{lt-ltb, le-ltb}
-use Rattle.field.specs.Residue.{minus, times}
+use Rattle.field.specs.Residue.{minus}
 use Rattle.field.specs.Power.{power}
 use Rattle.field.specs.Field.{Root}
 use Rattle.field.specs.Words.{Words, table}
-use Rattle.field.proofs.Powers.{power-lt, power-suc, power-mul, power-double, power-of-one}
+use Rattle.field.proofs.Powers.{power-lt, power-mul, power-of-one}
 use Rattle.field.proofs.Unity.{two-div, root-down, root-half, root-full, root-distinct, root-positive}
 use Rattle.field.proofs.WordLists.{words-table}
 use Rattle.decoder.specs.Decoding.{pointAt}
@@ -54,13 +54,6 @@ module _ (p w k l : ℕ) where
   point-high i = rw (le-ltb (2 ^ l + i) (2 ^ l) (omega arith), pointAt) (ap (power p u) {x = 2 * (2 ^ l + i - 2 ^ l) + 1} {y = suc (2 * i)} (omega arith))
 
   module _ (h : 1 < p) where
-    -- and as powers of the square of u
-    pub point-low-square : (i : ℕ) → i < 2 ^ l → pointAt p w k l i ≡ power p (times p u u) i
-    point-low-square i b = point-low i b ∙ power-double p h u i
-
-    pub point-high-square : (i : ℕ) → pointAt p w k l (2 ^ l + i) ≡ times p u (power p (times p u u) i)
-    point-high-square i = point-high i ∙ power-suc p h u (2 * i) ∙ ap (times p u) (power-double p h u i)
-
     pub point-lt : (i : ℕ) → pointAt p w k l i < p
     unfolding pointAt
     point-lt i = choice-lt (ltb i (2 ^ l)) (power-lt p h u (2 * i)) (power-lt p h u (2 * (i - 2 ^ l) + 1))

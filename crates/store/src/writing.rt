@@ -140,7 +140,7 @@ fn fold_level(part: &mut [u32], level: usize, width: usize)
 }
 
 // Rebuilds a level from all levels below it and the block, and empties those. The level is lent on as a part from the middle of the log; what follows it
-// stays. Entry rev(c) of the table, c with its ten bits reversed, is w^rev(c).
+// stays. Y takes the block times w^rev(c), which is the entry at c with its ten bits reversed.
 fn rebuild(header: Header, log: &mut [u32], level: usize, number: u32, block: &[u32])
     requires { ⌜ (headerFits header ≡ true) × (level < header .k) ⌝ }
     requires { ⌜ (length (now log) ≡ logSize header) × (length (now block) ≡ header .s) ⌝ }

@@ -1,5 +1,5 @@
 -- `code::mixing::mix_rows` meets its contract, by the laws of the loop over levels of proofs/MixLevels. Assumes nothing.
-use Prim.Native.Nat.{_+_, _-_, _*_, _/_}
+use Prim.Native.Nat.{_-_, _/_}
 use native.Mathlib.Omega.{arith}
 use lib.ListN.{length}
 use Rattle.field.specs.Field.{fermat, rootOf}

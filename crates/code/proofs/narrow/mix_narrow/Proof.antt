@@ -1,10 +1,9 @@
 -- `code::narrow::mix_narrow` meets its contract, by the laws of the loop over levels of proofs/MixLevels. Assumes nothing.
 use mathlib.Core.Path.{_≡_, sym, ap, _∙_}
 use mathlib.Core.List.{List}
-use Prim.Native.Nat.{ℕ, _+_, _-_, _*_, _/_, _^_, _≤_, _<_}
+use Prim.Native.Nat.{ℕ, _-_, _*_, _/_, _≤_}
 use native.Mathlib.Nat.{add-mul, mul-le-mul}
 use native.Mathlib.Omega.{arith}
-use borrow.Author.Needs.{needs}
 use lib.Pow.{pow-mono}
 use lib.ListN.{length, length-replicate}
 use Rattle.field.specs.Field.{fermat, rootOf}

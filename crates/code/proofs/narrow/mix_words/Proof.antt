@@ -1,11 +1,11 @@
 -- `code::narrow::mix_words` meets its contract, by the laws of the loop over a row of proofs/Crossing. Assumes nothing.
 use mathlib.Core.Path.{ap, _∙_}
-use Prim.Native.Nat.{_+_, _-_}
+use Prim.Native.Nat.{_-_}
 use native.Mathlib.Omega.{arith}
 use lib.ListN.{getD, length-set}
 use Rattle.field.specs.Residue.{plus, minus}
 use Rattle.code.specs.steps.Mixing.{mixing, factorAt}
-use Rattle.code.proofs.Crossing.{RowLoop, row-word, words-turn, product-word, row-needs as needs}
+use Rattle.code.proofs.Crossing.{RowLoop, row-word, words-turn, row-needs as needs}
 use Rattle.code.proofs.narrow.mix_words.Statement.{statement}
 use Rattle.code.proofs.narrow.mix_words.Tie as tie
 

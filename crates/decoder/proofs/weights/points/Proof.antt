@@ -2,7 +2,7 @@
 use mathlib.Core.Path.{_≡_, refl, sym, ap, _∙_}
 use mathlib.Core.List.{List, _++_}
 use Prim.Native.Nat.{ℕ, suc, _+_, _*_, _-_, _/_, _^_, _≤_, _<_}
-use native.Mathlib.Nat.{zero-add, mul-zero, zero-mul}
+use native.Mathlib.Nat.{zero-add, zero-mul}
 use native.Mathlib.Omega.{arith}
 use lib.Pow.{pow-pos}
 use lib.ListN.{length, getD, set, drop, length-set}

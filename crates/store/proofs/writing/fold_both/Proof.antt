@@ -1,14 +1,14 @@
 -- `store::writing::fold_both` meets its contract: each half is folded in its place. Assumes nothing.
 use mathlib.Core.Path.{_≡_, sym, ap, ap₂, _∙_}
 use mathlib.Core.List.{List, _++_}
-use Prim.Native.Nat.{ℕ, suc, _+_, _*_, _-_, _^_}
+use Prim.Native.Nat.{ℕ, _+_, _*_, _-_, _^_}
 use native.Mathlib.Omega.{arith}
 use borrow.Author.Needs.{needs}
 use lib.Dec.{lit<}
 use lib.ListN.{length, take, drop, length-drop, take-append-drop}
 use lib.Seq.{length-take-le}
 use Rattle.field.proofs.WordLists.{words-take, words-drop}
-use Rattle.code.proofs.RowLaws.{Parts, length-parts, lent-front, lent-rest, put-front, put-rest}
+use Rattle.code.proofs.RowLaws.{Parts, length-parts, lent-rest, put-front, put-rest}
 use Rattle.store.specs.steps.Writing.{folded, rootEntry}
 use Rattle.store.proofs.Folding.{length-folded}
 use Rattle.store.proofs.Gathering.{rows-double}
