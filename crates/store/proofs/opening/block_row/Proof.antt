@@ -25,7 +25,8 @@ module _ (full raw : List ℕ) (at i s : ℕ) (inside : i * s + s ≤ length raw
       q ∙ stored-list (at + 1) f s (reduced 65537 (recordIn s raw i)) (set full at i) (length-copy 65537 (i * s) s raw inside)
       (λ j b. copy-at 65537 (i * s) s raw inside j b ∙ e j b) ∙ rw (add-one at)
 
-  copied : {x : List ℕ} → Words 65537 raw → x ≡ stored (at + 1) (wordFrom raw (i * s)) s (set full at i) → x ≡ sets full at (i ∷ reduced 65537 (recordIn s raw i))
+  copied : {x : List ℕ} → Words 65537 raw → x ≡ stored (at + 1) (wordFrom raw (i * s)) s (set full at i)
+      → x ≡ sets full at (i ∷ reduced 65537 (recordIn s raw i))
   unfolding wordFrom
   copied w q = block (wordFrom raw (i * s)) (λ j b. mod-eq-of-lt (w .word (i * s + j))) q
 
