@@ -8,6 +8,7 @@ use crate::header::Header;
 use crate::image::image;
 use crate::listing::list;
 use crate::opening::open;
+use crate::powers::powers;
 use crate::reading::read;
 use crate::recovery::{decode_stripe, recover};
 use crate::script::{Bytes, Command, Number, Words, BYTES, COUNTS, WORDS};
@@ -160,6 +161,7 @@ impl Machine {
             Command::Recover => self.recover(),
             Command::List => self.list(),
             Command::Explain(lent) => self.explain(lent),
+            Command::Powers => self.powers(),
         }
     }
 
@@ -256,6 +258,14 @@ impl Machine {
         self.keep_words(Words::Out, &origins);
         self.show_all("origins", &origins);
         self.left(Words::Scratch, "scratch", &scratch);
+    }
+
+    fn powers(&mut self) {
+        let mut out = self.words(Words::Out);
+        let number = powers(&mut out);
+        self.call("powers", number);
+        self.printed.push('\n');
+        self.left(Words::Out, "out", &out);
     }
 
     fn list(&mut self) {

@@ -3,7 +3,7 @@
 //! Input: the count of commands in 4 bytes, then the commands. A command is a byte for its kind and three numbers of 4 bytes, of which those
 //! that it does not use are 0; `Load` is followed by bytes. Numbers have the low byte first.
 
-/// Buffers of words, by number. An explanation puts its origins into `Out`.
+/// Buffers of words, by number. An explanation puts its origins into `Out`, and the table of powers goes there.
 #[derive(Clone, Copy)]
 pub enum Words {
     Raw,
@@ -79,6 +79,7 @@ pub enum Command {
     List,
     /// So many of `COUNTS` are lent.
     Explain(u32),
+    Powers,
 }
 
 impl Command {
@@ -101,6 +102,7 @@ impl Command {
             Command::Recover => (10, [0; 3]),
             Command::List => (11, [0; 3]),
             Command::Explain(lent) => (12, [lent, 0, 0]),
+            Command::Powers => (13, [0; 3]),
         };
         let mut bytes = vec![kind];
         bytes.extend(numbers.iter().flat_map(|n| n.to_le_bytes()));

@@ -156,6 +156,14 @@ pub(crate) fn explain(
     explain_in(h, image, list, &mut counts[..x], origins, scratch);
 }
 
+pub(crate) fn powers(out: &mut [u32]) {
+    let number = layout::table::powers(out);
+    output::text(b"powers");
+    output::number(number);
+    output::text(b"\n");
+    output::words(b" out", out);
+}
+
 // A listing of the input that stands in `list`. A short text is printed as it is.
 pub(crate) fn list(list: &[u8], image: &mut [u8]) {
     let length = listing::list(list, image);

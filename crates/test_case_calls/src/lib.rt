@@ -59,7 +59,7 @@ pub fn image(numbers: &[u32; 11], full: &[u32], log: &[u32], image: &mut [u8], c
     }
 }
 
-// Decoding (kind 9), recovery (10) and its explanation (12) from an image and an erasure list; and a listing (11).
+// Decoding (kind 9), recovery (10) and its explanation (12) from an image and an erasure list; a listing (11); and the table of powers (13), to the output.
 pub fn on_image(
     numbers: &[u32; 11],
     image: &mut [u8],
@@ -103,6 +103,7 @@ pub fn on_image(
             &mut out[..x],
             &mut scratch[..y],
         ),
+        13 => calls::powers(&mut out[..x]),
         _ => {}
     }
 }

@@ -6,6 +6,7 @@ mod listings;
 mod losses;
 mod openings;
 mod recoveries;
+mod tables;
 mod writes;
 
 use crate::header::Header;
@@ -164,6 +165,7 @@ fn script() -> Script {
     losses::add(&mut script);
     recoveries::add(&mut script);
     explanations::add(&mut script);
+    tables::add(&mut script);
     script
 }
 
