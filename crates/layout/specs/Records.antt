@@ -2,7 +2,7 @@
 use mathlib.Core.Bool.{Bool, true, _&&_}
 use mathlib.Core.List.{List, [], _∷_}
 use Prim.Native.Nat.{ℕ, zero, suc, _*_}
-use lib.Dec.{leb}
+use lib.Dec.{leb, eqb}
 use lib.ListN.{take, drop}
 use lib.Seq.{sets}
 
@@ -14,6 +14,11 @@ isData x = leb x 65535
 unfoldable pub areData : List ℕ → Bool
 areData [] = true
 areData (x ∷ xs) = isData x && areData xs
+
+-- whether a block is blank: each of its data words is 0
+unfoldable pub isBlank : List ℕ → Bool
+isBlank [] = true
+isBlank (x ∷ xs) = eqb x 0 && isBlank xs
 
 -- record i, and the raw records with another in its place
 abbrev pub recordIn : (s : ℕ) → (raw : List ℕ) → (i : ℕ) → List ℕ

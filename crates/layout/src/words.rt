@@ -3,7 +3,7 @@ ghost use mathlib.Core.Path.{_≡_};
 ghost use Prim.Native.Nat.{_+_, _*_, _≤_};
 ghost use lib.ListN.{length, replicate};
 ghost use Rattle.code.specs.steps.Storing.{stored, wordFrom};
-ghost use Rattle.layout.specs.Records.{areData, recordsFit};
+ghost use Rattle.layout.specs.Records.{areData, isBlank, recordsFit};
 
 // Copies `count` words from index `from` on to index `to` on.
 pub fn copy_row(out: &mut [u32], to: usize, words: &[u32], from: usize, count: usize)
@@ -30,6 +30,20 @@ pub fn all_data(words: &[u32]) -> bool
         i += 1;
     }
     fit
+}
+
+// Test 11 of a block: whether each of its words is 0. Most often the first one is not, and the others are not looked at.
+pub fn is_blank(words: &[u32]) -> bool
+    ensures { λ r. ⌜ r ≡ isBlank (now (words .entry)) ⌝ }
+{
+    let mut i = 0;
+    while i < words.len() {
+        if words[i] != 0 {
+            return false;
+        }
+        i += 1;
+    }
+    true
 }
 
 // Test 5 of n records of s words: whether each holds such data. Most often all words do, which one pass over them shows.

@@ -158,7 +158,7 @@ fn rebuild(header: Header, log: &mut [u32], level: usize, number: u32, block: &[
     layout::words::clear(&mut log[..start]);
 }
 
-// The number that writing gives: tests 1, 2, 4, 5.
+// The number that writing gives: tests 1, 2, 4, 5, 11.
 fn write_number(
     header: Header,
     raw: &[u32],
@@ -182,6 +182,9 @@ fn write_number(
     if !layout::words::all_data(block) {
         return 5;
     }
+    if layout::words::is_blank(block) {
+        return 11;
+    }
     0
 }
 
@@ -199,8 +202,8 @@ fn taken(header: Header, c: u32) -> Written
     }
 }
 
-// Writes a block to a record. Tests 1, 2 (the three buffers and the block), 4, 5; a refusal changes nothing. Words that it reads from the buffers count modulo
-// p.
+// Writes a block to a record. Tests 1, 2 (the three buffers and the block), 4, 5, 11 (a blank block); a refusal changes nothing. Words that it reads from the
+// buffers count modulo p.
 pub fn write(
     header: Header,
     raw: &mut [u32],

@@ -16,6 +16,7 @@ pub record Entry : Type 0 where
   pub number : ℕ
   pub block : List ℕ
 
--- an event: today a write, with any record number and any block
+-- an event, with any record number and any block: a write by today's table of refusals; or an earlier one, by a vault that did not know refusal 11 (blank)
 pub data Event : Type 0 where
   write : (number : ℕ) → (block : List ℕ) → Event
+  earlier : (number : ℕ) → (block : List ℕ) → Event

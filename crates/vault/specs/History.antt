@@ -5,8 +5,8 @@ use Prim.Native.Nat.{ℕ}
 use Rattle.layout.specs.declared.Header.{Header}
 use Rattle.image.specs.Image.{imageOf}
 use Rattle.store.specs.Buffers.{Buffers}
-use Rattle.store.specs.StoreCalls.{openNumber, openAnswer, openLeaves, writeNumber, writeAnswer, writeLeaves}
-use Rattle.vault.specs.Event.{Opening, Event, write}
+use Rattle.store.specs.StoreCalls.{openNumber, openAnswer, openLeaves, writeNumber, writeAnswer, writeLeaves, earlierNumber, earlierAnswer, earlierLeaves}
+use Rattle.vault.specs.Event.{Opening, Event, write, earlier}
 
 -- a vault: its header and its buffers, as the opening or the event before left them
 pub record Vault : Type 0 where
@@ -20,13 +20,15 @@ vault h u = record { header = h; held = u }
 abbrev pub imageLeft : Vault → List ℕ
 imageLeft v = imageOf (v .held .full) (v .held .log)
 
--- the number that the call gives to an event
+-- the number that the call gives to an event; to an earlier write, the call as it was
 abbrev pub numberOn : Vault → Event → ℕ
 numberOn v (write i b) = writeNumber (v .header) (v .held) i b
+numberOn v (earlier i b) = earlierNumber (v .header) (v .held) i b
 
 -- what the call leaves
 abbrev pub step : Vault → Event → Vault
 step v (write i b) = vault (writeAnswer (v .header) (v .held) i b .header) (writeLeaves (v .header) (v .held) i b)
+step v (earlier i b) = vault (earlierAnswer (v .header) (v .held) i b .header) (earlierLeaves (v .header) (v .held) i b)
 
 unfoldable pub after : Vault → List Event → Vault
 after v [] = v

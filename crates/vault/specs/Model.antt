@@ -6,7 +6,7 @@ use mathlib.Core.List.{List, [], _∷_, _++_}
 use Prim.Native.Nat.{ℕ, suc, _*_, _^_, _<_}
 use lib.Dec.{ltb, leb, eqb}
 use lib.ListN.{length, getD, take, drop}
-use Rattle.vault.specs.Event.{Opening, Entry, Event, write}
+use Rattle.vault.specs.Event.{Opening, Entry, Event, write, earlier}
 
 -- `written` has the writes of this round, the oldest first; `before` the records as they were before each of them, the newest first: its head is what taking
 -- back the last write would give
@@ -25,13 +25,23 @@ unfoldable pub wordsFit : List ℕ → Bool
 wordsFit [] = true
 wordsFit (x ∷ xs) = leb x 65535 && wordsFit xs
 
--- the number that the table gives to an event: a write's is judged from k, s, its record number and its block
-abbrev pub tableNumber : Model → Event → ℕ
-tableNumber m (write i b) =
+unfoldable pub wordsZero : List ℕ → Bool
+wordsZero [] = true
+wordsZero (x ∷ xs) = eqb x 0 && wordsZero xs
+
+-- by 2, 4 and 5, which every write has had; n where none of them applies
+abbrev pub judged : Model → (number : ℕ) → (block : List ℕ) → (n : ℕ) → ℕ
+judged m i b n =
     elim (eqb (length b) (m .s)) [
-      | true ↦ elim (ltb i (2 ^ m .k)) [ true ↦ elim (wordsFit b) [ true ↦ 0 | false ↦ 5 ] | false ↦ 4 ]
+      | true ↦ elim (ltb i (2 ^ m .k)) [ true ↦ elim (wordsFit b) [ true ↦ n | false ↦ 5 ] | false ↦ 4 ]
       | false ↦ 2
     ]
+
+-- the number that the table gives to an event, judged from k, s, its record number and its block: a write's by today's table, an earlier write's by the table
+-- without 11
+abbrev pub tableNumber : Model → Event → ℕ
+tableNumber m (write i b) = judged m i b (elim (wordsZero b) [ true ↦ 11 | false ↦ 0 ])
+tableNumber m (earlier i b) = judged m i b 0
 
 -- a block's words in place of record i; the count grows by 1, and at n it becomes 0
 abbrev pub put : Model → (number : ℕ) → (block : List ℕ) → Model
@@ -46,6 +56,7 @@ put m i b = record {
 -- what an event that the table takes does to the model
 abbrev pub entered : Model → Event → Model
 entered m (write i b) = put m i b
+entered m (earlier i b) = put m i b
 
 -- an event that the table refuses leaves the model as it is
 abbrev pub fed : Model → Event → Model

@@ -10,7 +10,7 @@ use Rattle.layout.specs.declared.Header.{Header}
 use Rattle.layout.specs.Header.{headerOf, primeOf, vaultRoot, width, isFilled, firstOf, stripeSize}
 use Rattle.layout.specs.Records.{replaced}
 use Rattle.store.specs.Buffers.{fullStripe, Buffers, buffers}
-use Rattle.vault.specs.Event.{Opening, Entry, Event, write}
+use Rattle.vault.specs.Event.{Opening, Entry, Event, write, earlier}
 use Rattle.vault.specs.Model.{Model, tableNumber}
 
 pub record Round : Type 0 where
@@ -54,6 +54,7 @@ grown a x =
 
 abbrev pub advanced : Round → Event → Round
 advanced a (write i b) = grown a (record { number = i; block = b })
+advanced a (earlier i b) = grown a (record { number = i; block = b })
 
 -- one that the table refuses leaves it as it is
 abbrev pub turnRound : Round → Event → Round
