@@ -82,8 +82,9 @@ uint32_t vault_open(uint32_t k, uint32_t s,
  *   are as they were, and *c is one more;
  * - if *c was n - 1: full is built anew from raw, log is zeros, and *c is 0.
  * After any other number, 11 too: raw, full, log and *c are as they were.
- * Buffers that no opening made are allowed: words read from them count modulo 65537. So are buffers and images of earlier versions of this library, which did
- * not have 11 and took blank blocks: every call here takes these records of zeros as any others.
+ * Buffers that no opening made are allowed: words read from them count modulo 65537.
+ * Earlier versions of this library did not have 11, and took blank blocks. Their buffers and images are as good as today's: records of zeros there are read,
+ * decoded, recovered and explained as any others.
  */
 uint32_t vault_write(uint32_t k, uint32_t s, uint32_t *c,
                      uint32_t *raw, size_t raw_len,

@@ -69,7 +69,8 @@ extern "C" {
     /// Tests 1 (k, s and `*c`), 2 (`raw`, `full`, `log`, `block`), 4, 5 (a word of the block) and 11 (the block). After 0, the record in `raw` is the block,
     /// and either the first empty level of `log` is rebuilt from those below it and `*c` is one more, or, where `*c` was n - 1, `full` is built anew from
     /// `raw`, `log` is zeros and `*c` is 0. After any other number, 11 too, all of these are as they were. Words of buffers that no opening made count
-    /// modulo 65537. Buffers and images of earlier versions of the library, which did not have 11 and took blank blocks, are taken by every call here.
+    /// modulo 65537. Earlier versions of the library did not have 11, and took blank blocks: records of zeros in their buffers and images are read, decoded,
+    /// recovered and explained as any others.
     ///
     /// # Safety
     ///
