@@ -111,13 +111,12 @@ const EARLIER: &str = "1 5 6\n2 0 0\n1 0 0\n";
 #[test]
 fn an_earlier_rack_comes_back() {
     let image = file("earlier", &earlier_image(EARLIER));
-    // What is written here and now is as it was then.
+    // Today's vault refuses the second of these writes.
     let today = vault(["image", "2", "2", "--text"], EARLIER.as_bytes());
     assert_eq!(today.stderr, says("write 1, line 2"));
-    assert_eq!(
-        line(&format!("list 2 2 3 {image}")).text().lines().nth(8),
-        Some("0 0 1 0 0")
-    );
+    // After the 8 lines of the full shelf: X of level 0 is the block of the last write, to record 1.
+    let listed = line(&format!("list 2 2 3 {image}")).text();
+    assert_eq!(listed.lines().nth(8), Some("0 0 1 0 0"));
     let decoded = |shelf| line(&format!("decode 2 2 3 {image} - {shelf}")).text();
     assert_eq!(decoded("1"), "1 5 6\n2 0 0\n");
     assert_eq!(decoded("0"), "1 0 0\n");
