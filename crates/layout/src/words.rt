@@ -39,11 +39,11 @@ pub fn is_blank(words: &[u32]) -> bool
     let mut i = 0;
     while i < words.len() {
         if words[i] != 0 {
-            return false;
+            break;
         }
         i += 1;
     }
-    true
+    i == words.len()
 }
 
 // Test 5 of n records of s words: whether each holds such data. Most often all words do, which one pass over them shows.

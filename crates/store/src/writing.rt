@@ -176,13 +176,16 @@ fn write_number(
     if block.len() != header.s as usize {
         return 2;
     }
-    if code::number::two_to(header.k as usize) <= number as usize {
+    let outside = code::number::two_to(header.k as usize) <= number as usize;
+    let fit = layout::words::all_data(block);
+    let blank = layout::words::is_blank(block);
+    if outside {
         return 4;
     }
-    if !layout::words::all_data(block) {
+    if !fit {
         return 5;
     }
-    if layout::words::is_blank(block) {
+    if blank {
         return 11;
     }
     0

@@ -1,16 +1,16 @@
 -- `store::writing::write_number` meets its contract: each test that holds or fails, in turn. Assumes nothing.
-use mathlib.Core.Path.{_≡_, sym, ap, _∙_}
-use mathlib.Core.Bool.{not}
+use mathlib.Core.Path.{_≡_, refl, sym, ap, ap₂, _∙_}
+use mathlib.Core.Bool.{Bool, true, false, not}
+use Prim.Native.Nat.{ℕ}
 use native.Mathlib.Omega.{arith}
 use borrow.Author.Needs.{needs}
-use borrow.Author.Tests.{lt-ltb, le-ltb, eq-eqb, ne-eqb, not-true, not-false}
-use lib.Dec.{ltb, eqb}
+use borrow.Author.Tests.{leb-true, leb-false, lt-ltb, le-ltb, eq-eqb, ne-eqb, not-true, not-false}
+use lib.Dec.{ltb, leb, eqb}
 use lib.ListN.{length}
 use Rattle.layout.specs.Header.{count}
 use Rattle.layout.specs.Records.{areData, isBlank}
 use Rattle.layout.specs.Refusals.{Tests, done, test, refusal}
 use Rattle.layout.proofs.Bounds.{fits}
-use Rattle.layout.proofs.Refusals.{test-holds}
 use Rattle.field.proofs.Booleans.{both-true, first-false}
 use Rattle.store.specs.Buffers.{Buffers, buffers}
 use Rattle.store.specs.StoreCalls.{writeNumber}
@@ -25,29 +25,22 @@ entry c = c .before .before .before .before .before
 abbrev lent : tie.After-buffers-number → Buffers
 lent c = buffers (entry c .args .raw .now) (entry c .args .full .now) (entry c .args .log .now)
 
-abbrev blank-test : tie.After-buffers-number → Tests
-blank-test c = test (not (isBlank (entry c .args .block .now))) 11 done
-
-abbrev data-test : tie.After-buffers-number → Tests
-data-test c = test (areData (entry c .args .block .now)) 5 (blank-test c)
-
 abbrev rest : tie.After-buffers-number → Tests
-rest c = let a = entry c .args in test (ltb (a .number) (count (a .header))) 4 (data-test c)
+rest c =
+    let a = entry c .args in
+    test (ltb (a .number) (count (a .header))) 4 (test (areData (a .block .now)) 5 (test (not (isBlank (a .block .now))) 11 done))
 
 -- PLACES: `x-at-y c` is the place x that stands before y
+abbrev sized-at-tested : tie.After-is-blank → tie.Else2
+sized-at-tested c = c .before .before .before .before
+
 abbrev number-at-sized : tie.Else2 → tie.After-buffers-number
 number-at-sized c = c .before .before .before
-
-abbrev number-at-within : tie.Else3 → tie.After-buffers-number
-number-at-within c = number-at-sized (c .before .before .before)
-
-abbrev number-at-worded : tie.Else4 → tie.After-buffers-number
-number-at-worded c = number-at-within (c .before .before)
 
 holds : (c : tie.Else1) → Held (entry (c .before) .args .header) (lent (c .before))
 holds c = held (entry (c .before) .args .header) (lent (c .before)) (sym (c .before .buffers-number .ensures) ∙ c .if1 .left)
 
--- the number of the call is that of the tests that are left: where all lengths hold, where the record is one, and where its words are data
+-- the number of the call is that of the tests that are left where all lengths hold
 abbrev Left : tie.After-buffers-number → Tests → Type 0
 Left p ts = let a = entry p .args in writeNumber (a .header) (lent p) (a .number) (a .block .now) ≡ refusal ts
 
@@ -57,15 +50,21 @@ sized c =
     let H = holds (c .before .before) in
     held-passed (entry p .args .header) (lent p) (rest p) H (both-true (H .sized) (eq-eqb _ _ (c .if2 .left)))
 
-within : (c : tie.Else3) → Left (number-at-within c) (data-test (number-at-within c))
-within c =
-    let p = number-at-within c in
-    sized (c .before .before .before) ∙ test-holds 4 (data-test p) (ap (ltb (entry p .args .number)) (sym (c .before .two-to .ensures)) ∙ lt-ltb _ _ (c .if3 .left))
+inside : (n i : ℕ) (outside : Bool) → leb n i ≡ outside → ltb i n ≡ not outside
+inside n i true e = le-ltb i n (leb-true n i e)
+inside n i false e = lt-ltb i n (leb-false n i e)
 
-worded : (c : tie.Else4) → Left (number-at-worded c) (blank-test (number-at-worded c))
-worded c =
-    within (c .before .before)
-    ∙ test-holds 5 (blank-test (number-at-worded c)) (sym (c .before .all-data .ensures) ∙ not-false (c .before .all-data .result) (c .if4 .left))
+-- and these go by what the code found: whether the record number is outside, the words are data, and the block is blank
+tested : (c : tie.After-is-blank) (outside fit blank : Bool) → let p = number-at-sized (sized-at-tested c) in
+    leb (c .before .before .two-to .result) (entry p .args .number) ≡ outside → c .before .all-data .result ≡ fit → c .is-blank .result ≡ blank
+    → Left p (test (not outside) 4 (test fit 5 (test (not blank) 11 done)))
+tested c outside fit blank eo ef eb =
+    let a = entry (number-at-sized (sized-at-tested c)) .args in
+    sized (sized-at-tested c)
+    ∙ ap (λ (x : Bool). refusal (test x 4 (test (areData (a .block .now)) 5 (test (not (isBlank (a .block .now))) 11 done))))
+    (inside (count (a .header)) (a .number) outside (ap (λ (n : ℕ). leb n (a .number)) (sym (c .before .before .two-to .ensures)) ∙ eo))
+    ∙ ap₂ (λ (y z : Bool). refusal (test (not outside) 4 (test y 5 (test (not z) 11 done)))) (sym (c .before .all-data .ensures) ∙ ef)
+    (sym (c .is-blank .ensures) ∙ eb)
 
 buffers-number-requires : tie.Need-buffers-number-requires
 buffers-number-requires c κs = search needs
@@ -91,27 +90,27 @@ cast-two-to c = search needs
 two-to-requires : tie.Need-two-to-requires
 two-to-requires c κs = let f = c .before .before .before in omega (arith, fits (entry (f .before) .args .header) (holds f .fitting) .k-high)
 
-returns-3 : tie.Need-returns-3
-unfolding refusal
-returns-3 c = rw (sized (c .before .before .before), ← c .before .two-to .ensures, le-ltb _ _ (c .if3 .taken))
-
 all-data-requires : tie.Need-all-data-requires
 all-data-requires c κs = search needs
-
-returns-4 : tie.Need-returns-4
-unfolding refusal
-returns-4 c = rw (within (c .before .before), ← c .before .all-data .ensures, not-true (c .before .all-data .result) (c .if4 .taken))
 
 is-blank-requires : tie.Need-is-blank-requires
 is-blank-requires c κs = search needs
 
+returns-3 : tie.Need-returns-3
+unfolding refusal
+returns-3 c = sym (tested (c .before) true _ _ (c .if3 .taken) refl refl)
+
+returns-4 : tie.Need-returns-4
+unfolding refusal
+returns-4 c = sym (tested (c .before .before) false false _ (c .before .if3 .left) (not-true _ (c .if4 .taken)) refl)
+
 returns-5 : tie.Need-returns-5
 unfolding refusal
-returns-5 c = rw (worded (c .before .before), ← c .before .is-blank .ensures, c .if5 .taken)
+returns-5 c = sym (tested (c .before .before .before) false true true (c .before .before .if3 .left) (not-false _ (c .before .if4 .left)) (c .if5 .taken))
 
 returns-6 : tie.Need-returns-6
 unfolding refusal
-returns-6 c = rw (worded (c .before .before), ← c .before .is-blank .ensures, c .if5 .left)
+returns-6 c = sym (tested (c .before .before .before) false true false (c .before .before .if3 .left) (not-false _ (c .before .if4 .left)) (c .if5 .left))
 
 pub write-number-spec : {M : Type 1} → statement M
 write-number-spec =
@@ -123,9 +122,9 @@ write-number-spec =
     returns-2
     cast-two-to
     two-to-requires
-    returns-3
     all-data-requires
-    returns-4
     is-blank-requires
+    returns-3
+    returns-4
     returns-5
     returns-6)
