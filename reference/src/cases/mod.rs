@@ -16,17 +16,15 @@ use random::Random;
 
 /// Commands, and the machine that has run them.
 pub struct Script {
-    count: u32,
-    input: Vec<u8>,
+    commands: Vec<Command>,
     machine: Machine,
     random: Random,
 }
 
 impl Script {
     fn push(&mut self, command: Command) {
-        self.count += 1;
-        self.input.extend(command.input());
         self.machine.step(&command);
+        self.commands.push(command);
     }
 
     fn set(&mut self, number: Number, value: u32) {
@@ -153,9 +151,8 @@ impl Script {
 
 fn script() -> Script {
     let mut script = Script {
-        count: 0,
-        input: Vec::new(),
-        machine: Machine::default(),
+        commands: Vec::new(),
+        machine: Machine::earlier(),
         random: Random::new(2014),
     };
     listings::add(&mut script);
@@ -166,13 +163,19 @@ fn script() -> Script {
     recoveries::add(&mut script);
     explanations::add(&mut script);
     tables::add(&mut script);
+    // The cases so far are older than number 11. They were drawn by the answers of a vault that took blank blocks, and stay as they were drawn; what has to be
+    // printed is what a vault of today answers to them. Those that follow are drawn by its answers.
+    script.machine = Machine::default();
+    for command in &script.commands {
+        script.machine.step(command);
+    }
     script
 }
 
 /// What the program reads, and what it has to print.
 pub fn cases() -> (Vec<u8>, String) {
     let script = script();
-    let mut input = script.count.to_le_bytes().to_vec();
-    input.extend(script.input);
+    let mut input = (script.commands.len() as u32).to_le_bytes().to_vec();
+    input.extend(script.commands.iter().flat_map(Command::input));
     (input, script.machine.printed)
 }
