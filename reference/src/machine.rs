@@ -23,7 +23,7 @@ pub struct Machine {
     /// The last call's number; a listing's is not kept.
     pub answered: u32,
     /// Writes are those of a vault of before number 11, which took blank blocks.
-    earlier: bool,
+    pub earlier: bool,
 }
 
 /// A random number made from the one before: 48271 generates the residues modulo the prime 2^31 - 1.

@@ -1,4 +1,6 @@
 //! Test cases for the calls of the vault: what the program `test_cases` reads, and what it has to print.
+mod blanks;
+mod earlier;
 mod explanations;
 mod faults;
 mod images;
@@ -93,7 +95,7 @@ impl Script {
         self.push(Command::Open);
     }
 
-    /// A write of any block to any record.
+    /// A write of any block to any record. A vault of today is given none that is blank.
     fn write(&mut self) {
         let header = self.machine.header();
         self.fill(Words::Block, 65536);
@@ -101,6 +103,10 @@ impl Script {
             let at = self.random.below(header.s.into()) as u32;
             let word = *self.random.one(&[0, 65535]);
             self.push(Command::Put(Words::Block, at, word));
+        }
+        let blank = self.machine.words(Words::Block).iter().all(|&x| x == 0);
+        if blank && !self.machine.earlier {
+            self.push(Command::Put(Words::Block, 0, 1));
         }
         let record = self.random.below(header.records() as u64) as u32;
         self.push(Command::Write(record));
@@ -169,6 +175,9 @@ fn script() -> Script {
     for command in &script.commands {
         script.machine.step(command);
     }
+    blanks::add(&mut script);
+    earlier::add(&mut script);
+    listings::add_blanks(&mut script);
     script
 }
 
