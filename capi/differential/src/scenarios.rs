@@ -71,14 +71,19 @@ fn words(random: &mut Random, count: usize) -> Vec<u32> {
     (0..count).map(&mut word).collect()
 }
 
-fn open(session: &mut Session) -> Run<Answer> {
-    let header = session.header();
-    let raw = data(&mut session.random, header.raw_len());
+/// An opening that is taken, at times of zero records.
+fn open(session: &mut Session) -> Run<()> {
+    let words = session.header().raw_len();
+    let raw = match session.random.below(8) {
+        0 => vec![0; words],
+        _ => data(&mut session.random, words),
+    };
     session.set(|side| {
         side.raw.set(&raw);
         side.header.c = 0;
     });
-    session.call(Call::Open)
+    let answer = session.call(Call::Open)?;
+    session.expect(answer.number == 0, "an opening was refused")
 }
 
 fn read(session: &mut Session) -> Run<Answer> {
@@ -488,15 +493,10 @@ fn refusals(session: &mut Session) -> Run<()> {
         broken_lists(session, call)?;
     }
     for call in [write, read] {
-        for record in no_records(n) {
-            refused(session, call, &[Fault::Record(record)], 4)?;
-        }
+        records_refused(session, call)?;
     }
     for call in [Call::Open, write] {
-        for word in NO_DATA {
-            let at = session.random.index(1 << 20);
-            refused(session, call, &[Fault::DataWord(at, word)], 5)?;
-        }
+        words_refused(session, call)?;
     }
     blank_refused(session, write)?;
     let empty = (0..k).filter(|&l| !header.filled(l));
@@ -516,6 +516,21 @@ fn no_records(n: u32) -> [u32; 6] {
 
 /// Words that are no data words.
 const NO_DATA: [u32; 5] = [65536, 65537, 131_072, 1 << 31, u32::MAX];
+
+fn records_refused(session: &mut Session, call: Call) -> Run<()> {
+    for record in no_records(session.header().records() as u32) {
+        refused(session, call, &[Fault::Record(record)], 4)?;
+    }
+    Ok(())
+}
+
+fn words_refused(session: &mut Session, call: Call) -> Run<()> {
+    for word in NO_DATA {
+        let at = session.random.index(1 << 20);
+        refused(session, call, &[Fault::DataWord(at, word)], 5)?;
+    }
+    Ok(())
+}
 
 /// A write of a blank block: 11, and with another fault the smaller number.
 fn blank_refused(session: &mut Session, write: Call) -> Run<()> {

@@ -71,7 +71,7 @@ fn one_word(script: &mut Script) {
     }
 }
 
-/// A blank block with a fault of a smaller number, which is given; and blocks of zeros but for one word that is no data word.
+/// A blank block with a fault of a smaller number, which is given.
 fn with_faults(script: &mut Script) {
     script.open(2, 1);
     script.write();
@@ -95,6 +95,10 @@ fn with_faults(script: &mut Script) {
         garbage: vec![],
     };
     faults::add(script, &call);
+}
+
+/// Blocks of zeros but for one word, which is no data word, or which stands behind the block.
+fn with_other_words(script: &mut Script) {
     script.open(2, 3);
     for at in 0..3 {
         for word in [65536, u32::MAX] {
@@ -104,7 +108,6 @@ fn with_faults(script: &mut Script) {
             script.push(Command::Write(4));
         }
     }
-    // The word behind the block does not count.
     script.lend(Words::Block, 4);
     script.fill(Words::Block, 1);
     script.push(Command::Put(Words::Block, 3, 1));
@@ -137,6 +140,7 @@ pub fn add(script: &mut Script) {
     in_other_buffers(script);
     one_word(script);
     with_faults(script);
+    with_other_words(script);
     zero_records(script);
     // Histories and buffers like those of older cases in which blank blocks stood between others: all of these are taken.
     for k in 2..=4 {
