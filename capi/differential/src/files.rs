@@ -46,8 +46,8 @@ struct History {
     writes: Vec<(u32, Vec<u32>)>,
 }
 
-/// Makes histories by both, that of reference/ as an earlier vault wrote it; has each store its image and an erasure list, and the other recover from these files
-/// and explain it. Gives how many files were read.
+/// Makes histories by both, that of reference/ as an earlier vault wrote it; has each store its image and an erasure list, and the other recover from these
+/// files and explain it. Gives how many files were read.
 pub fn exchange(seed: u64, small: bool) -> Result<usize, String> {
     let folder = Folder::new(seed)?;
     let mut random = Random::new(seed ^ 0xf11e);

@@ -343,8 +343,8 @@ fn losses(session: &mut Session) -> Run<()> {
     blank_round(session)
 }
 
-/// Ends a round with an earlier write of a blank block, and begins the next with one: the full stripe and a level hold zero records then. Large rounds have blank
-/// writes in any case.
+/// Ends a round with an earlier write of a blank block, and begins the next with one: the full stripe and a level hold zero records then. Large rounds have
+/// blank writes in any case.
 fn blank_round(session: &mut Session) -> Run<()> {
     let header = session.header();
     if header.k > 4 {

@@ -31,8 +31,8 @@ pub struct Tally {
     blank: [[u64; BLANK.len()]; 11],
 }
 
-/// What is met of blank blocks: writes that were refused 11, earlier writes that were taken, and recoveries of which a record is zeros that a write of the round
-/// left, as only an earlier one can.
+/// What is met of blank blocks: writes that were refused 11, earlier writes that were taken, and recoveries of which a record is zeros that a write of the
+/// round left, as only an earlier one can.
 const BLANK: [&str; 3] = ["refused", "earlier", "recover"];
 
 impl Tally {
@@ -80,7 +80,7 @@ impl Tally {
         add(&mut self.blank, &other.blank);
     }
 
-    /// What did not occur: each number of each call, each call taken and each thing of blank blocks at each k up to `most`, and each fault of recovery and of its
+    /// What did not occur: each number of each call, each call taken and each of `BLANK` at each k up to `most`, and each fault of recovery and of its
     /// explanation on a level and on the full stripe.
     pub fn missing(&self, most: usize) -> Vec<String> {
         let mut missing = Vec::new();

@@ -1,5 +1,5 @@
-//! The writes of a history (docs/FORMAT.md, section 11): those of today, which are taken or refused for a blank block, and those of an earlier vault, which took
-//! it.
+//! The writes of a history (docs/FORMAT.md, section 11): those of today, which are taken or refused for a blank block, and those of an earlier vault, which
+//! took it.
 use crate::by_reference;
 use crate::calls::Call;
 use crate::session::{Run, Session};

@@ -105,8 +105,8 @@ fn given(faults: &[u32]) -> u32 {
     vault.any_write(if has(4) { 4 } else { 3 }, &block)
 }
 
-/// The tests of a write, in the order of section 9: each alone, and each two. Their numbers are in the table of section 10. 5 and 11 never apply at once: of the
-/// two faults a block is left that is not blank.
+/// The tests of a write, in the order of section 9: each alone, and each two. Their numbers are in the table of section 10. 5 and 11 never apply at once: of
+/// the two faults a block is left that is not blank.
 #[test]
 fn sections_9_and_10_tests_of_a_write() {
     let lines = section("## 10 ");
