@@ -16,12 +16,18 @@ pub fn data(random: &mut Random, count: usize) -> Vec<u32> {
     (0..count).map(&mut word).collect()
 }
 
+/// Whether number 11 applies to a block of data words.
 pub fn is_blank(block: &[u32]) -> bool {
     block.iter().all(|&x| x == 0)
 }
 
-/// The same for the block of a write that is taken: a blank one is drawn again.
+/// The block of a write that is taken: data words, of which a blank block is drawn again; at times one word alone is not 0.
 pub fn block(random: &mut Random, count: usize) -> Vec<u32> {
+    if random.below(8) == 0 {
+        let mut block = vec![0; count];
+        block[random.index(count)] = *random.one(&[1, 256, 32768, 65535]);
+        return block;
+    }
     loop {
         let block = data(random, count);
         if !is_blank(&block) {
@@ -48,7 +54,7 @@ fn record(random: &mut Random, header: Header) -> u32 {
 }
 
 /// A write that is taken.
-pub fn write(session: &mut Session) -> Run<()> {
+fn write(session: &mut Session) -> Run<()> {
     let header = session.header();
     let block = block(&mut session.random, header.data());
     let record = record(&mut session.random, header);
