@@ -39,7 +39,8 @@ enum vault_number {
     VAULT_TOO_FEW = 7,   /* too few: fewer than half of the shelf's positions survive */
     VAULT_STRAY = 8,     /* stray: a surviving word is above 65536 */
     VAULT_DISCORD = 9,   /* discord: no list of blocks codes to all surviving words */
-    VAULT_NO_SHEET = 10  /* no sheet: the one list that does holds no records */
+    VAULT_NO_SHEET = 10, /* no sheet: the one list that does holds no records */
+    VAULT_BLANK = 11     /* blank: each data word of the block of a write is 0 */
 };
 
 /* What vault_recover and vault_explain leave in *shelf where they name none. */
@@ -63,7 +64,7 @@ enum vault_number {
  * Lengths: raw VAULT_RAW_WORDS, full VAULT_FULL_WORDS, log VAULT_LOG_WORDS.
  * Tests: 1 (k and s), 2 (raw, full, log), 5 (a word of raw).
  * After 0: full holds the coded records, log zeros. After any other number: full and log are as they were.
- * raw never changes: it is the raw copy that later calls take.
+ * raw never changes: it is the raw copy that later calls take. Records of zeros are taken like any others: VAULT_BLANK is in writing alone.
  */
 uint32_t vault_open(uint32_t k, uint32_t s,
                     const uint32_t *raw, size_t raw_len,
@@ -71,16 +72,19 @@ uint32_t vault_open(uint32_t k, uint32_t s,
                     uint32_t *log, size_t log_len);
 
 /*
- * Writing: replaces a record by a block of s data words.
+ * Writing: replaces a record by a block of s data words. A blank block, one whose words are all 0, is turned away: a press writes such blocks while its probe
+ * is unplugged. One word that is not 0, at any place, is enough for a block not to be blank.
  *
  * Lengths: raw VAULT_RAW_WORDS, full VAULT_FULL_WORDS, log VAULT_LOG_WORDS, block s.
- * Tests: 1 (k, s and *c), 2 (raw, full, log, block), 4, 5 (a word of the block).
+ * Tests: 1 (k, s and *c), 2 (raw, full, log, block), 4, 5 (a word of the block), 11 (the block).
  * After 0: the record in raw is the block, and
  * - if *c was below n - 1: the first empty level of the log is rebuilt from the levels below it and the block, those are zeros, the rest of the log and full
  *   are as they were, and *c is one more;
  * - if *c was n - 1: full is built anew from raw, log is zeros, and *c is 0.
- * After any other number: raw, full, log and *c are as they were.
+ * After any other number, 11 too: raw, full, log and *c are as they were.
  * Buffers that no opening made are allowed: words read from them count modulo 65537.
+ * Earlier versions of this library did not have 11, and took blank blocks. Their buffers and images are as good as today's: records of zeros there are read,
+ * decoded, recovered and explained as any others.
  */
 uint32_t vault_write(uint32_t k, uint32_t s, uint32_t *c,
                      uint32_t *raw, size_t raw_len,

@@ -35,7 +35,12 @@ impl Job {
         };
         let n = 1 << k;
         let raw = numbers(sizes::raw(k, s), 65536);
-        let writes = (0..n).map(|_| (numbers(1, n)[0], numbers(s as usize, 65536)));
+        let writes = (0..n).map(|_| {
+            let (record, mut block) = (numbers(1, n)[0], numbers(s as usize, 65536));
+            // A blank block would be refused.
+            block[0] = block[0].max(1);
+            (record, block)
+        });
         let mut job = Job {
             k,
             s,

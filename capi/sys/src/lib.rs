@@ -38,6 +38,8 @@ pub const VAULT_STRAY: u32 = 8;
 pub const VAULT_DISCORD: u32 = 9;
 /// No sheet: the one list that does holds no records.
 pub const VAULT_NO_SHEET: u32 = 10;
+/// Blank: each data word of the block of a write is 0.
+pub const VAULT_BLANK: u32 = 11;
 
 /// What [`vault_recover`] and [`vault_explain`] leave in `*shelf` where they name none.
 pub const VAULT_NO_SHELF: u32 = 0xffff_ffff;
@@ -48,7 +50,7 @@ extern "C" {
     /// Opening: builds the full shelf of the raw records and zeroes the log. The plate is then k, s, 0.
     ///
     /// Tests 1 (k and s), 2 (`raw`, `full`, `log`) and 5 (a word of `raw`). After 0, `full` holds the coded records and `log` zeros; after any other number
-    /// both are as they were.
+    /// both are as they were. Records of zeros are taken like any others: [`VAULT_BLANK`] is in writing alone.
     ///
     /// # Safety
     ///
@@ -61,11 +63,14 @@ extern "C" {
         log: *mut u32, log_len: usize,
     ) -> u32;
 
-    /// Writing: replaces a record by a block of s data words.
+    /// Writing: replaces a record by a block of s data words. A blank block, one whose words are all 0, is turned away: a press writes such blocks while its
+    /// probe is unplugged. One word that is not 0, at any place, is enough for a block not to be blank.
     ///
-    /// Tests 1 (k, s and `*c`), 2 (`raw`, `full`, `log`, `block`), 4 and 5 (a word of the block). After 0, the record in `raw` is the block, and either the
-    /// first empty level of `log` is rebuilt from those below it and `*c` is one more, or, where `*c` was n - 1, `full` is built anew from `raw`, `log` is
-    /// zeros and `*c` is 0. After any other number all of these are as they were. Words of buffers that no opening made count modulo 65537.
+    /// Tests 1 (k, s and `*c`), 2 (`raw`, `full`, `log`, `block`), 4, 5 (a word of the block) and 11 (the block). After 0, the record in `raw` is the block,
+    /// and either the first empty level of `log` is rebuilt from those below it and `*c` is one more, or, where `*c` was n - 1, `full` is built anew from
+    /// `raw`, `log` is zeros and `*c` is 0. After any other number, 11 too, all of these are as they were. Words of buffers that no opening made count
+    /// modulo 65537. Earlier versions of the library did not have 11, and took blank blocks: records of zeros in their buffers and images are read, decoded,
+    /// recovered and explained as any others.
     ///
     /// # Safety
     ///

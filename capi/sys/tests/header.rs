@@ -69,6 +69,6 @@ fn constants_are_the_header_s() {
         [')', ' '],
     ));
     let declared = constants(DECLARED, "pub const VAULT_", ": u32 = ", [';', ' ']);
-    assert_eq!(header.len(), 12);
+    assert_eq!(header.len(), 13);
     assert_eq!(header, declared);
 }

@@ -1,5 +1,6 @@
 //! The library's calls over slices. Each tests everything it is given, in the order of the table of refusals, and is proved to leave what the
-//! specification says: after refusals 1 to 6 all buffers are as they were, after 7 to 10 output and scratch are zeros, but for the counts of [`explain`].
+//! specification says: after refusals 1 to 6 and 11 all buffers are as they were, after 7 to 10 output and scratch are zeros, but for the counts of
+//! [`explain`].
 //!
 //! What `vault_sys` asks of a caller holds of every call here: a pointer and its count are those of one slice, which is aligned and valid, and what a call
 //! may change is borrowed for that call alone.
@@ -9,7 +10,7 @@ use vault_sys::{
     vault_write, VAULT_NO_SHELF,
 };
 
-/// Builds the full stripe of raw records and zeroes the log. Gives the header.
+/// Builds the full stripe of raw records, which may be zeros, and zeroes the log. Gives the header.
 pub fn open(
     k: u32,
     s: u32,
@@ -30,7 +31,8 @@ pub fn open(
     Refusal::test(number).map(|()| Header { k, s, c: 0 })
 }
 
-/// Replaces a record, and rebuilds the first empty level, or at the end of a round the full stripe.
+/// Replaces a record, and rebuilds the first empty level, or at the end of a round the full stripe. A block whose words are all 0 is refused
+/// ([`Refusal::Blank`]).
 pub fn write(
     header: &mut Header,
     raw: &mut [u32],

@@ -15,10 +15,11 @@ pub enum Refusal {
     OutOfField = vault_sys::VAULT_STRAY,
     Inconsistent = vault_sys::VAULT_DISCORD,
     NotARecord = vault_sys::VAULT_NO_SHEET,
+    Blank = vault_sys::VAULT_BLANK,
 }
 
 /// Each refusal, by rising number from 1, with the table's name and what it means.
-const TABLE: [(Refusal, &str, &str); 10] = [
+const TABLE: [(Refusal, &str, &str); 11] = [
     (
         Refusal::Header,
         "plate",
@@ -69,6 +70,11 @@ const TABLE: [(Refusal, &str, &str); 10] = [
         Refusal::NotARecord,
         "no sheet",
         "the surviving words fit together, but not as sheets of this vault",
+    ),
+    (
+        Refusal::Blank,
+        "blank",
+        "each data word of the sheet is 0, as when the press's probe is unplugged",
     ),
 ];
 

@@ -2,7 +2,7 @@
 use crate::{calls, sizes, Header, Refusal};
 
 /// An opened vault: its header, raw copy, full stripe and log.
-#[derive(Clone, Debug)]
+#[derive(Clone, Debug, PartialEq, Eq)]
 pub struct Vault {
     header: Header,
     raw: Vec<u32>,
@@ -11,7 +11,7 @@ pub struct Vault {
 }
 
 impl Vault {
-    /// A vault over raw records: 2^k times s words.
+    /// A vault over raw records: 2^k times s words, which may all be 0.
     pub fn open(k: u32, s: u32, raw: Vec<u32>) -> Result<Vault, Refusal> {
         let mut full = vec![0; sizes::full(k, s)];
         let mut log = vec![0; sizes::log(k, s)];
@@ -28,6 +28,8 @@ impl Vault {
         self.header
     }
 
+    /// Replaces a record by a block of s words. A blank block, one whose words are all 0, is refused ([`Refusal::Blank`]): a press whose probe is unplugged
+    /// writes such blocks. After a refusal the vault is as it was.
     pub fn write(&mut self, record: u32, block: &[u32]) -> Result<(), Refusal> {
         let Vault {
             header,

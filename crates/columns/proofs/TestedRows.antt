@@ -2,16 +2,17 @@
 -- records. Assumes nothing.
 use mathlib.Core.Path.{_≡_, refl, sym, ap, _∙_}
 use mathlib.Core.Bool.{Bool, true, false, _&&_, and-false, and-assoc}
-use mathlib.Core.List.{List, [], _∷_}
+use mathlib.Core.List.{List}
 use Prim.Native.Nat.{ℕ, zero, suc, _+_, _*_, _≤_, _<_, pred}
-use native.Mathlib.Nat.{zero-mul, zero-add, suc-add, mul-le-mul-right}
+use native.Mathlib.Nat.{zero-mul, zero-add, mul-le-mul-right}
 use native.Mathlib.Numerals.{add-one}
 use native.Mathlib.Decide.{decLt}
 use native.Mathlib.Omega.{arith}
 use lib.Dec.{eqb}
 use lib.ListN.{getD, take, drop}
-use lib.Seq.{take-nil, drop-drop}
-use Rattle.layout.specs.Records.{areData}
+use lib.Seq.{drop-drop}
+use Rattle.layout.specs.Records.{isData, areData}
+use Rattle.layout.proofs.EveryWord.{every-parts}
 use Rattle.columns.specs.steps.Ranges.{placesTo, dataTo, columnsFit}
 use Rattle.field.proofs.Booleans.{both-true, first-false, second-false}
 
@@ -81,17 +82,11 @@ pub data-tested : (w from count : ℕ) (r : List ℕ) → Tested (isDataRow w fr
 unfolding dataTo
 data-tested w from count r = record { none = refl; more = λ j. refl }
 
--- of two parts, and of two ranges of columns
-data-parts : (a b : ℕ) (l : List ℕ) → areData (take (a + b) l) ≡ (areData (take a l) && areData (take b (drop a l)))
-unfolding areData
-data-parts zero b l = rw zero-add
-data-parts (suc a) b [] = rw (take-nil (suc a + b), take-nil b)
-data-parts (suc a) b (x ∷ l) = rw (suc-add, data-parts a b l, and-assoc)
-
+-- of two ranges of columns
 data-ranges : (w from a b : ℕ) (r : List ℕ) (n : ℕ) → dataTo w from (a + b) r n ≡ (dataTo w from a r n && dataTo w (from + a) b r n)
 data-ranges w from a b r n =
     tested-same (data-tested w from (a + b) r) (tested-both (data-tested w from a r) (data-tested w (from + a) b r)) n
-    (λ j _. data-parts a b (drop (j * w + from) r)
+    (λ j _. every-parts isData a b (drop (j * w + from) r)
     ∙ rw (drop-drop a (j * w + from) r)
     (ap (λ (q : ℕ). areData (take a (drop (j * w + from) r)) && areData (take b (drop q r))) {x = j * w + from + a} {y = j * w + (from + a)} (omega arith)))
 

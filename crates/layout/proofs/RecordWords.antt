@@ -1,6 +1,6 @@
 -- Laws of specs/Records: data words, records replaced, and records that fit. Assumes nothing.
 use mathlib.Core.Path.{_≡_, refl, sym, ap, _∙_}
-use mathlib.Core.Bool.{true, false, _&&_, and-assoc}
+use mathlib.Core.Bool.{true, false}
 use mathlib.Core.Logic.{⊎-elim}
 use mathlib.Core.List.{List, [], _∷_, _++_, append-assoc}
 use Prim.Native.Nat.{ℕ, zero, suc, _+_, _*_, _≤_, _<_}
@@ -9,22 +9,23 @@ use native.Mathlib.Decide.{decLt}
 use native.Mathlib.Omega.{arith}
 use lib.Dec.{lit<}
 use lib.ListN.{length, take, drop, length-drop}
-use lib.Seq.{sets, sets-eq, length-take-le, take-add, take-all, take-at, drop-at}
+use lib.Seq.{sets, sets-eq, length-take-le, take-all, take-at, drop-at}
 use borrow.Author.Tests.{leb-true, le-leb}
 use Rattle.field.specs.Words.{Words}
 use Rattle.field.proofs.WordLists.{words-nil, words-cons, words-tail, words-take, part-inside, take-sets, drop-sets}
-use Rattle.layout.specs.Records.{isData, areData, recordIn, replaced, recordsFit}
+use Rattle.layout.specs.Records.{every, isData, areData, recordIn, replaced, recordsFit}
+use Rattle.layout.proofs.EveryWord.{every-parts}
 use Rattle.field.proofs.Booleans.{both-true, first-true, second-true, first-false, second-false}
 
 -- data words are words below 65536, and so words of the field
 pub data-words : (l : List ℕ) → areData l ≡ true → Words 65536 l
-unfolding areData
+unfolding every
 data-words [] e = words-nil 65536 (lit< tt)
 data-words (x ∷ l) e =
     words-cons 65536 (lit< tt) (omega (arith, leb-true x _ (first-true (isData x) (areData l) e))) (data-words l (second-true (isData x) (areData l) e))
 
 pub are-data : (l : List ℕ) → Words 65536 l → areData l ≡ true
-unfolding areData
+unfolding every
 are-data [] u = refl
 are-data (x ∷ l) u = both-true (le-leb x 65535 (omega (arith, u .word 0))) (are-data l (words-tail u))
 
@@ -65,12 +66,6 @@ module _ (s : ℕ) (r : List ℕ) (j : ℕ) (b : List ℕ) (long : length b ≡ 
           ∙ ap (λ (x : List ℕ). take s (drop (i * s) x)) (take-sets (j * s) r (j * s) b (le-refl (j * s))) ∙ part-inside (i * s) s (j * s) r e
       at (no h) = ap (take s) (drop-sets (i * s) r (j * s) b (omega (arith, record-end i s j (omega arith))))
 
--- data words of two lists
-data-append : (a b : List ℕ) → areData (a ++ b) ≡ (areData a && areData b)
-unfolding areData
-data-append [] b = refl
-data-append (x ∷ a) b = rw (data-append a b, and-assoc)
-
 -- RECORDS FIT: none of none, one after others
 pub fit-none : (s : ℕ) (r : List ℕ) → recordsFit s r 0 ≡ true
 unfolding recordsFit
@@ -91,14 +86,14 @@ unfit-one s r (suc n) i h e =
 
 -- they fit if all their words do
 fit-front : (s : ℕ) (r : List ℕ) (n : ℕ) → recordsFit s r n ≡ areData (take (n * s) r)
-unfolding recordsFit areData
+unfolding recordsFit every
 fit-front s r zero = sym (ap (λ (m : ℕ). areData (take m r)) (zero-mul s))
 fit-front s r (suc n) =
     let e : suc n * s ≡ n * s + s = omega arith in
-    rw (e, take-add (n * s) s r, data-append, fit-front s r n)
+    rw (e, every-parts isData (n * s) s r, fit-front s r n)
 
 pub fit-all : (s : ℕ) (r : List ℕ) (n : ℕ) → areData r ≡ true → recordsFit s r n ≡ true
 fit-all s r n e = fit-front s r n ∙ are-data (take (n * s) r) (words-take 65536 (lit< tt) (n * s) (data-words r e))
 
 pub records-data : (s : ℕ) (r : List ℕ) (n : ℕ) → length r ≡ n * s → recordsFit s r n ≡ areData r
-records-data s r n e = fit-front s r n ∙ ap areData (take-all (n * s) r (omega arith))
+records-data s r n e = fit-front s r n ∙ ap (every isData) (take-all (n * s) r (omega arith))

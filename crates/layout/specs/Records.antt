@@ -6,19 +6,25 @@ use lib.Dec.{leb, eqb}
 use lib.ListN.{take, drop}
 use lib.Seq.{sets}
 
+-- whether a test holds of each word
+unfoldable pub every : (ℕ → Bool) → List ℕ → Bool
+every f [] = true
+every f (x ∷ xs) = f x && every f xs
+
 -- a data word is 0 to 65535
 abbrev pub isData : ℕ → Bool
 isData x = leb x 65535
 
 -- whether these may be the data of one record. It is the only definition that says which data a record may hold
-unfoldable pub areData : List ℕ → Bool
-areData [] = true
-areData (x ∷ xs) = isData x && areData xs
+abbrev pub areData : List ℕ → Bool
+areData b = every isData b
 
--- whether a block is blank: each of its data words is 0
-unfoldable pub isBlank : List ℕ → Bool
-isBlank [] = true
-isBlank (x ∷ xs) = eqb x 0 && isBlank xs
+-- whether a block is blank: each of its data words is 0. A record may be, but today nobody writes such a block
+abbrev pub isZero : ℕ → Bool
+isZero x = eqb x 0
+
+abbrev pub isBlank : List ℕ → Bool
+isBlank b = every isZero b
 
 -- record i, and the raw records with another in its place
 abbrev pub recordIn : (s : ℕ) → (raw : List ℕ) → (i : ℕ) → List ℕ

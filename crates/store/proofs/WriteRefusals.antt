@@ -11,8 +11,8 @@ use Rattle.layout.specs.declared.Header.{Header}
 use Rattle.layout.specs.Header.{count, headerFits, rawSize, fullSize, logSize}
 use Rattle.layout.specs.Records.{areData}
 use Rattle.store.specs.Buffers.{buffers}
-use Rattle.layout.specs.Refusals.{Tests, done, test}
-use Rattle.store.specs.StoreCalls.{buffersFit, writeNumber}
+use Rattle.layout.specs.Refusals.{Tests, test, refusal}
+use Rattle.store.specs.StoreCalls.{buffersFit, writeTests}
 use Rattle.store.proofs.BufferRefusals.{lengths}
 use Rattle.field.proofs.Booleans.{first-true, second-true}
 use Rattle.layout.proofs.Refusals.{passes}
@@ -27,14 +27,15 @@ module _ (h : Header) (r f g : List ℕ) (i : ℕ) (b : List ℕ) where
     pub within : i < count h
     pub words : areData b ≡ true
 
-  pub write-taken : writeNumber h (buffers r f g) i b ≡ 0 → WriteTaken
-  write-taken e =
+  -- whatever tests follow
+  pub write-taken : (more : Tests) → refusal (writeTests h (buffers r f g) i b more) ≡ 0 → WriteTaken
+  write-taken more e =
       let u = buffers r f g in
       let sized = buffersFit h u && eqb (length b) (h .s) in
-      let last : Tests = test (ltb i (count h)) 4 (test (areData b) 5 done) in
+      let last : Tests = test (ltb i (count h)) 4 (test (areData b) 5 more) in
       let one = passes (headerFits h) 1 (test sized 2 last) e (omega arith) in
       let two = passes sized 2 last (one .1) (omega arith) in
-      let four = passes (ltb i (count h)) 4 (test (areData b) 5 done) (two .1) (omega arith) in
+      let four = passes (ltb i (count h)) 4 (test (areData b) 5 more) (two .1) (omega arith) in
       let t = lengths h u (first-true (buffersFit h u) (eqb (length b) (h .s)) (two .0)) in
       record {
         fitting = one .0;
@@ -43,5 +44,5 @@ module _ (h : Header) (r f g : List ℕ) (i : ℕ) (b : List ℕ) where
         log-long = t .2;
         block-long = eqb-true (length b) (h .s) (second-true (buffersFit h u) (eqb (length b) (h .s)) (two .0));
         within = ltb-true i (count h) (four .0);
-        words = passes (areData b) 5 done (four .1) (omega arith) .0;
+        words = passes (areData b) 5 more (four .1) (omega arith) .0;
       }

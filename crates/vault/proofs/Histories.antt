@@ -1,7 +1,7 @@
 -- EVERY HISTORY keeps one invariant: header and buffers are those of the round, which is good, and the model is the round's.
 -- From it promises 1 and 2 of specs/Promises. Assumes nothing.
 use mathlib.Core.Path.{_≡_, refl, sym, ap, ap₂, _∙_, subst₂, subst₃}
-use mathlib.Core.Bool.{Bool, true, false, _&&_}
+use mathlib.Core.Bool.{Bool, true, false, _&&_, not}
 use mathlib.Core.List.{List, [], _∷_, _++_}
 use Prim.Native.Nat.{ℕ, suc, _*_, _-_, _%_, _^_, _<_}
 use native.Mathlib.Nat.{zero-div}
@@ -12,19 +12,19 @@ use lib.Pow.{pow-pos}
 use borrow.Author.Tests.{eqb-true, eqb-false, eq-eqb, ltb-true}
 use Rattle.layout.specs.declared.Header.{Header}
 use Rattle.layout.specs.Header.{headerOf, rawSize, fullSize, logSize, levelFor}
-use Rattle.layout.specs.Records.{areData, replaced}
+use Rattle.layout.specs.Records.{every, areData, isBlank, replaced}
 use Rattle.store.specs.Buffers.{fullStripe, Buffers, buffers, opened}
 use Rattle.store.specs.Writing.{nextHeader, logWith, written}
-use Rattle.layout.specs.Refusals.{done, test, refusal, ifTaken}
-use Rattle.store.specs.StoreCalls.{buffersFit, writeNumber}
-use Rattle.vault.specs.Event.{Entry, Opening, Event, write}
+use Rattle.layout.specs.Refusals.{Tests, done, test, refusal, ifTaken}
+use Rattle.store.specs.StoreCalls.{buffersFit, writeTests, numbered, leaving, writeNumber, earlierNumber}
+use Rattle.vault.specs.Event.{Entry, Opening, Event, write, earlier}
 use Rattle.vault.specs.History.{Vault, vault, numberOn, step, after, Opens, openedVault, vaultAfter}
-use Rattle.vault.specs.Model.{Model, writes, wordsFit, tableNumber, put, fed, fedAll, openedModel, modelOf}
+use Rattle.vault.specs.Model.{Model, writes, wordsFit, wordsZero, judged, tableNumber, put, fed, fedAll, openedModel, modelOf}
 use Rattle.vault.specs.Round.{Round, putAll, beforeEach, recordsIn, modelIn, startOf, grown, turnRound, roundAfter, openedRound, roundOf}
 use Rattle.vault.specs.Round.{roundHeader, represent}
 use Rattle.vault.specs.Promises.{HeaderIs, SizesStay, RecordsLong, NumbersAre, WordsAre, RawIs, ModelIs, BeforeIs}
 use Rattle.field.proofs.Booleans.{choose, chosen-first, chosen-second}
-use Rattle.layout.proofs.Refusals.{passes}
+use Rattle.layout.proofs.Refusals.{passes, none-fails}
 use Rattle.layout.proofs.RecordWords.{data-words, replaced-is, record-end}
 use Rattle.store.proofs.OpenRefusals.{open-taken, open-data}
 use Rattle.store.proofs.StoredRecords.{length-full}
@@ -44,9 +44,22 @@ along p q r t = subst₃ (λ (a : Round) (v : Vault) (m : Model). Represents a v
 
 -- a block's words are judged alike by the call and by the table
 pub data-fit : (b : List ℕ) → areData b ≡ wordsFit b
-unfolding areData wordsFit
+unfolding every wordsFit
 data-fit [] = refl
 data-fit (x ∷ b) = rw (data-fit b)
+
+pub blank-zero : (b : List ℕ) → isBlank b ≡ wordsZero b
+unfolding every wordsZero
+blank-zero [] = refl
+blank-zero (x ∷ b) = rw (blank-zero b)
+
+blank-number : (b : List ℕ) → refusal (test (not (isBlank b)) 11 done) ≡ elim (wordsZero b) [ true ↦ 11 | false ↦ 0 ]
+unfolding refusal
+blank-number b = ap (λ (z : Bool). refusal (test (not z) 11 done)) (blank-zero b) ∙ go (wordsZero b)
+  where
+    go : (z : Bool) → refusal (test (not z) 11 done) ≡ elim z [ true ↦ 11 | false ↦ 0 ]
+    go true = refl
+    go false = refl
 
 -- THE START OF A ROUND: no writes since, and a log of zeros
 pub start : (k s : ℕ) (r : List ℕ) → represent (startOf k s r) ≡ opened (headerOf k s 0) r
@@ -78,7 +91,7 @@ module _ (o : Opening) (opens : Opens o) where
     model-is = refl;
   }
 
--- A WRITE on a good round
+-- A WRITE on a good round, today's or an earlier one
 module _ (a : Round) (good : Good a) (i : ℕ) (b : List ℕ) where
   abbrev h : Header
   h = roundHeader a
@@ -96,12 +109,12 @@ module _ (a : Round) (good : Good a) (i : ℕ) (b : List ℕ) where
   abbrev model : (records : List ℕ) → (before : List (List ℕ)) → (last : Bool) → Model
   model r c z = record { k = a .k; s = a .s; records = r; written = choose z [] now; before = choose z [] c }
 
-  -- its number is the table's
-  pub number-is : writeNumber h u i b ≡ tableNumber (modelIn a) (write i b)
+  -- its number is the table's, whatever is tested after 5
+  number-is : (rest : Tests) → refusal (writeTests h u i b rest) ≡ judged (modelIn a) i b (refusal rest)
   unfolding refusal
-  number-is =
-      ap₂ (λ (p q : Bool). refusal (test p 1 (test q 2 (test (ltb i (2 ^ a .k)) 4 (test (areData b) 5 done))))) (header-fits good) sizes
-      ∙ ap (λ (z : Bool). refusal (test (eqb (length b) (a .s)) 2 (test (ltb i (2 ^ a .k)) 4 (test z 5 done)))) (data-fit b)
+  number-is rest =
+      ap₂ (λ (p q : Bool). refusal (test p 1 (test q 2 (test (ltb i (2 ^ a .k)) 4 (test (areData b) 5 rest))))) (header-fits good) sizes
+      ∙ ap (λ (z : Bool). refusal (test (eqb (length b) (a .s)) 2 (test (ltb i (2 ^ a .k)) 4 (test z 5 rest)))) (data-fit b)
     where
       sizes : (buffersFit h u && eqb (length b) (a .s)) ≡ eqb (length b) (a .s)
       sizes =
@@ -111,15 +124,22 @@ module _ (a : Round) (good : Good a) (i : ℕ) (b : List ℕ) where
             eq-eqb (length (u .log)) (logSize h) (length-log h (a .since) (a .k)),
           )
 
-  pub taken-is : tableNumber (modelIn a) (write i b) ≡ 0 → Taken (a .k) (a .s) x
+  write-number : writeNumber h u i b ≡ tableNumber (modelIn a) (write i b)
+  write-number = number-is (test (not (isBlank b)) 11 done) ∙ ap (judged (modelIn a) i b) (blank-number b)
+
+  earlier-number : earlierNumber h u i b ≡ tableNumber (modelIn a) (earlier i b)
+  earlier-number = number-is done ∙ ap (judged (modelIn a) i b) none-fails
+
+  taken-is : (n : ℕ) → judged (modelIn a) i b n ≡ 0 → Taken (a .k) (a .s) x
   unfolding refusal
-  taken-is e =
-      let t₁ = passes (eqb (length b) (a .s)) 2 (test (ltb i (2 ^ a .k)) 4 (test (wordsFit b) 5 done)) e (omega arith) in
-      let t₂ = passes (ltb i (2 ^ a .k)) 4 (test (wordsFit b) 5 done) (t₁ .1) (omega arith) in
+  taken-is n e =
+      let rest : Tests = test false n done in
+      let t₁ = passes (eqb (length b) (a .s)) 2 (test (ltb i (2 ^ a .k)) 4 (test (wordsFit b) 5 rest)) e (omega arith) in
+      let t₂ = passes (ltb i (2 ^ a .k)) 4 (test (wordsFit b) 5 rest) (t₁ .1) (omega arith) in
       record {
         within = ltb-true i (2 ^ a .k) (t₂ .0);
         long = eqb-true (length b) (a .s) (t₁ .0);
-        words = data-words b (data-fit b ∙ passes (wordsFit b) 5 done (t₂ .1) (omega arith) .0);
+        words = data-words b (data-fit b ∙ passes (wordsFit b) 5 rest (t₂ .1) (omega arith) .0);
       }
 
   -- a write that is taken
@@ -209,32 +229,43 @@ module _ (a : Round) (good : Good a) (i : ℕ) (b : List ℕ) where
         go true e = last-represents e
         go false e = next-represents e
 
-  -- ONE EVENT
-  turn-from : Represents (turnRound a (write i b)) (step (vault h u) (write i b)) (fed (modelIn a) (write i b))
-  turn-from = go judged refl
-    where
-      judged : Bool
-      judged = eqb (tableNumber (modelIn a) (write i b)) 0
+  -- it enters the block if the number that the call gave, which is the table's, is 0
+  module _ {given said : ℕ} (same : given ≡ said) (t : said ≡ 0 → Taken (a .k) (a .s) (record { number = i; block = b })) where
+    abbrev judged-zero : Bool
+    judged-zero = eqb said 0
 
-      called : eqb (writeNumber h u i b) 0 ≡ judged
-      called = ap (λ (n : ℕ). eqb n 0) number-is
+    abbrev Turned : Type 0
+    Turned =
+        Represents (choose judged-zero (grown a x) a) (vault (numbered given h .header) (leaving given h u i b)) (choose judged-zero (put (modelIn a) i b) (modelIn a))
 
-      go : (z : Bool) → judged ≡ z → Represents (turnRound a (write i b)) (step (vault h u) (write i b)) (fed (modelIn a) (write i b))
-      go true e =
-          along (chosen-first judged (grown a x) a e)
-          (ap₂ vault (chosen-first (eqb (writeNumber h u i b) 0) (nextHeader h) h (called ∙ e))
-          (chosen-first (eqb (writeNumber h u i b) 0) (written h u i b) u (called ∙ e)))
-          (chosen-first judged (put (modelIn a) i b) (modelIn a) e) (grown-represents (taken-is (eqb-true (tableNumber (modelIn a) (write i b)) 0 e)))
-      go false e =
-          along (chosen-second judged (grown a x) a e)
-          (ap₂ vault (chosen-second (eqb (writeNumber h u i b) 0) (nextHeader h) h (called ∙ e))
-          (chosen-second (eqb (writeNumber h u i b) 0) (written h u i b) u (called ∙ e)))
-          (chosen-second judged (put (modelIn a) i b) (modelIn a) e) (record { good = good; vault-is = refl; model-is = refl })
+    turned : Turned
+    turned = go judged-zero refl
+      where
+        called : eqb given 0 ≡ judged-zero
+        called = ap (λ (n : ℕ). eqb n 0) same
+
+        go : (z : Bool) → judged-zero ≡ z → Turned
+        go true e =
+            along (chosen-first judged-zero (grown a x) a e)
+            (ap₂ vault (chosen-first (eqb given 0) (nextHeader h) h (called ∙ e)) (chosen-first (eqb given 0) (written h u i b) u (called ∙ e)))
+            (chosen-first judged-zero (put (modelIn a) i b) (modelIn a) e) (grown-represents (t (eqb-true said 0 e)))
+        go false e =
+            along (chosen-second judged-zero (grown a x) a e)
+            (ap₂ vault (chosen-second (eqb given 0) (nextHeader h) h (called ∙ e)) (chosen-second (eqb given 0) (written h u i b) u (called ∙ e)))
+            (chosen-second judged-zero (put (modelIn a) i b) (modelIn a) e) (record { good = good; vault-is = refl; model-is = refl })
+
+-- ONE EVENT on a good round: its number is the table's, and what it leaves represents the round that it leaves
+number-on : (a : Round) → Good a → (e : Event) → numberOn (vault (roundHeader a) (represent a)) e ≡ tableNumber (modelIn a) e
+number-on a good (write i b) = write-number a good i b
+number-on a good (earlier i b) = earlier-number a good i b
+
+turn-from : (a : Round) → Good a → (e : Event) → Represents (turnRound a e) (step (vault (roundHeader a) (represent a)) e) (fed (modelIn a) e)
+turn-from a good (write i b) = turned a good i b (write-number a good i b) (taken-is a good i b (elim (wordsZero b) [ true ↦ 11 | false ↦ 0 ]))
+turn-from a good (earlier i b) = turned a good i b (earlier-number a good i b) (taken-is a good i b 0)
 
 pub turn-represents : (a : Round) (v : Vault) (m : Model) (e : Event) → Represents a v m → Represents (turnRound a e) (step v e) (fed m e)
-turn-represents a v m (write i b) t =
-    subst₂ (λ (v : Vault) (m : Model). Represents (turnRound a (write i b)) (step v (write i b)) (fed m (write i b))) (sym (t .vault-is)) (sym (t .model-is))
-    (turn-from a (t .good) i b)
+turn-represents a v m e t =
+    subst₂ (λ (v : Vault) (m : Model). Represents (turnRound a e) (step v e) (fed m e)) (sym (t .vault-is)) (sym (t .model-is)) (turn-from a (t .good) e)
 
 -- ALL EVENTS
 pub represents-after : (a : Round) (v : Vault) (m : Model) (es : List Event) → Represents a v m → Represents (roundAfter a es) (after v es) (fedAll m es)
@@ -246,12 +277,13 @@ pub histories : (o : Opening) (es : List Event) → Opens o → Represents (roun
 histories o es O = represents-after (openedRound o) (openedVault o) (openedModel o) es (open-represents o O)
 
 -- k and s stay the opening's, in the model and in the round
+put-same : (m : Model) (i : ℕ) (b : List ℕ) (z : Bool) → (choose z (put m i b) m .k ≡ m .k) × (choose z (put m i b) m .s ≡ m .s)
+put-same m i b true = (refl, refl)
+put-same m i b false = (refl, refl)
+
 fed-same : (m : Model) (e : Event) → (fed m e .k ≡ m .k) × (fed m e .s ≡ m .s)
-fed-same m (write i b) = go (eqb (tableNumber m (write i b)) 0)
-  where
-    go : (z : Bool) → (choose z (put m i b) m .k ≡ m .k) × (choose z (put m i b) m .s ≡ m .s)
-    go true = (refl, refl)
-    go false = (refl, refl)
+fed-same m (write i b) = put-same m i b (eqb (tableNumber m (write i b)) 0)
+fed-same m (earlier i b) = put-same m i b (eqb (tableNumber m (earlier i b)) 0)
 
 fed-all-same : (m : Model) (es : List Event) → (fedAll m es .k ≡ m .k) × (fedAll m es .s ≡ m .s)
 unfolding fedAll
@@ -287,10 +319,9 @@ recordsLong o es O =
     ap (λ (m : Model). length (m .records)) (t .model-is) ∙ records-long (t .good) ∙ ap₂ (λ (k s : ℕ). 2 ^ k * s) (same .0) (same .1)
 
 pub numbersAre : NumbersAre
-numbersAre o es (write i b) O =
+numbersAre o es e O =
     let t = histories o es O in
-    ap (λ (v : Vault). numberOn v (write i b)) (t .vault-is) ∙ number-is (roundOf o es) (t .good) i b
-    ∙ ap (λ (m : Model). tableNumber m (write i b)) (sym (t .model-is))
+    ap (λ (v : Vault). numberOn v e) (t .vault-is) ∙ number-on (roundOf o es) (t .good) e ∙ ap (λ (m : Model). tableNumber m e) (sym (t .model-is))
 
 pub wordsAre : WordsAre
 wordsAre o es O = ap (λ (v : Vault). v .held) (histories o es O .vault-is)

@@ -1,3 +1,4 @@
+pub mod Blanks
 pub mod Boundary
 pub mod Demand3
 pub mod ExplainedRounds

@@ -8,6 +8,7 @@ use Rattle.vault.proofs.Explaining.{agrees, countsAre, countsSharp, exp
 use Rattle.vault.proofs.ExplainedRounds.{explainsWhy}
 use Rattle.vault.proofs.LastWrites.{lastIsRecord, elseAtStart}
 use Rattle.vault.proofs.Origins.{originsTrue, oneOrigin}
+use Rattle.vault.proofs.Blanks.{givesEleven, elseAsEarlier, refusedStays, zerosOpen, blankRefused, blankKept}
 use Rattle.vault.proofs.Boundary.{partIs, noneNamed, noneExplained}
 use Rattle.vault.proofs.Worked.{worked}
 
@@ -47,6 +48,12 @@ proved = record {
   one-origin = oneOrigin;
   last-is-record = lastIsRecord;
   else-at-start = elseAtStart;
+  gives-eleven = givesEleven;
+  else-as-earlier = elseAsEarlier;
+  refused-stays = refusedStays;
+  zeros-open = zerosOpen;
+  blank-refused = blankRefused;
+  blank-kept = blankKept;
   part-is = partIs;
   none-named = noneNamed;
   none-explained = noneExplained;

@@ -9,7 +9,7 @@ use Rattle.code.specs.Transform.{sumAt, differenceAt, mixed, transform, scaled,
 use Rattle.code.specs.Rows.{column, columnsFrom, rowOf, rowsFrom, lifted}
 use Rattle.code.specs.Stripe.{coded, codedRows}
 use Rattle.decoder.specs.Decoding.{survivorsFrom, pointAt, valueAt, decodedColumn, agrees, consistentColumn, consistentTo, decodedRows}
-use Rattle.layout.specs.Records.{areData, recordsFit}
+use Rattle.layout.specs.Records.{every, recordsFit}
 use Rattle.store.specs.Buffers.{reduced, blocksFrom}
 use Rattle.layout.specs.Header.{firstEmpty}
 use Rattle.store.specs.Writing.{rebuiltHalf}
@@ -22,14 +22,14 @@ use Rattle.recovery.specs.Recovery.{levelsOver}
 use Rattle.explanation.specs.Counts.{left, shortfall}
 use Rattle.layout.specs.Refusals.{refusal}
 use Rattle.vault.specs.History.{after}
-use Rattle.vault.specs.Model.{wordsFit, fedAll}
+use Rattle.vault.specs.Model.{wordsFit, wordsZero, fedAll}
 use Rattle.vault.specs.Worked.{Holds, examples}
 
 pub worked : Holds examples
 unfolding plus minus times powerFrom power inverse lift slopes interpolate rootOf Words.table sumAt differenceAt mixed transform scaled reversed turned column
     columnsFrom
-    rowOf rowsFrom lifted coded codedRows survivorsFrom pointAt valueAt bitReversed decodedColumn agrees consistentColumn consistentTo decodedRows areData
+    rowOf rowsFrom lifted coded codedRows survivorsFrom pointAt valueAt bitReversed decodedColumn agrees consistentColumn consistentTo decodedRows every
     recordsFit reduced
     blocksFrom firstEmpty rebuiltHalf little bytesOf numberOf erasuresFrom erasuresRise touched flagsFrom markAt survivingAt areBelow areRecords laid levelsOver
-    refusal after wordsFit fedAll pairsTo left shortfall originsLaid
-worked = (is, (is, (is, (is, (is, (is, (is, (is, (is, (is, (is, (is, (is, (is, (is, (is, (is, (is, (is, (is, tt))))))))))))))))))))
+    refusal after wordsFit wordsZero fedAll pairsTo left shortfall originsLaid
+worked = (is, (is, (is, (is, (is, (is, (is, (is, (is, (is, (is, (is, (is, (is, (is, (is, (is, (is, (is, (is, (is, (is, (is, (is, (is, tt)))))))))))))))))))))))))

@@ -17,11 +17,13 @@
 -- LETTERS
 --   o, o′     an opening: k, s, the raw records, and the buffers `full` and `log` that it is lent
 --   es, es′   the events after it; `next` one more
+--   v         a vault: any header and any buffers
 --   k, s, c   the header's numbers: n = 2^k records of s words, and c writes since the full stripe was last built
 --   h         a header (docs/FORMAT.md, section 1)
 --   l         a stripe (shelf): a level below k, or k for the full stripe; it has 2^l blocks and 2^(l+1) positions
 --   i, j      a position of a stripe, and a word of its 1 + s; in `BeforeIs` i is an entry of `before`; from `Origin` on i is a record's number;
 --             in `FirstShort` j is a stripe
+--   b         the block of a write: its data words, without the number
 --   m         an image, as bytes
 --   e         an erasure list (gap list), as bytes
 --   bs, cs    blocks of 1 + s words, a record's number and its data, one block after the other
@@ -34,12 +36,15 @@
 --   out, counts, origins, scratch   the buffers that a call is lent; they may hold anything
 --
 -- FROM THIS CRATE
---   specs/Event    Opening, Event: what a history is made of. A write's entry has a `number` and a `block`
+--   specs/Event    Opening, Event: what a history is made of. An event is `write i b` or `earlier i b`: the block b for record i, written by today's table of
+--                  refusals, or by an earlier vault, whose table had no 11. What is said of all events es is said of both kinds, in any order and number. A
+--                  write's entry has a `number` and a `block`
 --   specs/History  Opens o: the call takes the opening, that is, gives 0. vaultAfter o es: header and buffers as the calls leave them; headerAfter, imageAfter:
---                  its header and its image. numberOn v next: the number that the call gives to an event
+--                  its header and its image. numberOn v next: the number that the call gives to an event; to an earlier write, the call as it was. step v next:
+--                  header and buffers as that call leaves them
 --   specs/Model    modelOf o es: what the model (record book) says, from k, s, the opened records and the events alone. writes: its count. tableNumber: the
---                  table's number. writtenAt x t: the entry of write t of the round. LastWrite x i t: write t is the last of the round to record i.
---                  NoWrite x i: the round has none to it
+--                  table's number: a write's by today's table, an earlier one's by the table without 11. writtenAt x t: the entry of write t of the round.
+--                  LastWrite x i t: write t is the last of the round to record i. NoWrite x i: the round has none to it
 --   specs/Round    roundOf o es: the round that a history ends in. represent a: the buffers' words as docs/FORMAT.md fixes them (sections 3 to 5). modelIn a:
 --                  the model of a round. putAll s r xs: the records r with the writes xs put in. levelEntries h xs l: the writes that level l holds. rowsOf xs:
 --                  writes as blocks
@@ -71,12 +76,12 @@
 use mathlib.Core.Path.{_≡_}
 use mathlib.Core.Bool.{Bool, true, false}
 use mathlib.Core.Logic.{_⊎_, _↔_}
-use mathlib.Core.List.{List, [], _++_}
+use mathlib.Core.List.{List, [], _∷_, _++_}
 use Prim.Native.Nat.{ℕ, suc, _+_, _*_, _-_, _^_, _≤_, _<_}
 use lib.ListN.{length, getD, take, replicate}
 use Rattle.decoder.specs.Decoding.{survivors}
 use Rattle.layout.specs.declared.Header.{Header}
-use Rattle.layout.specs.Header.{headerOf, width, headerFits, rawSize, outSize, scratchSize, imageSize, isFull, isFilled, firstOf}
+use Rattle.layout.specs.Header.{headerOf, width, headerFits, rawSize, fullSize, logSize, outSize, scratchSize, imageSize, isFull, isFilled, firstOf}
 use Rattle.layout.specs.Header.{stripeAt, stripeSize, stripeOf}
 use Rattle.layout.specs.Records.{recordIn}
 use Rattle.store.specs.Buffers.{blocksOf}
@@ -92,9 +97,9 @@ use Rattle.recovery.specs.Origins.{originsSize}
 use Rattle.recovery.specs.RecoveryCall.{recoverAnswer, recoverLeaves, recoverScratch, unnamed, atFault}
 use Rattle.explanation.specs.Counts.{countsSize}
 use Rattle.explanation.specs.ExplainCall.{explainEarly, explainAnswer, explainCounts, explainOrigins, explainScratch}
-use Rattle.vault.specs.Event.{Opening, Event}
+use Rattle.vault.specs.Event.{Opening, Event, write, earlier}
 use Rattle.vault.specs.Model.{Model, writes, tableNumber, modelOf, writtenAt, LastWrite, NoWrite}
-use Rattle.vault.specs.History.{numberOn, Opens, vaultAfter, headerAfter, imageAfter}
+use Rattle.vault.specs.History.{Vault, numberOn, step, Opens, vaultAfter, headerAfter, imageAfter}
 use Rattle.vault.specs.Round.{putAll, rowsOf, modelIn, roundOf, levelEntries, represent}
 use Rattle.vault.specs.Boundary.{PartIs, NoneNamed, NoneExplained}
 use Rattle.vault.specs.Worked.{Holds, examples}
@@ -385,6 +390,47 @@ ElseAtStart =
     (o : Opening) (es : List Event) (i : ℕ) → Opens o → NoWrite (modelOf o es) i →
     recordIn (o .s) (modelOf o es .records) i ≡ recordIn (o .s) (roundOf o es .base) i
 
+-- 6. BLANK BLOCKS. A block is blank if its words are all 0
+abbrev pub Blank : (block : List ℕ) → Type 0
+Blank b = b ≡ replicate (length b) 0
+
+-- with any header and any buffers: a write gives 11 if and only if the same write, made earlier, would be taken, and its block is blank
+abbrev pub GivesEleven : Type 0
+GivesEleven = (v : Vault) (i : ℕ) (b : List ℕ) → (numberOn v (write i b) ≡ 11) ↔ ((numberOn v (earlier i b) ≡ 0) × Blank b)
+
+-- with any other number, it is the earlier write: the same number, and the same header and buffers are left
+abbrev pub ElseAsEarlier : Type 0
+ElseAsEarlier =
+    (v : Vault) (i : ℕ) (b : List ℕ) → (numberOn v (write i b) ≡ 11 → ⊥) →
+    (numberOn v (write i b) ≡ numberOn v (earlier i b)) × (step v (write i b) ≡ step v (earlier i b))
+
+-- an event that is refused, by any number, leaves the header and all buffers as they are
+abbrev pub RefusedStays : Type 0
+RefusedStays = (v : Vault) (next : Event) → (numberOn v next ≡ 0 → ⊥) → step v next ≡ v
+
+-- opening takes zero records, for every k and s
+abbrev pub ZerosOpen : Type 0
+ZerosOpen =
+    (k s : ℕ) (full log : List ℕ) →
+    let h = headerOf k s 0 in
+    headerFits h ≡ true → length full ≡ fullSize h → length log ≡ logSize h →
+    Opens (record { k = k; s = s; raw = replicate (rawSize h) 0; full = full; log = log })
+
+-- after any history, and of any record: a write of a blank block gives 11, and a history with it ends as without it
+abbrev pub BlankRefused : Type 0
+BlankRefused =
+    (o : Opening) (es : List Event) (i : ℕ) → Opens o → i < 2 ^ o .k →
+    let next = write i (replicate (o .s) 0) in
+    (numberOn (vaultAfter o es) next ≡ 11) × (vaultAfter o (es ++ (next ∷ [])) ≡ vaultAfter o es) × (modelOf o (es ++ (next ∷ [])) ≡ modelOf o es)
+
+-- and an earlier one is taken, by the model too: the record is zeros then
+abbrev pub BlankKept : Type 0
+BlankKept =
+    (o : Opening) (es : List Event) (i : ℕ) → Opens o → i < 2 ^ o .k →
+    let next = earlier i (replicate (o .s) 0) in
+    (numberOn (vaultAfter o es) next ≡ 0) × (tableNumber (modelOf o es) next ≡ 0) ×
+    (recordIn (o .s) (modelOf o (es ++ (next ∷ [])) .records) i ≡ replicate (o .s) 0)
+
 -- ALL OF THEM; the last are those of the C boundary (specs/Boundary), and the worked examples (specs/Worked)
 pub record Promises : Type 0 where
   pub header-is : HeaderIs
@@ -421,6 +467,12 @@ pub record Promises : Type 0 where
   pub one-origin : OneOrigin
   pub last-is-record : LastIsRecord
   pub else-at-start : ElseAtStart
+  pub gives-eleven : GivesEleven
+  pub else-as-earlier : ElseAsEarlier
+  pub refused-stays : RefusedStays
+  pub zeros-open : ZerosOpen
+  pub blank-refused : BlankRefused
+  pub blank-kept : BlankKept
   pub part-is : PartIs
   pub none-named : NoneNamed
   pub none-explained : NoneExplained

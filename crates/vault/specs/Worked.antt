@@ -14,7 +14,7 @@ use Rattle.image.specs.Image.{little, imageOf}
 use Rattle.stripe.specs.StripeCall.{decodeNumber, decodeLeaves, decodeScratch}
 use Rattle.recovery.specs.RecoveryCall.{recoverAnswer, recoverLeaves}
 use Rattle.explanation.specs.ExplainCall.{explainAnswer, explainCounts, explainOrigins}
-use Rattle.vault.specs.Event.{Opening, Event, write}
+use Rattle.vault.specs.Event.{Opening, Event, write, earlier}
 use Rattle.vault.specs.Model.{modelOf}
 use Rattle.vault.specs.History.{Vault, imageLeft, numberOn, after, openedVault}
 
@@ -88,8 +88,13 @@ goingBack es =
     let m = modelOf zeroRecords es in
     m .records ++ (getD (m .before) 0 [] ++ getD (m .before) 1 [])
 
--- P1 to P12 in order; P7, P8, P9 and P12 have two entries each. The last four have no number: the model goes back, and a round's end is as far as it goes; and
--- explaining says where each record is, and how many positions a stripe lacks
+-- a record is written, and another; an earlier write makes the first one blank, and a write that would make the second one so is refused
+abbrev pub withBlanks : List Event
+withBlanks = write 0 (1 ∷ []) ∷ write 1 (2 ∷ []) ∷ earlier 0 (0 ∷ []) ∷ write 1 (0 ∷ []) ∷ []
+
+-- P1 to P12 in order; P7, P8, P9 and P12 have two entries each. Those after them have no number: the model goes back, and a round's end is as far as it goes;
+-- explaining says where each record is, and how many positions a stripe lacks; and a blank block is refused 11, after 2 and 4, but an earlier write of one is
+-- entered, recovered and explained
 abbrev pub examples : Table
 examples =
     entry (coded 65537 root4 2 1 0 (1 ∷ 2 ∷ [])) (3 ∷ 65536 ∷ 65026 ∷ 513 ∷ [])
@@ -113,4 +118,9 @@ examples =
     (entry (explaining (after opening (write 0 (1 ∷ []) ∷ write 0 (2 ∷ []) ∷ [])) [])
     (0 ∷ 0 ∷ 0 ∷ 0 ∷ 0 ∷ 4 ∷ 0 ∷ 8 ∷ 0 ∷ 1 ∷ 1 ∷ 2 ∷ 0 ∷ 2 ∷ 0 ∷ 2 ∷ 0 ∷ [])
     (entry (explaining opening (pair 0 33)) (7 ∷ 1 ∷ 2 ∷ 0 ∷ 0 ∷ 0 ∷ 0 ∷ 3 ∷ 1 ∷ zeros 8)
-    end)))))))))))))))))))
+    (entry (numberOn opening (write 0 (0 ∷ [])) ∷ numberOn opening (write 4 (0 ∷ [])) ∷ numberOn opening (write 0 (0 ∷ 0 ∷ [])) ∷ []) (11 ∷ 4 ∷ 2 ∷ [])
+    (entry (numberOn opening (earlier 0 (0 ∷ [])) ∷ numberOn opening (earlier 4 (0 ∷ [])) ∷ numberOn opening (earlier 0 (0 ∷ 0 ∷ [])) ∷ []) (0 ∷ 4 ∷ 2 ∷ [])
+    (entry (recovery (after opening withBlanks) []) (0 ∷ 0 ∷ 0 ∷ 0 ∷ 2 ∷ 0 ∷ 0 ∷ [])
+    (entry (goingBack withBlanks) (0 ∷ 2 ∷ 0 ∷ 0 ∷ 1 ∷ 2 ∷ 0 ∷ 0 ∷ 1 ∷ 0 ∷ 0 ∷ 0 ∷ [])
+    (entry (explaining (after opening withBlanks) []) (0 ∷ 0 ∷ 0 ∷ 2 ∷ 0 ∷ 4 ∷ 0 ∷ 8 ∷ 0 ∷ 0 ∷ 2 ∷ 1 ∷ 1 ∷ 2 ∷ 0 ∷ 2 ∷ 0 ∷ [])
+    end))))))))))))))))))))))))

@@ -4,6 +4,7 @@ use crate::arguments::{number, usage, Arguments, Options};
 use crate::failure::Failure;
 use crate::files;
 use std::ffi::OsStr;
+use std::fmt;
 use std::io::{self, BufRead, Read};
 use vault_library::{sizes, Vault};
 
@@ -24,12 +25,18 @@ standard error as a line 'plate K S C'; recover, explain, decode and list ask fo
           of the S words, low byte first: racklist's input without its first two bytes,
           which K and S stand for
   --text  standard input has a line for each write instead: the record's number and the S
-          words, in decimal, with spaces between, as recover prints them; blank lines are
+          words, in decimal, with spaces between, as recover prints them; empty lines are
           passed over
 
-A refused write stops the command: its number in the table of refusals and its place among
-the writes, counted from 0, go to standard error, no image is written, and the exit status
-is 1. Writes that end inside a write are refused with 2 (length).
+A sheet whose S words are all 0 is blank: it comes from a press whose probe is unplugged, and
+the vault refuses it. A record that no write names is all zeros: of the lines that recover
+printed, leave those out that have zeros alone.
+
+Refused with exit status 1: 1 (plate), 2 (length), 4 (record), 5 (data word), 11 (blank). A
+refused write stops the command, and no image is written. Standard error names the write's
+place among the writes, counted from 0, and with --text its line, counted from 1 as editors
+do, empty lines too: 'refused 11 (blank) at write 1, line 3'. Writes that end inside a write
+are refused with 2.
 ",
     options: Options {
         flags: &["--text"],
@@ -44,6 +51,23 @@ const LINE: u64 = 1 << 16;
 /// A write as it was read: the record's number and its words, which may be too few or too many.
 type Write = (u32, Vec<u32>);
 
+/// Where a write stands in the input: its number among the writes, from 0; and in text its line, from 1, where empty lines count, so that an editor finds it.
+#[derive(Default)]
+struct Place {
+    write: u64,
+    line: Option<u64>,
+}
+
+impl fmt::Display for Place {
+    fn fmt(&self, f: &mut fmt::Formatter) -> fmt::Result {
+        write!(f, "write {}", self.write)?;
+        match self.line {
+            Some(line) => write!(f, ", line {line}"),
+            None => Ok(()),
+        }
+    }
+}
+
 fn run(mut arguments: Arguments) -> Result<(), Failure> {
     let (k, s) = (arguments.number("K")?, arguments.number("S")?);
     let text = arguments.flag("--text");
@@ -51,16 +75,18 @@ fn run(mut arguments: Arguments) -> Result<(), Failure> {
     files::not_to_terminal("the image")?;
     let mut vault = Vault::open(k, s, vec![0; sizes::raw(k, s)])?;
     let mut input = io::stdin().lock();
-    for index in 0u64.. {
+    let mut place = Place::default();
+    loop {
         let write = if text {
-            from_text(&mut input, index)?
+            from_text(&mut input, &mut place)?
         } else {
             from_bytes(&mut input, s)?
         };
         let Some((record, block)) = write else { break };
         vault
             .write(record, &block)
-            .map_err(|refusal| Failure::Refused(refusal, format!(" at write {index}")))?;
+            .map_err(|refusal| Failure::Refused(refusal, format!(" at {place}")))?;
+        place.write += 1;
     }
     let header = vault.header();
     files::print(&vault.image()?)?;
@@ -82,18 +108,19 @@ fn from_bytes(input: &mut impl Read, s: u32) -> Result<Option<Write>, Failure> {
     Ok((count > 0).then(|| (words.next().unwrap_or(0), words.collect())))
 }
 
-/// The write in the next line that is not blank.
-fn from_text(input: &mut impl BufRead, index: u64) -> Result<Option<Write>, Failure> {
-    let name = format!("a number of write {index}");
+/// The write in the next line that is not empty. Counts the lines.
+fn from_text(input: &mut impl BufRead, place: &mut Place) -> Result<Option<Write>, Failure> {
     loop {
         let mut line = Vec::new();
         let count = input
             .take(LINE)
             .read_until(b'\n', &mut line)
             .map_err(cannot_read)?;
+        *place.line.get_or_insert(0) += 1;
         if count as u64 == LINE {
-            return usage(format!("the line of write {index} is too long"));
+            return usage(format!("{place}, is too long"));
         }
+        let name = format!("a number of {place},");
         let text = String::from_utf8_lossy(&line);
         let words = text.split_ascii_whitespace();
         let numbers = words.map(|word| number(&name, OsStr::new(word)));

@@ -16,7 +16,7 @@ fn image_len(k: usize, s: usize) -> usize {
 #[test]
 fn random_bytes() {
     let mut random = Random::new(2);
-    let mut seen = [0; 11];
+    let mut seen = [0; 12];
     for run in 0..300 {
         let (k, s, c) = plate(&mut random);
         let all = image_len(k, s);
@@ -92,9 +92,9 @@ fn one_byte_changed() {
     for _ in 0..100 {
         let (k, s, c) = plate(&mut random);
         let [kw, sw, cw] = [k, s, c].map(|x| x.to_string());
-        let sheets: Vec<u8> = (0..c * 2 * (s + 1))
-            .map(|i| u8::from(i % (2 * s + 2) == 0))
-            .collect();
+        // Each write is to record 1, and its words are all 256.
+        let sheets = [1, 0].into_iter().chain([0, 1].repeat(s));
+        let sheets = sheets.collect::<Vec<u8>>().repeat(c);
         let mut image = vault(["image", &kw, &sw], &sheets).stdout;
         let whole = file("changed-before", &image);
         let before = vault(["recover", &kw, &sw, &cw, whole], &[]);

@@ -269,7 +269,9 @@ fn written(random: &mut Random, n: usize, s: usize) -> (String, Vec<Vec<usize>>)
     let mut input = String::new();
     for _ in 0..random.index(3 * n) {
         let record = random.index(n);
-        let sheet: Vec<usize> = (0..s).map(|_| random.index(65536)).collect();
+        // A word of its own at the end, so that no sheet is blank.
+        let mut sheet: Vec<usize> = (1..s).map(|_| random.index(65536)).collect();
+        sheet.push(1 + random.index(65535));
         input += &format!("{record} {}\n", spaced(&sheet));
         book[record] = sheet;
     }
@@ -334,6 +336,17 @@ fn demo_is_the_same_for_a_seed() {
             && text.contains("16 of 16 records are as they were last written")
     );
     assert!(text.contains("refused 7 (too few) on shelf ") && !text.contains("DIFFERENT"));
+    assert!(text.contains("\n   refused 11 (blank): "));
+    assert!(text.contains("\n   992 of 992 bytes of the rack are as they were.\n"));
+    for step in [
+        "1. THE RACK. ",
+        "2. THE PROBE. ",
+        "3. THE LOSS. ",
+        "4. THE RECOVERY. ",
+        "5. ONE POSITION MORE. ",
+    ] {
+        assert!(text.contains(&format!("\n\n{step}")), "{step}");
+    }
     assert!(text.contains(" lacks 1 position: any 1 of the "));
     assert!(text.is_ascii() && text.lines().all(|line| line.len() <= 100));
     assert_eq!(line("demo --seed 7").text(), text);

@@ -118,7 +118,7 @@ fn writes_that_end_early() {
     for text in ["0 1\n1\n", "0 1\n1 2 3\n"] {
         let answer = vault(["image", "2", "1", "--text"], text.as_bytes());
         refused(&answer, 2);
-        assert!(answer.stderr.contains(" at write 1:"), "{answer:?}");
+        assert!(answer.stderr.contains(" at write 1, line 2:"), "{answer:?}");
     }
 }
 
@@ -158,11 +158,15 @@ fn record_and_data_word() {
     let answer = vault(["image", "2", "1", "--text"], b"0 65535\n3 65536\n");
     refused(&answer, 5);
     assert!(
-        answer.stderr.contains("(data word) at write 1:"),
+        answer.stderr.contains("(data word) at write 1, line 2:"),
         "{answer:?}"
     );
-    let answer = vault(["image", "2", "1", "--text"], b"4294967295 4294967295\n");
+    let answer = vault(["image", "2", "1", "--text"], b"\n4294967295 4294967295\n");
     refused(&answer, 4);
+    assert!(
+        answer.stderr.contains("(record) at write 0, line 2:"),
+        "{answer:?}"
+    );
 }
 
 #[test]

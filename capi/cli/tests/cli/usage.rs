@@ -142,12 +142,14 @@ fn text_that_is_no_numbers() {
         );
         assert!(answer.stderr.contains(says), "{says}: {answer:?}");
     };
-    bad(b"0 1\n1 x\n", "a number of write 1 is \"x\"");
-    bad(b"0 -1\n", "a number of write 0 is \"-1\"");
-    bad(b"0 4294967296\n", "a number of write 0 is ");
-    bad(b"0 \xff\n", "a number of write 0 is ");
-    bad(&[b'1'; 1 << 17], "the line of write 0 is too long");
-    bad(&[0; 1 << 17], "the line of write 0 is too long");
+    bad(b"0 1\n1 x\n", "a number of write 1, line 2, is \"x\"");
+    bad(b"\n \r\n0 -1\n", "a number of write 0, line 3, is \"-1\"");
+    bad(b"0 4294967296\n", "a number of write 0, line 1, is ");
+    bad(b"0 \xff\n", "a number of write 0, line 1, is ");
+    bad(&[b'1'; 1 << 17], "write 0, line 1, is too long");
+    bad(&[0; 1 << 17], "write 0, line 1, is too long");
+    let long = [b"0 1\n\n", &[b'1'; 1 << 17][..]].concat();
+    bad(&long, "write 1, line 3, is too long");
 }
 
 /// A standard output that cannot be written to, and one that nobody reads.

@@ -1,4 +1,4 @@
-//! `vault demo`: a small rack is written, loses half of every shelf, is brought back, and loses one position too many.
+//! `vault demo`: a small rack is written, is sent a blank sheet, loses half of every shelf, is brought back, and loses one position too many.
 mod rack;
 mod sheets;
 
@@ -11,7 +11,7 @@ use crate::files;
 use crate::rack::shelf_name;
 use rack::Rack;
 use random::Random;
-use sheets::{Sheet, OPENED, WRITTEN};
+use sheets::{Sheet, OPENED, UNPLUGGED, WRITTEN};
 use std::time::{SystemTime, UNIX_EPOCH};
 use vault_library::{stripes, Explanation, Header, Origin, Vault};
 
@@ -22,8 +22,9 @@ pub const COMMAND: Command = Command {
 usage: vault demo [--seed N]
 
 Shows the vault at work on data of its own: writes the sheets of a pressing, draws the rack,
-loses half of every shelf at random, brings all records back and says where each sheet came
-from, then loses one position too many and says what is missing. No file is read or written.
+has a blank sheet turned away, loses half of every shelf at random, brings all records back
+and says where each sheet came from, then loses one position too many and says what is
+missing. No file is read or written.
 
   --seed N  lose the same positions as the run that printed this seed; without it, each run
             loses others
@@ -61,7 +62,7 @@ fn any_seed() -> u32 {
 
 fn story(seed: u32) -> Result<String, Failure> {
     let mut random = Random::new(u64::from(seed));
-    let (vault, written) = pressing()?;
+    let (mut vault, written) = pressing()?;
     let header = vault.header();
     let mut rack = Rack::new(header, vault.image()?);
     let mut text = INTRODUCTION.to_owned();
@@ -69,22 +70,25 @@ fn story(seed: u32) -> Result<String, Failure> {
     text += "\n1. THE RACK. A shelf spreads the sheets it holds over all of its positions.\n\n";
     text += &rack.picture(&rack.explained()?.counts).rack();
 
+    text += "\n2. THE PROBE. ";
+    text += &unplugged(&mut vault)?;
+
     for stripe in header.stripes() {
         for _ in 0..stripes::positions(stripe) / 2 {
             rack.lose(stripe, &mut random);
         }
     }
-    text += "\n2. THE LOSS. Half of every shelf is lost, picked at random ";
+    text += "\n3. THE LOSS. Half of every shelf is lost, picked at random ";
     text += &format!("(seed {seed}).\n\n");
     let Explanation { counts, origins } = rack.explained()?;
     text += &rack.picture(&counts).rack();
 
     let refused = |fault| refused(header, fault);
     let records = recovered(header, &rack.image, &rack.gaps()).map_err(refused)?;
-    text += "\n3. THE RECOVERY. All sheets, from the halves that are left, and where each came from.\n\n";
+    text += "\n4. THE RECOVERY. All sheets, from the halves that are left, and where each came from.\n\n";
     text += &comparison(header, &written, &records, &origins.map_err(refused)?);
 
-    text += "\n4. ONE POSITION MORE. ";
+    text += "\n5. ONE POSITION MORE. ";
     text += &one_more(header, &mut rack, &mut random)?;
     text += "\nThe same again: vault demo --seed ";
     text += &format!("{seed}. With your own files: vault --help.\n");
@@ -100,6 +104,24 @@ fn pressing() -> Result<(Vault, [Sheet; OPENED.len()]), Failure> {
         written[record as usize] = sheet;
     }
     Ok((vault, written))
+}
+
+/// Sends the vault the sheet of a press whose probe is unplugged, and tells what it says, and how much of the rack is as it was.
+fn unplugged(vault: &mut Vault) -> Result<String, Failure> {
+    let (record, sheet) = UNPLUGGED;
+    let before = vault.image()?;
+    let answer = vault.write(record, &sheet);
+    let after = vault.image()?;
+    let same = before.iter().zip(&after).filter(|pair| pair.0 == pair.1);
+    let mut text = "It is unplugged, and the press sends a sheet of zeros ".to_owned();
+    text += &format!("for record {record}.\n\n");
+    text += "   The vault turns it away. The write is\n   ";
+    text += &match answer {
+        Ok(()) => "taken".into(),
+        Err(refusal) => Failure::from(refusal).to_string(),
+    };
+    let (same, all) = (same.count(), before.len());
+    Ok(text + &format!("\n\n   {same} of {all} bytes of the rack are as they were.\n"))
 }
 
 /// Loses a position of any shelf, and tells what recovery says, and what would help.

@@ -1,4 +1,5 @@
-//! What the demonstration writes. A sheet is a press step, its pressure in mbar and the litres drawn.
+//! What the demonstration writes. A sheet is a press step, its pressure in mbar and the litres drawn; steps count from 1, so a sheet is blank only where the
+//! probe is unplugged.
 
 pub type Sheet = [u32; 3];
 
@@ -38,3 +39,6 @@ pub const WRITTEN: [(u32, Sheet); 13] = [
     (11, [12, 1600, 18]),
     (4, [5, 600, 173]),
 ];
+
+/// The sheet that follows these, of a press whose probe is unplugged.
+pub const UNPLUGGED: (u32, Sheet) = (12, [0, 0, 0]);

@@ -4,14 +4,12 @@ use mathlib.Core.Bool.{Bool, true, false, _&&_}
 use mathlib.Core.List.{List}
 use mathlib.Core.Logic.{⊎-elim}
 use Prim.Native.Nat.{ℕ, _+_, _-_, _≤_, _<_}
-use native.Mathlib.Numerals.{add-one}
 use native.Mathlib.Omega.{arith}
 use borrow.Author.Tests.{le-leb, lt-leb}
-use lib.Dec.{leb}
 use lib.ListN.{length, getD, drop}
-use lib.Seq.{drop-cons, drop-length}
 use Rattle.field.proofs.Booleans.{second-false, only-first}
-use Rattle.layout.specs.Records.{areData}
+use Rattle.layout.specs.Records.{isData, areData}
+use Rattle.layout.proofs.EveryWord.{every-next, every-end}
 use Rattle.layout.proofs.words.all_data.Statement.{statement}
 use Rattle.layout.proofs.words.all_data.Tie as tie
 
@@ -19,17 +17,12 @@ record Inv (words : List ℕ) (fit : Bool) (i : ℕ) : Type 0 where
   turns : i ≤ length words
   now : areData words ≡ (fit && areData (drop i words))
 
--- the next word decides whether the words from i on are data words
-step : (l : List ℕ) (i : ℕ) (b : Bool) → i < length l → leb (getD l i 0) 65535 ≡ b → areData (drop i l) ≡ (b && areData (drop (i + 1) l))
-unfolding areData
-step l i b h e = rw (add-one i, drop-cons l i 0, e)
-
 module _ {words : List ℕ} {fit : Bool} {i : ℕ} (h : Inv words fit i) (l : i < length words) where
   large : 65535 < getD words i 0 → Inv words false (i + 1)
-  large b = record { turns = omega arith; now = h .now ∙ second-false fit (step words i false l (lt-leb _ 65535 b)) }
+  large b = record { turns = omega arith; now = h .now ∙ second-false fit (every-next isData words i false l (lt-leb _ 65535 b)) }
 
   small : getD words i 0 ≤ 65535 → Inv words fit (i + 1)
-  small b = record { turns = omega arith; now = h .now ∙ ap (λ (r : Bool). fit && r) (step words i true l (le-leb _ 65535 b)) }
+  small b = record { turns = omega arith; now = h .now ∙ ap (λ (r : Bool). fit && r) (every-next isData words i true l (le-leb _ 65535 b)) }
 
 abbrev Inv-loop : tie.InvT-loop
 Inv-loop words fit₀ i₀ fit i = Inv words fit i
@@ -59,12 +52,10 @@ loop-again c =
     ⊎-elim (λ w. rw (w .1) (large h l (w .0 .taken))) (λ w. rw (w .1) (small h l (w .0 .left))) (c .if1 .came)
 
 returns : tie.Need-returns Inv-loop μ-loop
-unfolding areData
 returns c =
     let h = c .before .loop .inv in
-    let d = c .before .before .args .words .now in
-    let e : c .before .loop .i ≡ length d = omega (arith, h .turns, c .loop-test .left) in
-    sym (h .now ∙ only-first (c .before .loop .fit) (ap (λ (n : ℕ). areData (drop n d)) e ∙ ap areData (drop-length d)))
+    let e : c .before .loop .i ≡ length (c .before .before .args .words .now) = omega (arith, h .turns, c .loop-test .left) in
+    sym (h .now ∙ only-first (c .before .loop .fit) (every-end isData _ _ e))
 
 pub all-data-spec : {M : Type 1} → statement M
 all-data-spec = tie.close (tie.spec Inv-loop μ-loop loop-holds mul-if1 shared-slice-read-if1 add-i loop-less loop-again returns)

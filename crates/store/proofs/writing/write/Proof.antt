@@ -86,7 +86,7 @@ number-zero : (c : tie.Else1) → let a = entry (c .before) .args in writeNumber
 number-zero c = sym (c .before .write-number .ensures) ∙ c .if1 .left
 
 told : (c : tie.Else1) → let a = entry (c .before) .args in WriteTaken (a .header) (a .raw .now) (a .full .now) (a .log .now) (a .number) (a .block .now)
-told c = let a = entry (c .before) .args in write-taken (a .header) (a .raw .now) (a .full .now) (a .log .now) (a .number) (a .block .now) (number-zero c)
+told c = let a = entry (c .before) .args in write-taken (a .header) (a .raw .now) (a .full .now) (a .log .now) (a .number) (a .block .now) _ (number-zero c)
 
 bounds : (c : tie.Else1) → Fits (entry (c .before) .args .header)
 bounds c = fits (entry (c .before) .args .header) (told c .fitting)
