@@ -32,11 +32,10 @@ fn listing(input: &[u8]) -> Result<String, Refusal> {
         let pair = |b: &[u8]| u32::from(b[0]) + 256 * u32::from(b[1]);
         let words: Vec<u32> = bytes.chunks(2).map(pair).collect();
         let answer = write(header, &mut raw, &mut full, &mut log, words[0], &words[1..]);
-        if answer.0 != 0 {
-            // A number of 2 bytes is all that can be wrong with a whole write.
-            assert_eq!(answer.0, Refusal::Record as u32);
-            return Err(Refusal::Record);
-        }
+        test(answer.0 != Refusal::Record as u32, Refusal::Record)?;
+        test(answer.0 != Refusal::Blank as u32, Refusal::Blank)?;
+        // Nothing else can be wrong with a whole write: words of 2 bytes are data words.
+        assert_eq!(answer.0, 0);
         header = answer.1;
     }
     let mut text = String::new();
@@ -85,14 +84,36 @@ mod tests {
     }
 
     #[test]
+    fn blank_writes_are_refused_in_input_order() {
+        assert_eq!(list(&[1, 1, 1, 0, 0, 0]), "refused 11\n");
+        // One that is cut short, before one with a bad record number, and after one.
+        assert_eq!(list(&[1, 1, 1, 0, 0]), "refused 2\n");
+        assert_eq!(list(&[1, 1, 1, 0, 0, 0, 2, 0, 1, 0]), "refused 11\n");
+        assert_eq!(list(&[1, 1, 2, 0, 1, 0, 1, 0, 0, 0]), "refused 4\n");
+        // Every byte of a word counts, and every word of a block.
+        for at in 4..8 {
+            let mut input = [1, 2, 1, 0, 0, 0, 0, 0];
+            assert_eq!(list(&input), "refused 11\n");
+            input[at] = 1;
+            assert!(list(&input).starts_with("C 0 "));
+        }
+    }
+
+    #[test]
     fn what_follows_write_256_is_not_read() {
         let mut input = vec![1, 1];
         for i in 0..256u32 {
-            input.extend([i as u8 % 2, 0, i as u8, 0]);
+            input.extend([i as u8 % 2, 0, i as u8, 1]);
         }
         let text = list(&input);
         assert!(text.starts_with("C 0 "));
         input.extend([9, 9, 9]);
         assert_eq!(list(&input), text);
+        // Write 257 is blank, and write 256.
+        input.truncate(2 + 4 * 256);
+        input.extend([0; 4]);
+        assert_eq!(list(&input), text);
+        input[2 + 4 * 255..].fill(0);
+        assert_eq!(list(&input), "refused 11\n");
     }
 }

@@ -12,7 +12,7 @@ use crate::powers::powers;
 use crate::reading::read;
 use crate::recovery::{decode_stripe, recover};
 use crate::script::{Bytes, Command, Number, Words, BYTES, COUNTS, WORDS};
-use crate::writing::write;
+use crate::writing::{earlier_write, write};
 use std::fmt::Write;
 
 pub struct Machine {
@@ -22,6 +22,8 @@ pub struct Machine {
     pub printed: String,
     /// The last call's number; a listing's is not kept.
     pub answered: u32,
+    /// Writes are those of a vault of before number 11, which took blank blocks.
+    pub earlier: bool,
 }
 
 /// A random number made from the one before: 48271 generates the residues modulo the prime 2^31 - 1.
@@ -53,11 +55,20 @@ impl Default for Machine {
             bytes: BYTES.map(|count| vec![0; count]),
             printed: String::new(),
             answered: 0,
+            earlier: false,
         }
     }
 }
 
 impl Machine {
+    /// A machine that makes earlier writes.
+    pub fn earlier() -> Machine {
+        Machine {
+            earlier: true,
+            ..Machine::default()
+        }
+    }
+
     pub fn number(&self, number: Number) -> u32 {
         self.numbers[number.index()]
     }
@@ -197,6 +208,7 @@ impl Machine {
         let mut raw = self.words(Words::Raw);
         let (mut full, mut log) = (self.words(Words::Full), self.words(Words::Log));
         let block = self.words(Words::Block);
+        let write = if self.earlier { earlier_write } else { write };
         let answer = write(self.header(), &mut raw, &mut full, &mut log, record, &block);
         self.answer("write", answer);
         self.left(Words::Raw, "raw", &raw);

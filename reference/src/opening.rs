@@ -48,3 +48,24 @@ pub fn build(header: Header, raw: &[u32], full: &mut [u32]) {
         *to = x as u32;
     }
 }
+
+#[cfg(test)]
+mod tests {
+    use super::*;
+
+    #[test]
+    fn zero_records_are_taken() {
+        for (k, s) in [(1, 1), (2, 3), (5, 2)] {
+            let header = Header { k, s, c: 0 };
+            let raw = vec![0; header.raw_len()];
+            let (mut full, mut log) = (vec![9; header.full_len()], vec![9; header.log_len()]);
+            assert_eq!(open(k, s, &raw, &mut full, &mut log), (0, header));
+            // The numbers are coded, and the data are zeros in every column.
+            for position in full.chunks(header.width()) {
+                assert!(position[1..].iter().all(|&x| x == 0));
+            }
+            assert!(full.chunks(header.width()).any(|position| position[0] != 0));
+            assert!(log.iter().all(|&x| x == 0));
+        }
+    }
+}

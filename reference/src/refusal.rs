@@ -12,6 +12,7 @@ pub enum Refusal {
     OutOfField,
     Inconsistent,
     NotARecord,
+    Blank,
 }
 
 /// What holds, or the refusal. Calls make their tests in rising number.

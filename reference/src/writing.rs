@@ -14,22 +14,31 @@ pub fn write(
     record: u32,
     block: &[u32],
 ) -> (u32, Header) {
+    let blank = block.iter().all(|&x| x == 0);
+    let tested = tests(header, raw, full, log, record, block).and(test(!blank, Refusal::Blank));
+    if tested.is_err() {
+        return (number(&tested), header);
+    }
+    (0, store(header, raw, full, log, record, block))
+}
+
+/// The same of a vault of before number 11 was in the table: a blank block is taken like any other.
+pub fn earlier_write(
+    header: Header,
+    raw: &mut [u32],
+    full: &mut [u32],
+    log: &mut [u32],
+    record: u32,
+    block: &[u32],
+) -> (u32, Header) {
     let tested = tests(header, raw, full, log, record, block);
     if tested.is_err() {
         return (number(&tested), header);
     }
-    let start = record as usize * header.data();
-    raw[start..start + header.data()].copy_from_slice(block);
-    let c = header.c + 1;
-    if c as usize == header.records() {
-        build(header, raw, full);
-        log.fill(0);
-        return (0, Header { c: 0, ..header });
-    }
-    rebuild(header, log, record, block);
-    (0, Header { c, ..header })
+    (0, store(header, raw, full, log, record, block))
 }
 
+/// Tests 1, 2, 4 and 5.
 fn tests(
     header: Header,
     raw: &[u32],
@@ -43,6 +52,27 @@ fn tests(
     test(block.len() == header.data(), Refusal::Length)?;
     test((record as usize) < header.records(), Refusal::Record)?;
     test(are_data(block), Refusal::DataWord)
+}
+
+/// Stores a block that passed its tests, and gives the header afterwards.
+fn store(
+    header: Header,
+    raw: &mut [u32],
+    full: &mut [u32],
+    log: &mut [u32],
+    record: u32,
+    block: &[u32],
+) -> Header {
+    let start = record as usize * header.data();
+    raw[start..start + header.data()].copy_from_slice(block);
+    let c = header.c + 1;
+    if c as usize == header.records() {
+        build(header, raw, full);
+        log.fill(0);
+        return Header { c: 0, ..header };
+    }
+    rebuild(header, log, record, block);
+    Header { c, ..header }
 }
 
 /// Builds the first empty level from all levels below it and the new block, and empties those. Words of the log count modulo p.
@@ -155,5 +185,120 @@ mod tests {
         assert_eq!(log[..4], [0; 4]);
         // The third level was never reached, raw words stay as they are, and the full stripe is not built.
         assert_eq!((raw, full), ([0, 70000, u32::MAX, 9], [u32::MAX; 16]));
+    }
+
+    /// Buffers of any words, lent with their right lengths or others.
+    #[derive(Clone, Debug, PartialEq)]
+    struct Buffers {
+        header: Header,
+        raw: Vec<u32>,
+        full: Vec<u32>,
+        log: Vec<u32>,
+    }
+
+    impl Buffers {
+        fn any(random: &mut Random, header: Header) -> Buffers {
+            let mut words = |count| (0..count).map(|_| random.below(1 << 32) as u32).collect();
+            Buffers {
+                header,
+                raw: words(header.raw_len()),
+                full: words(header.full_len()),
+                log: words(header.log_len()),
+            }
+        }
+
+        /// The number of a write, of today or earlier, and what it leaves.
+        fn after(&self, earlier: bool, record: u32, block: &[u32]) -> (u32, Buffers) {
+            let write = if earlier { earlier_write } else { write };
+            let mut left = self.clone();
+            let Buffers { raw, full, log, .. } = &mut left;
+            let (number, header) = write(self.header, raw, full, log, record, block);
+            left.header = header;
+            (number, left)
+        }
+    }
+
+    /// Some headers, at each c of which some are a round's last.
+    fn headers() -> impl Iterator<Item = Header> {
+        let sizes = [(1, 1), (1, 2), (2, 1), (2, 3), (3, 2)];
+        sizes
+            .into_iter()
+            .flat_map(|(k, s)| (0..1 << k).map(move |c| Header { k, s, c }))
+    }
+
+    #[test]
+    fn a_blank_block_is_refused_and_nothing_changes() {
+        let mut random = Random::new(6);
+        for header in headers() {
+            let buffers = Buffers::any(&mut random, header);
+            let block = vec![0; header.data()];
+            for record in 0..header.records() as u32 {
+                assert_eq!(buffers.after(false, record, &block), (11, buffers.clone()));
+            }
+        }
+    }
+
+    #[test]
+    fn an_earlier_write_takes_a_blank_block() {
+        let mut random = Random::new(7);
+        for header in headers() {
+            let buffers = Buffers::any(&mut random, header);
+            let record = random.below(header.records() as u64) as u32;
+            let (number, left) = buffers.after(true, record, &vec![0; header.data()]);
+            let c = (header.c + 1) % (1 << header.k);
+            assert_eq!((number, left.header), (0, Header { c, ..header }));
+            let mut raw = buffers.raw.clone();
+            raw[record as usize * header.data()..][..header.data()].fill(0);
+            assert_eq!(left.raw, raw);
+        }
+    }
+
+    #[test]
+    fn one_word_makes_a_block_that_is_not_blank() {
+        let mut random = Random::new(8);
+        for header in headers() {
+            let buffers = Buffers::any(&mut random, header);
+            for at in 0..header.data() {
+                for word in [1, 256, 65535] {
+                    let mut block = vec![0; header.data()];
+                    block[at] = word;
+                    let given = buffers.after(false, 0, &block);
+                    assert_eq!(given.0, 0);
+                    assert_eq!(given, buffers.after(true, 0, &block));
+                }
+            }
+        }
+    }
+
+    /// A blank block with another fault, and a block that no write takes: the smaller number is given, by an earlier write too.
+    #[test]
+    fn blank_is_tested_last() {
+        let header = Header { k: 2, s: 2, c: 3 };
+        let good = Buffers::any(&mut Random::new(9), header);
+        let refused = |buffers: &Buffers, record: u32, block: &[u32], number: u32| {
+            for earlier in [false, true] {
+                let given = buffers.after(earlier, record, block);
+                assert_eq!(given, (number, buffers.clone()));
+            }
+        };
+        let with = |change: fn(&mut Buffers)| {
+            let mut buffers = good.clone();
+            change(&mut buffers);
+            buffers
+        };
+        refused(&with(|x| x.header.c = 4), 0, &[0, 0], 1);
+        refused(&with(|x| x.header.k = 0), 0, &[0, 0], 1);
+        refused(&with(|x| x.raw.push(0)), 0, &[0, 0], 2);
+        refused(&with(|x| x.full.truncate(1)), 0, &[0, 0], 2);
+        refused(&with(|x| x.log.clear()), 0, &[0, 0], 2);
+        for block in [&[][..], &[0], &[0, 0, 0]] {
+            refused(&good, 0, block, 2);
+        }
+        for record in [4, u32::MAX] {
+            refused(&good, record, &[0, 0], 4);
+        }
+        for block in [[0, 65536], [65536, 0], [u32::MAX, 0]] {
+            refused(&good, 0, &block, 5);
+        }
     }
 }

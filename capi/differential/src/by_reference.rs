@@ -3,6 +3,15 @@ use crate::calls::{Answer, Calls};
 use crate::lent::Side;
 use reference::{explanation, image, opening, powers, reading, recovery, writing};
 
+/// A write of a vault of before number 11, with the side's block. Gives its number.
+pub fn earlier_write(side: &mut Side, record: u32) -> u32 {
+    let (raw, block) = (side.raw.part_mut(), side.block.part());
+    let (full, log) = (side.full.part_mut(), side.log.part_mut());
+    let (number, header) = writing::earlier_write(side.header, raw, full, log, record, block);
+    side.header = header;
+    number
+}
+
 pub struct Reference;
 
 impl Calls for Reference {

@@ -17,6 +17,8 @@ pub enum Fault {
     /// A word of the block, or of the opened records, at some place modulo the length.
     DataWord(usize, u32),
     Stripe(u32),
+    /// All words of the block are 0.
+    Blank,
 }
 
 impl Fault {
@@ -42,6 +44,7 @@ impl Fault {
                     }
                 }
             }
+            Fault::Blank => side.block.part_mut().fill(0),
             Fault::Record(_) | Fault::Stripe(_) => {}
         }
     }
@@ -139,6 +142,9 @@ fn any(session: &mut Session, call: Call) -> Fault {
     if matches!(call, Call::Open | Call::Write { .. }) {
         let word = *random.one(&[65536, 65537, 1 << 31, u32::MAX]);
         faults.push(Fault::DataWord(random.index(1 << 20), word));
+    }
+    if let Call::Write { .. } = call {
+        faults.push(Fault::Blank);
     }
     if let Call::Decode { .. } = call {
         let level = random.below(u64::from(k)) as u32;

@@ -1,6 +1,7 @@
 //! Images and erasure lists in files: those that one implementation made are read by the other.
 use crate::erasures::{self, Loss, Marks};
 use crate::origins::origins;
+use crate::writes::{block, earlier_block};
 use random::Random;
 use reference::header::Header;
 use reference::{explanation, image, opening, recovery, writing};
@@ -37,7 +38,7 @@ impl Drop for Folder {
     }
 }
 
-/// What both implementations write: records of zeros are opened, and then written to.
+/// What an implementation writes: records of zeros are opened, and then written to.
 struct History {
     k: u32,
     s: u32,
@@ -45,16 +46,17 @@ struct History {
     writes: Vec<(u32, Vec<u32>)>,
 }
 
-/// Makes histories by both, has each store its image and an erasure list, and the other recover from these files and explain it. Gives how many files were
-/// read.
+/// Makes histories by both, that of reference/ as an earlier vault wrote it; has each store its image and an erasure list, and the other recover from these
+/// files and explain it. Gives how many files were read.
 pub fn exchange(seed: u64, small: bool) -> Result<usize, String> {
     let folder = Folder::new(seed)?;
     let mut random = Random::new(seed ^ 0xf11e);
     let mut count = 0;
     for k in 1..=if small { 3 } else { 8 } {
         for s in [1, 3] {
-            let history = History::drawn(&mut random, k, s);
+            let history = History::drawn(&mut random, k, s, block);
             history.by_library(&folder, &mut random)?;
+            let history = History::drawn(&mut random, k, s, earlier_block);
             history.by_reference(&folder, &mut random)?;
             count += 4;
         }
@@ -62,12 +64,16 @@ pub fn exchange(seed: u64, small: bool) -> Result<usize, String> {
     Ok(count)
 }
 
+/// How a block of so many words is drawn.
+type Drawn = fn(&mut Random, usize) -> Vec<u32>;
+
 impl History {
-    fn drawn(random: &mut Random, k: u32, s: u32) -> History {
+    /// Writes of blocks that are drawn so.
+    fn drawn(random: &mut Random, k: u32, s: u32, block: Drawn) -> History {
         let writes = (0..random.below(3 << k))
             .map(|_| {
                 let record = random.below(1 << k) as u32;
-                (record, (0..s).map(|_| random.below(65536) as u32).collect())
+                (record, block(random, s as usize))
             })
             .collect();
         History { k, s, writes }
@@ -179,7 +185,8 @@ impl History {
         let mut log = vec![0; opened.log_len()];
         let (_, mut header) = opening::open(k, s, &raw, &mut full, &mut log);
         for (record, block) in &self.writes {
-            (_, header) = writing::write(header, &mut raw, &mut full, &mut log, *record, block);
+            (_, header) =
+                writing::earlier_write(header, &mut raw, &mut full, &mut log, *record, block);
         }
         let mut image = vec![0; header.image_len()];
         image::image(header, &full, &log, &mut image);

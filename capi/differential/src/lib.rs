@@ -12,3 +12,4 @@ pub mod run;
 mod scenarios;
 mod session;
 mod tally;
+mod writes;

@@ -1,5 +1,6 @@
 //! The scenarios: what is opened, written, lost, altered and asked.
 use crate::by_library::Library;
+use crate::by_reference;
 use crate::calls::{Answer, Call, Calls};
 use crate::erasures::{self, Broken, Loss, Marks};
 use crate::faults::{self, Fault};
@@ -7,6 +8,7 @@ use crate::lent::{Side, Words};
 use crate::origins::origins;
 use crate::session::{Run, Session, Settings};
 use crate::tally::Tally;
+use crate::writes::{blank_write, block, data, earlier_write, is_blank, next_write};
 use random::Random;
 use reference::field::P;
 use reference::header::Header;
@@ -58,16 +60,6 @@ impl Scenario {
     }
 }
 
-/// Data words, often the least or the greatest.
-fn data(random: &mut Random, count: usize) -> Vec<u32> {
-    let mut word = |_| match random.below(8) {
-        0 => 0,
-        1 => 65535,
-        _ => random.below(65536) as u32,
-    };
-    (0..count).map(&mut word).collect()
-}
-
 /// Words of 32 bits, often near a multiple of p.
 fn words(random: &mut Random, count: usize) -> Vec<u32> {
     let mut word = |_| match random.below(4) {
@@ -79,29 +71,19 @@ fn words(random: &mut Random, count: usize) -> Vec<u32> {
     (0..count).map(&mut word).collect()
 }
 
-fn open(session: &mut Session) -> Run<Answer> {
-    let header = session.header();
-    let raw = data(&mut session.random, header.raw_len());
+/// An opening that is taken, at times of zero records.
+fn open(session: &mut Session) -> Run<()> {
+    let words = session.header().raw_len();
+    let raw = match session.random.below(8) {
+        0 => vec![0; words],
+        _ => data(&mut session.random, words),
+    };
     session.set(|side| {
         side.raw.set(&raw);
         side.header.c = 0;
     });
-    session.call(Call::Open)
-}
-
-/// A write that is taken.
-fn write(session: &mut Session) -> Run<()> {
-    let header = session.header();
-    let random = &mut session.random;
-    let block = data(random, header.data());
-    let record = match random.below(4) {
-        0 => 0,
-        1 => header.c,
-        _ => random.below(header.records() as u64) as u32,
-    };
-    session.set(|side| side.block.set(&block));
-    let answer = session.call(Call::Write { record })?;
-    session.expect(answer.number == 0, "a write was refused")
+    let answer = session.call(Call::Open)?;
+    session.expect(answer.number == 0, "an opening was refused")
 }
 
 fn read(session: &mut Session) -> Run<Answer> {
@@ -162,7 +144,18 @@ fn recover_after(session: &mut Session, loss: Loss) -> Run<()> {
     }
     let side = session.side();
     let holds = answer.number == 0 && side.records.part() == side.raw.part();
-    session.expect(holds, "the records are not what was written")
+    session.expect(holds, "the records are not what was written")?;
+    if has_blank_write(session.side()) {
+        session.tally.count_recovered(header.k);
+    }
+    Ok(())
+}
+
+/// Whether a record is zeros that a write of the round left: by its origin, after an explanation that was taken.
+fn has_blank_write(side: &Side) -> bool {
+    let records = side.raw.part().chunks(side.header.data());
+    let mut origins = side.origins.part().chunks(2).zip(records);
+    origins.any(|(origin, record)| origin[0] < side.header.k && is_blank(record))
 }
 
 /// Alters a word at a random place of the image, which may be lost or not looked at.
@@ -280,7 +273,7 @@ fn history(session: &mut Session) -> Run<()> {
     let steps = 120 + 3 * session.header().records();
     for _ in 0..steps {
         match session.random.below(100) {
-            0..60 => write(session)?,
+            0..60 => next_write(session)?,
             60..66 => {
                 read(session)?;
             }
@@ -309,7 +302,7 @@ fn rounds(session: &mut Session) -> Run<()> {
     open(session)?;
     let n = session.header().records();
     for i in 0..2 * n + 3 {
-        write(session)?;
+        next_write(session)?;
         if i % n == n / 2 {
             read(session)?;
             session.call(Call::Image)?;
@@ -322,8 +315,10 @@ fn losses(session: &mut Session) -> Run<()> {
     open(session)?;
     let n = session.header().records();
     for _ in 1..n {
-        write(session)?;
+        next_write(session)?;
     }
+    // The next write that is taken ends the round.
+    blank_write(session)?;
     session.allow(5000);
     for loss in Loss::ALL {
         if session.is_allowed() {
@@ -345,6 +340,20 @@ fn losses(session: &mut Session) -> Run<()> {
             recover_allowed(session)?;
         }
     }
+    blank_round(session)
+}
+
+/// Ends a round with an earlier write of a blank block, and begins the next with one: the full stripe and a level hold zero records then. Large rounds have
+/// blank writes in any case.
+fn blank_round(session: &mut Session) -> Run<()> {
+    let header = session.header();
+    if header.k > 4 {
+        return Ok(());
+    }
+    for _ in 0..2 {
+        earlier_write(session, &vec![0; header.data()])?;
+        recover_after(session, Loss::Half)?;
+    }
     Ok(())
 }
 
@@ -364,7 +373,7 @@ fn foreign(session: &mut Session) -> Run<()> {
     let steps = 40 + header.records();
     for _ in 0..steps {
         match session.random.below(10) {
-            0..6 => write(session)?,
+            0..6 => next_write(session)?,
             6 => {
                 read(session)?;
             }
@@ -466,10 +475,12 @@ fn blocks(session: &mut Session) -> Run<()> {
 fn refusals(session: &mut Session) -> Run<()> {
     open(session)?;
     for _ in 0..=session.random.below(5) {
-        write(session)?;
+        next_write(session)?;
     }
-    session.call(Call::Image)?;
     let header = session.header();
+    let block = block(&mut session.random, header.data());
+    session.set(|side| side.block.set(&block));
+    session.call(Call::Image)?;
     let (k, n) = (header.k, header.records() as u32);
     let record = n - 1;
     let (write, read) = (Call::Write { record }, Call::Read { record });
@@ -482,16 +493,12 @@ fn refusals(session: &mut Session) -> Run<()> {
         broken_lists(session, call)?;
     }
     for call in [write, read] {
-        for record in [n, n + 1, 2 * n, 65536, 1 << 31, u32::MAX] {
-            refused(session, call, &[Fault::Record(record)], 4)?;
-        }
+        records_refused(session, call)?;
     }
     for call in [Call::Open, write] {
-        for word in [65536, 65537, 131_072, 1 << 31, u32::MAX] {
-            let at = session.random.index(1 << 20);
-            refused(session, call, &[Fault::DataWord(at, word)], 5)?;
-        }
+        words_refused(session, call)?;
     }
+    blank_refused(session, write)?;
     let empty = (0..k).filter(|&l| !header.filled(l));
     for stripe in empty.chain([k + 1, k + 2, 32, 64, 1 << 31, u32::MAX]) {
         refused(session, Call::Decode { stripe }, &[], 6)?;
@@ -500,6 +507,54 @@ fn refusals(session: &mut Session) -> Run<()> {
         any_refusal(session)?;
     }
     powers(session)
+}
+
+/// Numbers that no record of a vault of n records has.
+fn no_records(n: u32) -> [u32; 6] {
+    [n, n + 1, 2 * n, 65536, 1 << 31, u32::MAX]
+}
+
+/// Words that are no data words.
+const NO_DATA: [u32; 5] = [65536, 65537, 131_072, 1 << 31, u32::MAX];
+
+fn records_refused(session: &mut Session, call: Call) -> Run<()> {
+    for record in no_records(session.header().records() as u32) {
+        refused(session, call, &[Fault::Record(record)], 4)?;
+    }
+    Ok(())
+}
+
+fn words_refused(session: &mut Session, call: Call) -> Run<()> {
+    for word in NO_DATA {
+        let at = session.random.index(1 << 20);
+        refused(session, call, &[Fault::DataWord(at, word)], 5)?;
+    }
+    Ok(())
+}
+
+/// A write of a blank block: 11, and with another fault the smaller number.
+fn blank_refused(session: &mut Session, write: Call) -> Run<()> {
+    refused(session, write, &[Fault::Blank], 11)?;
+    let n = session.header().records() as u32;
+    for fault in faults::headers(n) {
+        refused(session, write, &[Fault::Blank, fault], 1)?;
+    }
+    for fault in faults::lengths(write) {
+        refused(session, write, &[Fault::Blank, fault], 2)?;
+    }
+    for record in no_records(n) {
+        refused(session, write, &[Fault::Blank, Fault::Record(record)], 4)?;
+    }
+    for word in NO_DATA {
+        let at = session.random.index(1 << 20);
+        refused(
+            session,
+            write,
+            &[Fault::Blank, Fault::DataWord(at, word)],
+            5,
+        )?;
+    }
+    Ok(())
 }
 
 /// Makes a call with these faults, which must give that number.
@@ -545,21 +600,15 @@ fn broken_lists(session: &mut Session, call: Call) -> Run<()> {
     Ok(())
 }
 
-/// Writes a round but for its last write, loses half of each stripe, recovers and explains: by the library alone.
+/// Writes a round but for its last write, loses half of each stripe, recovers and explains: by the library alone, but for the earlier writes.
 fn alone(session: &mut Session) -> Run<()> {
-    let header = session.header();
-    let n = header.records();
-    let mut side = Side::new(header, 0);
-    let raw = data(&mut session.random, header.raw_len());
-    side.raw.set(&raw);
+    let mut side = Side::new(session.header(), 0);
+    let mut book = data(&mut session.random, side.raw.len());
+    side.raw.set(&book);
     let mut numbers = vec![Library::call(&mut side, Call::Open).number];
     let mut written = Vec::new();
-    for _ in 1..n {
-        let block = data(&mut session.random, header.data());
-        side.block.set(&block);
-        let record = session.random.below(n as u64) as u32;
-        numbers.push(Library::call(&mut side, Call::Write { record }).number);
-        written.push(record);
+    for _ in 1..side.header.records() {
+        written.push(write_alone(session, &mut side, &mut book)?);
     }
     numbers.push(Library::call(&mut side, Call::Image).number);
     let header = side.header;
@@ -568,12 +617,41 @@ fn alone(session: &mut Session) -> Run<()> {
     side.erasures.set(&list);
     numbers.push(Library::call(&mut side, Call::Recover).number);
     numbers.push(Library::call(&mut side, Call::Explain).number);
+    let holds = side.records.part() == book && has_blank_write(&side);
+    session.expect(holds, "the library alone did not recover the records")?;
     for stripe in 0..=header.k {
         numbers.push(Library::call(&mut side, Call::Decode { stripe }).number);
     }
-    let holds = numbers.iter().all(|&x| x == 0) && side.records.part() == side.raw.part();
-    session.expect(holds, "the library alone did not recover the records")?;
+    let holds = numbers.iter().all(|&x| x == 0) && side.raw.part() == book;
+    session.expect(holds, "the library alone refused a call")?;
     let holds = side.counts.part() == erasures::counts(header, &marks)
         && side.origins.part() == origins(header, &written);
     session.expect(holds, "the library alone did not explain the recovery")
+}
+
+/// A write of the library's that is taken, or of a blank block one of reference/, as an earlier vault made it: so is the round's last. At times the library is
+/// given a blank block before, and refuses it. Gives the record, which the book has then.
+fn write_alone(session: &mut Session, side: &mut Side, book: &mut [u32]) -> Run<u32> {
+    let (random, header) = (&mut session.random, side.header);
+    let record = random.below(header.records() as u64) as u32;
+    let write = Call::Write { record };
+    let blank = vec![0; header.data()];
+    let mut numbers = Vec::new();
+    if random.below(16) == 0 {
+        side.block.set(&blank);
+        numbers.push((Library::call(side, write).number, 11));
+    }
+    let last = header.c as usize + 2 == header.records();
+    if last || random.below(16) == 0 {
+        side.block.set(&blank);
+        numbers.push((by_reference::earlier_write(side, record), 0));
+    } else {
+        side.block.set(&block(random, header.data()));
+        numbers.push((Library::call(side, write).number, 0));
+    }
+    let start = record as usize * header.data();
+    book[start..start + header.data()].copy_from_slice(side.block.part());
+    let holds = numbers.iter().all(|(given, expected)| given == expected);
+    session.expect(holds, "a write of the library alone gave another number")?;
+    Ok(record)
 }

@@ -1,9 +1,10 @@
 //! A scenario's run: both implementations over buffers that are equal before each call, and must be after it.
 use crate::by_library::Library;
-use crate::by_reference::Reference;
+use crate::by_reference::{self, Reference};
 use crate::calls::{Answer, Call, Calls};
 use crate::lent::{Side, Words};
 use crate::tally::Tally;
+use crate::writes::is_blank;
 use random::Random;
 use reference::header::Header;
 
@@ -111,6 +112,17 @@ impl Session {
         let answer = self.call(call)?;
         (self.library, self.reference) = kept;
         Ok(answer)
+    }
+
+    /// A write of a vault of before number 11, which the library no longer makes: reference/ makes it over the buffers of both. Gives its number.
+    pub fn earlier_write(&mut self, record: u32) -> u32 {
+        let k = self.header().k;
+        by_reference::earlier_write(&mut self.library, record);
+        let number = by_reference::earlier_write(&mut self.reference, record);
+        if number == 0 && is_blank(self.reference.block.part()) {
+            self.tally.count_earlier(k);
+        }
+        number
     }
 
     pub fn difference(&self, text: String) -> Difference {

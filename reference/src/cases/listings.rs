@@ -97,6 +97,56 @@ fn refused(script: &mut Script) {
     }
 }
 
+/// An input in which no write is blank.
+fn taken(script: &mut Script, k: u8, s: u8, writes: usize) -> Vec<u8> {
+    let mut bytes = input(script, k, s, writes);
+    for write in bytes[2..].chunks_mut(2 + 2 * usize::from(s)) {
+        let (_, data) = write.split_at_mut(2);
+        if data.iter().all(|&x| x == 0) {
+            data[script.random.index(data.len())] = 1;
+        }
+    }
+    bytes
+}
+
+/// Makes a write of an input blank.
+fn blank(bytes: &mut [u8], write: usize) {
+    let size = 2 + 2 * usize::from(bytes[1]);
+    bytes[2 + write * size..][2..size].fill(0);
+}
+
+/// Inputs with no blank write, and the same with each write blank, with the last cut short, and with a bad record number before the blank write and after it.
+pub fn add_blanks(script: &mut Script) {
+    for (k, s, writes) in [(1, 1, 3), (2, 1, 5), (2, 2, 4), (3, 3, 2), (5, 16, 1)] {
+        let good = taken(script, k, s, writes);
+        list(script, &good);
+        let size = 2 + 2 * usize::from(s);
+        for write in 0..writes {
+            let mut bytes = good.clone();
+            blank(&mut bytes, write);
+            list(script, &bytes);
+            list(script, &bytes[..2 + (write + 1) * size - 1]);
+            for other in (0..writes).filter(|other| write.abs_diff(*other) <= 1) {
+                let mut bad = bytes.clone();
+                bad[2 + other * size] = 1 << k;
+                list(script, &bad);
+            }
+        }
+    }
+    for (k, s, writes) in [(4, 1, 17), (5, 1, 33), (5, 1, 95), (5, 1, 256)] {
+        let bytes = taken(script, k, s, writes);
+        list(script, &bytes);
+    }
+    // Write 257 is not read, write 256 is.
+    for (k, s) in [(1, 1), (3, 2)] {
+        let mut bytes = taken(script, k, s, 257);
+        blank(&mut bytes, 256);
+        list(script, &bytes);
+        blank(&mut bytes, 255);
+        list(script, &bytes);
+    }
+}
+
 pub fn add(script: &mut Script) {
     accepted(script);
     many(script);

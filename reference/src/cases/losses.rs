@@ -111,6 +111,11 @@ fn gaps(script: &mut Script, lost: &[bool], cover: Cover) -> Vec<(u32, u32)> {
 /// Makes the image anew, loses these positions, and loads the list.
 pub fn damage(script: &mut Script, lost: &[bool], cover: Cover, garbage: Garbage) {
     script.push(Command::Image);
+    erase(script, lost, cover, garbage);
+}
+
+/// Loses these positions of the image as it is, and loads the list.
+pub fn erase(script: &mut Script, lost: &[bool], cover: Cover, garbage: Garbage) {
     let gaps = gaps(script, lost, cover);
     script.erasures(&gaps);
     let bytes = 4 * script.machine.header().width();
@@ -131,8 +136,13 @@ pub fn damage(script: &mut Script, lost: &[bool], cover: Cover, garbage: Garbage
 
 /// Recovers, and decodes each filled stripe.
 pub fn recover_all(script: &mut Script) {
-    let header = script.machine.header();
     script.recover();
+    decode_all(script);
+}
+
+/// Decodes each filled stripe.
+pub fn decode_all(script: &mut Script) {
+    let header = script.machine.header();
     for stripe in (0..=header.k).filter(|&stripe| header.filled(stripe)) {
         script.decode(stripe);
     }
@@ -270,7 +280,7 @@ fn alterations(script: &mut Script, turn: usize) {
 }
 
 /// Each kind of loss and alteration, of the vault as it is.
-fn all(script: &mut Script, turn: usize) {
+pub fn all(script: &mut Script, turn: usize) {
     no_loss(script);
     empty_levels(script);
     losses(script, turn);

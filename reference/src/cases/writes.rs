@@ -5,7 +5,7 @@ use crate::header::Header;
 use crate::script::{Command, Number, Words};
 
 /// An opening and some writes, of which some more are refused.
-fn history(script: &mut Script, k: u32, s: u32, writes: usize) {
+pub fn history(script: &mut Script, k: u32, s: u32, writes: usize) {
     script.open(k, s);
     for _ in 0..writes {
         script.write();
@@ -29,14 +29,16 @@ fn histories(script: &mut Script) {
     }
 }
 
+/// Buffers of any words below a bound; 0: any words.
+pub fn any(script: &mut Script, header: Header, bound: u32) {
+    script.begin(header);
+    for buffer in [Words::Raw, Words::Full, Words::Log] {
+        script.fill(buffer, bound);
+    }
+}
+
 /// Buffers of any words, at every c.
 fn other_buffers(script: &mut Script) {
-    let any = |script: &mut Script, header: Header, bound: u32| {
-        script.begin(header);
-        for buffer in [Words::Raw, Words::Full, Words::Log] {
-            script.fill(buffer, bound);
-        }
-    };
     for (k, s) in [(1, 1), (2, 1), (3, 1), (4, 3)] {
         for c in 0..1 << k {
             any(script, Header { k, s, c }, 0);
@@ -44,7 +46,11 @@ fn other_buffers(script: &mut Script) {
             script.write();
         }
     }
-    // Words at the edges: p - 1, p, p + 1, twice p, and the greatest.
+    edges(script);
+}
+
+/// Buffers of words at the edges: p - 1, p, p + 1, twice p, and the greatest; and the buffers of large vaults.
+pub fn edges(script: &mut Script) {
     for c in 0..4 {
         any(script, Header { k: 2, s: 1, c }, 65538);
         for (i, word) in [65536, 65537, 65538, 131074, u32::MAX].iter().enumerate() {

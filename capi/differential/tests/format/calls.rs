@@ -1,7 +1,7 @@
 //! Calls made of the library and of reference/ side by side, which have to give and leave the same.
 use reference::header::Header as ReferenceHeader;
 use reference::{explanation, image, opening, powers, recovery, writing};
-use vault_library::{calls, sizes, Fault, Header, Refusal, Vault};
+use vault_library::{calls, sizes, Fault, Header, Refusal};
 
 /// The same header for reference/, which has its own type so as to stand alone.
 pub fn reference_header(header: Header) -> ReferenceHeader {
@@ -9,29 +9,40 @@ pub fn reference_header(header: Header) -> ReferenceHeader {
     ReferenceHeader { k, s, c }
 }
 
-/// A vault of the library's, and the buffers of one of reference/ that is given the same.
-pub struct Both {
-    library: Vault,
-    header: ReferenceHeader,
+/// The buffers of a vault.
+#[derive(Clone, Debug, PartialEq)]
+struct Buffers {
     raw: Vec<u32>,
     full: Vec<u32>,
     log: Vec<u32>,
 }
 
+/// A vault of the library's, and one of reference/ that is given the same: they have the same header and buffers after each call.
+pub struct Both {
+    pub header: Header,
+    ours: Buffers,
+    theirs: Buffers,
+}
+
 impl Both {
     /// An opening, which both accept.
     pub fn open(k: u32, s: u32, raw: Vec<u32>) -> Both {
-        let library = Vault::open(k, s, raw.clone()).expect("an opening");
-        let mut full = vec![0; sizes::full(k, s)];
-        let mut log = vec![0; sizes::log(k, s)];
-        let (refusal, header) = opening::open(k, s, &raw, &mut full, &mut log);
-        assert_eq!(refusal, 0);
-        Both {
-            library,
-            header,
+        let mut ours = Buffers {
             raw,
-            full,
-            log,
+            full: vec![0; sizes::full(k, s)],
+            log: vec![0; sizes::log(k, s)],
+        };
+        let mut theirs = ours.clone();
+        let Buffers { raw, full, log } = &mut ours;
+        let header = calls::open(k, s, raw, full, log).expect("an opening");
+        let Buffers { raw, full, log } = &mut theirs;
+        let opened = opening::open(k, s, raw, full, log);
+        assert_eq!(opened, (0, reference_header(header)));
+        assert_eq!(ours, theirs, "the library's, and those of reference/");
+        Both {
+            header,
+            ours,
+            theirs,
         }
     }
 
@@ -42,22 +53,50 @@ impl Both {
 
     /// A write, which both accept.
     pub fn write(&mut self, record: u32, block: &[u32]) {
-        assert_eq!(self.library.write(record, block), Ok(()));
-        let (raw, full, log) = (&mut self.raw, &mut self.full, &mut self.log);
-        let (refusal, header) = writing::write(self.header, raw, full, log, record, block);
-        assert_eq!(refusal, 0);
-        self.header = header;
+        assert_eq!(self.any_write(record, block), 0);
+    }
+
+    /// A write, which both accept or refuse. Gives its number.
+    pub fn any_write(&mut self, record: u32, block: &[u32]) -> u32 {
+        let plain = reference_header(self.header);
+        let Buffers { raw, full, log } = &mut self.ours;
+        let written = calls::write(&mut self.header, raw, full, log, record, block);
+        let number = written.map_or_else(Refusal::number, |()| 0);
+        let Buffers { raw, full, log } = &mut self.theirs;
+        let theirs = writing::write(plain, raw, full, log, record, block);
+        assert_eq!((number, reference_header(self.header)), theirs);
+        assert_eq!(
+            self.ours, self.theirs,
+            "the library's, and those of reference/"
+        );
+        number
+    }
+
+    /// An earlier write, which the library no longer makes: both have what it leaves by reference/. Gives its number.
+    pub fn earlier_write(&mut self, record: u32, block: &[u32]) -> u32 {
+        let plain = reference_header(self.header);
+        let Buffers { raw, full, log } = &mut self.theirs;
+        let (number, header) = writing::earlier_write(plain, raw, full, log, record, block);
+        self.header.c = header.c;
+        self.ours = self.theirs.clone();
+        number
+    }
+
+    /// The raw copy that both have.
+    pub fn records(&self) -> &[u32] {
+        &self.ours.raw
     }
 
     /// The header and the image that both have.
     pub fn image(&self) -> (Header, Vec<u8>) {
-        let header = self.library.header();
-        assert_eq!(reference_header(header), self.header);
-        let ours = self.library.image().expect("an image");
-        let mut theirs = vec![0; self.header.image_len()];
-        let refusal = image::image(self.header, &self.full, &self.log, &mut theirs);
+        let Buffers { full, log, .. } = &self.ours;
+        let mut ours = vec![0; sizes::image(self.header.k, self.header.s)];
+        calls::image(self.header, full, log, &mut ours).expect("an image");
+        let Buffers { full, log, .. } = &self.theirs;
+        let mut theirs = vec![0; ours.len()];
+        let refusal = image::image(reference_header(self.header), full, log, &mut theirs);
         assert_eq!((refusal, &theirs), (0, &ours));
-        (header, ours)
+        (self.header, ours)
     }
 }
 

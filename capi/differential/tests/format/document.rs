@@ -53,10 +53,13 @@ pub fn table<'a>(lines: &'a [String], head: &str, least: usize) -> Vec<Vec<&'a s
     rows
 }
 
-/// What the paragraph that begins so has at the holes of a pattern, which all that follows has to fit.
+/// What the paragraph that begins so has at the holes of a pattern, which all that follows has to fit. The lines of an item of a list are indented.
 pub fn said<const N: usize>(lines: &[String], start: &str, pattern: &str) -> [String; N] {
     let rest = lines[place(lines, start)..].iter();
-    let part: Vec<&str> = rest.map(|x| &x[..]).take_while(|x| !x.is_empty()).collect();
+    let part: Vec<&str> = rest
+        .map(|x| x.trim_start())
+        .take_while(|x| !x.is_empty())
+        .collect();
     fit(&part.join(" "), &format!("{start}{pattern}")).map(String::from)
 }
 

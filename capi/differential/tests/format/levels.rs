@@ -17,8 +17,8 @@ fn section_5_writes_of_levels() {
         assert_eq!((header.c, number(row[0])), (c, c));
         for (level, cell) in (0..k).rev().zip(&row[1..]) {
             let left = decode_stripe(header, &image, &[], level);
-            // Write t put t into record t.
-            let words = left.out.chunks(2).take(1 << level).map(|x| x[1]);
+            // Write t put t + 1 into record t: a blank block would be refused.
+            let words = left.out.chunks(2).take(1 << level).map(|x| x[1] - 1);
             let given = match left.number {
                 0 => joined(words, ", "),
                 6 => "empty".to_string(),
@@ -26,6 +26,6 @@ fn section_5_writes_of_levels() {
             };
             assert_eq!(*cell, given, "c = {c}");
         }
-        vault.write(c, &[c]);
+        vault.write(c, &[c + 1]);
     }
 }

@@ -76,7 +76,8 @@ fn all_calls(k: u32, s: u32, lengths: [usize; 11]) -> Result<(), Refusal> {
     let (mut raw, mut full, mut log) = (words(raw), words(full), words(log));
     let (mut scratch, mut image) = (words(scratch), vec![0; image]);
     let mut header = calls::open(k, s, &raw, &mut full, &mut log)?;
-    calls::write(&mut header, &mut raw, &mut full, &mut log, 0, &words(block))?;
+    let block = vec![1; block];
+    calls::write(&mut header, &mut raw, &mut full, &mut log, 0, &block)?;
     calls::image(header, &full, &log, &mut image)?;
     calls::powers(&mut words(powers))?;
     calls::decode(header, &image, &[], k, &mut words(blocks), &mut scratch)?;
@@ -170,7 +171,7 @@ fn section_3_places_of_stripes() {
 
     let mut vault = Both::zeros(k, s);
     for _ in 1..1 << k {
-        vault.write(0, &vec![0; s as usize]);
+        vault.write(0, &vec![1; s as usize]);
     }
     let (header, image) = vault.image();
     for (stripe, row) in stripes_in_order(k).zip(rows) {
