@@ -1,6 +1,6 @@
 -- BLANK BLOCKS: today's write beside the earlier one, with any header and any buffers; zero records opened; and blank blocks after a history. Assumes nothing.
 use mathlib.Core.Path.{_≡_, refl, sym, ap, ap₂, _∙_}
-use mathlib.Core.Bool.{Bool, true, false, _&&_, not}
+use mathlib.Core.Bool.{Bool, true, false, false≢true, _&&_, not}
 use mathlib.Core.Logic.{_⊎_, inl, inr, ⊎-elim}
 use mathlib.Core.List.{List, [], _∷_, _++_}
 use Prim.Native.Nat.{ℕ, suc, _+_, _*_, _^_, _≤_, _<_}
@@ -10,7 +10,7 @@ use lib.ListN.{length, replicate, length-replicate}
 use borrow.Author.Tests.{eq-eqb, lt-ltb}
 use Rattle.field.proofs.Booleans.{chosen-first, chosen-second, either}
 use Rattle.layout.specs.Header.{headerOf, count, headerFits, rawSize, fullSize, logSize}
-use Rattle.layout.specs.Records.{every, areData, isZero, isBlank, recordIn, replaced, recordsFit}
+use Rattle.layout.specs.Records.{every, isData, areData, isZero, isBlank, recordIn}
 use Rattle.layout.specs.Refusals.{Tests, done, test, refusal}
 use Rattle.layout.proofs.EveryWord.{zeros-blank, blank-zeros, zeros-data}
 use Rattle.layout.proofs.RecordWords.{replaced-is, record-same, record-end, fit-all}
@@ -21,18 +21,15 @@ use Rattle.store.specs.StoreCalls.{buffersFit, numbered, leaving, writeNumber, 
 use Rattle.vault.specs.Event.{Opening, Event, write, earlier}
 use Rattle.vault.specs.History.{Vault, vault, numberOn, step, after, Opens, openedVault, vaultAfter}
 use Rattle.vault.specs.Model.{Model, wordsFit, wordsZero, judged, tableNumber, put, fed, fedAll, openedModel, modelOf}
-use Rattle.vault.specs.Promises.{GivesEleven, ElseAsEarlier, RefusedStays, ZerosOpen, BlankRefused, BlankKept}
+use Rattle.vault.specs.Promises.{GivesEleven, ElseAsEarlier, FiveNotBlank, RefusedStays, ZerosOpen, BlankRefused, BlankKept}
 use Rattle.vault.proofs.Histories.{data-fit, blank-zero, sizesStay, recordsLong, numbersAre}
 
 -- FOUR TESTS AND MORE: either the four hold, and the others decide, or the first of the four that fails does, whatever follows
-module _ (p q r s : Bool) (more : Tests) where
-  abbrev four : Tests → ℕ
-  four ts = refusal (test p 1 (test q 2 (test r 4 (test s 5 ts))))
+abbrev four : (p q r s : Bool) → Tests → ℕ
+four p q r s ts = refusal (test p 1 (test q 2 (test r 4 (test s 5 ts))))
 
-  abbrev Decided : Type 0
-  Decided = ((four done ≡ 0) × (four more ≡ refusal more)) ⊎ ((0 < four done) × (four done < 11) × (four more ≡ four done))
-
-decided : (p q r s : Bool) (more : Tests) → Decided p q r s more
+decided : (p q r s : Bool) (more : Tests) → let n = four p q r s done in
+    ((n ≡ 0) × (four p q r s more ≡ refusal more)) ⊎ ((0 < n) × (n < 11) × (four p q r s more ≡ n))
 unfolding refusal
 decided false q r s more = inr (omega arith, omega arith, refl)
 decided true false r s more = inr (omega arith, omega arith, refl)
@@ -91,6 +88,20 @@ pub elseAsEarlier : ElseAsEarlier
 elseAsEarlier v i b d =
     let e = same-number v i b d in
     (e, ap (λ (n : ℕ). vault (numbered n (v .header) .header) (leaving n (v .header) (v .held) i b)) e)
+
+never-five : (p q r s : Bool) → s ≡ true → four p q r s done ≡ 5 → ⊥
+unfolding refusal
+never-five false q r s t e = omega arith
+never-five true false r s t e = omega arith
+never-five true true false s t e = omega arith
+never-five true true true true t e = omega arith
+never-five true true true false t e = false≢true t
+
+pub fiveNotBlank : FiveNotBlank
+fiveNotBlank v i b e blank =
+    let h = v .header in
+    never-five (headerFits h) (buffersFit h (v .held) && eqb (length b) (h .s)) (ltb i (count h)) (areData b)
+    (ap (every isData) blank ∙ zeros-data (length b)) e
 
 pub refusedStays : RefusedStays
 refusedStays v (write i b) d = let h = v .header in ap₂ vault (if-refused (nextHeader h) h d) (if-refused (written h (v .held) i b) (v .held) d)

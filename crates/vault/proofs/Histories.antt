@@ -236,7 +236,8 @@ module _ (a : Round) (good : Good a) (i : ℕ) (b : List ℕ) where
 
     abbrev Turned : Type 0
     Turned =
-        Represents (choose judged-zero (grown a x) a) (vault (numbered given h .header) (leaving given h u i b)) (choose judged-zero (put (modelIn a) i b) (modelIn a))
+        Represents (choose judged-zero (grown a x) a) (vault (numbered given h .header) (leaving given h u i b))
+        (choose judged-zero (put (modelIn a) i b) (modelIn a))
 
     turned : Turned
     turned = go judged-zero refl

@@ -8,9 +8,9 @@ use Rattle.vault.proofs.Explaining.{agrees, countsAre, countsSharp, exp
 use Rattle.vault.proofs.ExplainedRounds.{explainsWhy}
 use Rattle.vault.proofs.LastWrites.{lastIsRecord, elseAtStart}
 use Rattle.vault.proofs.Origins.{originsTrue, oneOrigin}
-use Rattle.vault.proofs.Blanks.{givesEleven, elseAsEarlier, refusedStays, zerosOpen, blankRefused, blankKept}
+use Rattle.vault.proofs.Blanks.{givesEleven, elseAsEarlier, fiveNotBlank, refusedStays, zerosOpen, blankRefused, blankKept}
 use Rattle.vault.proofs.Boundary.{partIs, noneNamed, noneExplained}
-use Rattle.vault.proofs.Worked.{worked}
+use Rattle.vault.proofs.Worked.{worked, worked-blanks}
 
 pub proved : Promises
 proved = record {
@@ -50,6 +50,7 @@ proved = record {
   else-at-start = elseAtStart;
   gives-eleven = givesEleven;
   else-as-earlier = elseAsEarlier;
+  five-not-blank = fiveNotBlank;
   refused-stays = refusedStays;
   zeros-open = zerosOpen;
   blank-refused = blankRefused;
@@ -58,4 +59,5 @@ proved = record {
   none-named = noneNamed;
   none-explained = noneExplained;
   worked = worked;
+  worked-blanks = worked-blanks;
 }

@@ -1,4 +1,4 @@
--- Every entry of the table of worked examples holds, by computing. Assumes nothing.
+-- Every entry of the tables of worked examples holds, by computing. Assumes nothing.
 use mathlib.Core.Path.{refl as is}
 use Rattle.field.specs.Residue.{plus, minus, times}
 use Rattle.field.specs.Power.{powerFrom, power, inverse}
@@ -23,13 +23,22 @@ use Rattle.explanation.specs.Counts.{left, shortfall}
 use Rattle.layout.specs.Refusals.{refusal}
 use Rattle.vault.specs.History.{after}
 use Rattle.vault.specs.Model.{wordsFit, wordsZero, fedAll}
-use Rattle.vault.specs.Worked.{Holds, examples}
+use Rattle.vault.specs.Worked.{Holds, examples, blankExamples}
 
-pub worked : Holds examples
+all-worked : Holds examples × Holds blankExamples
 unfolding plus minus times powerFrom power inverse lift slopes interpolate rootOf Words.table sumAt differenceAt mixed transform scaled reversed turned column
     columnsFrom
     rowOf rowsFrom lifted coded codedRows survivorsFrom pointAt valueAt bitReversed decodedColumn agrees consistentColumn consistentTo decodedRows every
     recordsFit reduced
     blocksFrom firstEmpty rebuiltHalf little bytesOf numberOf erasuresFrom erasuresRise touched flagsFrom markAt survivingAt areBelow areRecords laid levelsOver
     refusal after wordsFit wordsZero fedAll pairsTo left shortfall originsLaid
-worked = (is, (is, (is, (is, (is, (is, (is, (is, (is, (is, (is, (is, (is, (is, (is, (is, (is, (is, (is, (is, (is, (is, (is, (is, (is, tt)))))))))))))))))))))))))
+all-worked = (
+  (is, (is, (is, (is, (is, (is, (is, (is, (is, (is, (is, (is, (is, (is, (is, (is, (is, (is, (is, (is, tt)))))))))))))))))))),
+  (is, (is, (is, (is, (is, tt))))),
+)
+
+pub worked : Holds examples
+worked = all-worked .0
+
+pub worked-blanks : Holds blankExamples
+worked-blanks = all-worked .1

@@ -102,7 +102,7 @@ use Rattle.vault.specs.Model.{Model, writes, tableNumber, modelOf, writt
 use Rattle.vault.specs.History.{Vault, numberOn, step, Opens, vaultAfter, headerAfter, imageAfter}
 use Rattle.vault.specs.Round.{putAll, rowsOf, modelIn, roundOf, levelEntries, represent}
 use Rattle.vault.specs.Boundary.{PartIs, NoneNamed, NoneExplained}
-use Rattle.vault.specs.Worked.{Holds, examples}
+use Rattle.vault.specs.Worked.{Holds, examples, blankExamples}
 
 -- 1. THE HEADER after any history has the opening's k and s, and its c is the model's count
 abbrev pub HeaderIs : Type 0
@@ -404,6 +404,10 @@ ElseAsEarlier =
     (v : Vault) (i : ℕ) (b : List ℕ) → (numberOn v (write i b) ≡ 11 → ⊥) →
     (numberOn v (write i b) ≡ numberOn v (earlier i b)) × (step v (write i b) ≡ step v (earlier i b))
 
+-- a block to which 5 applies is never blank: which of the two tests comes first shows in no answer
+abbrev pub FiveNotBlank : Type 0
+FiveNotBlank = (v : Vault) (i : ℕ) (b : List ℕ) → numberOn v (earlier i b) ≡ 5 → Blank b → ⊥
+
 -- an event that is refused, by any number, leaves the header and all buffers as they are
 abbrev pub RefusedStays : Type 0
 RefusedStays = (v : Vault) (next : Event) → (numberOn v next ≡ 0 → ⊥) → step v next ≡ v
@@ -469,6 +473,7 @@ pub record Promises : Type 0 where
   pub else-at-start : ElseAtStart
   pub gives-eleven : GivesEleven
   pub else-as-earlier : ElseAsEarlier
+  pub five-not-blank : FiveNotBlank
   pub refused-stays : RefusedStays
   pub zeros-open : ZerosOpen
   pub blank-refused : BlankRefused
@@ -477,3 +482,4 @@ pub record Promises : Type 0 where
   pub none-named : NoneNamed
   pub none-explained : NoneExplained
   pub worked : Holds examples
+  pub worked-blanks : Holds blankExamples

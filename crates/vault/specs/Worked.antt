@@ -1,5 +1,6 @@
--- The worked examples P1 to P12 of docs/FORMAT.md, section 12, k = 2 and s = 1, as entries of one table: what a definition gives, and what is said there.
--- `worked` of proofs/Worked proves that each entry holds. Assumes nothing: these are definitions.
+-- The worked examples P1 to P12 of docs/FORMAT.md, section 12, k = 2 and s = 1, as entries of one table: what a definition gives, and what is said there; and
+-- examples of blank blocks as those of another. `worked` and `worked-blanks` of proofs/Worked prove that each entry holds. Assumes nothing: these are
+-- definitions.
 use mathlib.Core.Path.{_≡_}
 use mathlib.Core.Bool.{Bool, true, false}
 use mathlib.Core.List.{List, [], _∷_, _++_}
@@ -88,13 +89,8 @@ goingBack es =
     let m = modelOf zeroRecords es in
     m .records ++ (getD (m .before) 0 [] ++ getD (m .before) 1 [])
 
--- a record is written, and another; an earlier write makes the first one blank, and a write that would make the second one so is refused
-abbrev pub withBlanks : List Event
-withBlanks = write 0 (1 ∷ []) ∷ write 1 (2 ∷ []) ∷ earlier 0 (0 ∷ []) ∷ write 1 (0 ∷ []) ∷ []
-
--- P1 to P12 in order; P7, P8, P9 and P12 have two entries each. Those after them have no number: the model goes back, and a round's end is as far as it goes;
--- explaining says where each record is, and how many positions a stripe lacks; and a blank block is refused 11, after 2 and 4, but an earlier write of one is
--- entered, recovered and explained
+-- P1 to P12 in order; P7, P8, P9 and P12 have two entries each. The last four have no number: the model goes back, and a round's end is as far as it goes; and
+-- explaining says where each record is, and how many positions a stripe lacks
 abbrev pub examples : Table
 examples =
     entry (coded 65537 root4 2 1 0 (1 ∷ 2 ∷ [])) (3 ∷ 65536 ∷ 65026 ∷ 513 ∷ [])
@@ -118,9 +114,19 @@ examples =
     (entry (explaining (after opening (write 0 (1 ∷ []) ∷ write 0 (2 ∷ []) ∷ [])) [])
     (0 ∷ 0 ∷ 0 ∷ 0 ∷ 0 ∷ 4 ∷ 0 ∷ 8 ∷ 0 ∷ 1 ∷ 1 ∷ 2 ∷ 0 ∷ 2 ∷ 0 ∷ 2 ∷ 0 ∷ [])
     (entry (explaining opening (pair 0 33)) (7 ∷ 1 ∷ 2 ∷ 0 ∷ 0 ∷ 0 ∷ 0 ∷ 3 ∷ 1 ∷ zeros 8)
-    (entry (numberOn opening (write 0 (0 ∷ [])) ∷ numberOn opening (write 4 (0 ∷ [])) ∷ numberOn opening (write 0 (0 ∷ 0 ∷ [])) ∷ []) (11 ∷ 4 ∷ 2 ∷ [])
+    end)))))))))))))))))))
+
+-- a record is written, and another; an earlier write makes the first one blank, and a write that would make the second one so is refused
+abbrev pub withBlanks : List Event
+withBlanks = write 0 (1 ∷ []) ∷ write 1 (2 ∷ []) ∷ earlier 0 (0 ∷ []) ∷ write 1 (0 ∷ []) ∷ []
+
+-- a blank block is refused 11, after 2 and 4, where it is written, and taken where it was written earlier. What was so written is recovered, is in the model,
+-- and is explained
+abbrev pub blankExamples : Table
+blankExamples =
+    entry (numberOn opening (write 0 (0 ∷ [])) ∷ numberOn opening (write 4 (0 ∷ [])) ∷ numberOn opening (write 0 (0 ∷ 0 ∷ [])) ∷ []) (11 ∷ 4 ∷ 2 ∷ [])
     (entry (numberOn opening (earlier 0 (0 ∷ [])) ∷ numberOn opening (earlier 4 (0 ∷ [])) ∷ numberOn opening (earlier 0 (0 ∷ 0 ∷ [])) ∷ []) (0 ∷ 4 ∷ 2 ∷ [])
     (entry (recovery (after opening withBlanks) []) (0 ∷ 0 ∷ 0 ∷ 0 ∷ 2 ∷ 0 ∷ 0 ∷ [])
     (entry (goingBack withBlanks) (0 ∷ 2 ∷ 0 ∷ 0 ∷ 1 ∷ 2 ∷ 0 ∷ 0 ∷ 1 ∷ 0 ∷ 0 ∷ 0 ∷ [])
     (entry (explaining (after opening withBlanks) []) (0 ∷ 0 ∷ 0 ∷ 2 ∷ 0 ∷ 4 ∷ 0 ∷ 8 ∷ 0 ∷ 0 ∷ 2 ∷ 1 ∷ 1 ∷ 2 ∷ 0 ∷ 2 ∷ 0 ∷ [])
-    end))))))))))))))))))))))))
+    end))))
