@@ -3,7 +3,7 @@ use mathlib.Core.Path.{_≡_, refl, sym, ap, ap₂, _∙_}
 use mathlib.Core.Bool.{Bool, true, false, false≢true, _&&_, not}
 use mathlib.Core.Logic.{_⊎_, inl, inr, ⊎-elim}
 use mathlib.Core.List.{List, [], _∷_, _++_}
-use Prim.Native.Nat.{ℕ, suc, _+_, _*_, _^_, _≤_, _<_}
+use Prim.Native.Nat.{ℕ, _+_, _*_, _^_, _≤_, _<_}
 use native.Mathlib.Omega.{arith}
 use lib.Dec.{eqb, ltb}
 use lib.ListN.{length, replicate, length-replicate}
@@ -15,9 +15,8 @@ use Rattle.layout.specs.Refusals.{Tests, done, test, refusal}
 use Rattle.layout.proofs.EveryWord.{zeros-blank, blank-zeros, zeros-data}
 use Rattle.layout.proofs.RecordWords.{replaced-is, record-same, record-end, fit-all}
 use Rattle.layout.proofs.Refusals.{equal-three, test-holds, none-fails, if-refused}
-use Rattle.store.specs.Buffers.{buffers}
 use Rattle.store.specs.Writing.{nextHeader, written}
-use Rattle.store.specs.StoreCalls.{buffersFit, numbered, leaving, writeNumber, earlierNumber}
+use Rattle.store.specs.StoreCalls.{buffersFit, numbered, leaving}
 use Rattle.vault.specs.Event.{Opening, Event, write, earlier}
 use Rattle.vault.specs.History.{Vault, vault, numberOn, step, after, Opens, openedVault, vaultAfter}
 use Rattle.vault.specs.Model.{Model, wordsFit, wordsZero, judged, tableNumber, put, fed, fedAll, openedModel, modelOf}
