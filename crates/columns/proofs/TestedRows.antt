@@ -12,7 +12,7 @@ use lib.Dec.{eqb}
 use lib.ListN.{getD, take, drop}
 use lib.Seq.{drop-drop}
 use Rattle.layout.specs.Records.{isData, areData}
-use Rattle.layout.proofs.EveryWord.{every-parts}
+use Rattle.field.proofs.EveryWord.{every-parts}
 use Rattle.columns.specs.steps.Ranges.{placesTo, dataTo, columnsFit}
 use Rattle.field.proofs.Booleans.{both-true, first-false, second-false}
 

@@ -8,6 +8,7 @@ pub mod Certificate
 pub mod Divisors
 pub mod Primes
 pub mod WordLists
+pub mod EveryWord
 pub mod Polynomials
 pub mod PowersOfTwo
 pub mod Unity

@@ -1,45 +1,34 @@
 -- The words of a stripe out of an image: the loops that load them and test them, and what the loaded words are to the decoder. Assumes nothing.
 use mathlib.Core.Path.{_≡_, refl, sym, ap, ap₂, _∙_}
-use mathlib.Core.Bool.{Bool, true, false, _&&_, and-true, and-false, and-assoc}
-use mathlib.Core.List.{List, [], _∷_, _++_}
+use mathlib.Core.Bool.{Bool, true, false, _&&_, and-true, and-false}
+use mathlib.Core.List.{List, _++_}
 use Prim.Native.Nat.{ℕ, zero, suc, _+_, _*_, _/_, _%_, _≤_, _<_}
 use native.Mathlib.Nat.{zero-mul}
 use native.Mathlib.Decide.{decLt}
-use native.Mathlib.Numerals.{add-one}
 use native.Mathlib.Omega.{arith}
 use lib.Arith.{digits-lt, digits-div, digits-mod}
 use lib.Dec.{ltb}
 use borrow.Author.Tests.{ltb-true, lt-ltb, le-ltb}
 use lib.ListN.{length, getD, take, drop, length-take, length-drop, take-append-drop, drop-of-length-le, List·getD-eq-default}
-use lib.Seq.{length-take-le, drop-drop, drop-cons, getD-take, getD-drop}
-use Rattle.field.specs.Words.{Words, table}
-use Rattle.field.proofs.WordLists.{words-nil, words-cons, words-table, length-table, getD-table, is-table, part-inside}
+use lib.Seq.{length-take-le, drop-drop, getD-take, getD-drop}
+use Rattle.field.specs.Words.{Words, every, table}
+use Rattle.field.proofs.EveryWord.{every-append, every-next, every-end, every-words}
+use Rattle.field.proofs.WordLists.{words-table, length-table, getD-table, is-table, part-inside}
 use Rattle.code.proofs.Lifting.{row-next, row-in}
 use Rattle.layout.specs.declared.Header.{Header}
 use Rattle.layout.specs.Header.{width, stripeSize, stripeAt}
 use Rattle.image.specs.Image.{numberOf, numberAt, wordAt, wordsOf}
-use Rattle.image.specs.Loading.{stripeIn, survivingAt, surviving, areBelow}
+use Rattle.image.specs.Loading.{stripeIn, survivingAt, surviving, isBelow, areBelow}
 use Rattle.image.specs.steps.Loading.{columnsWord, columnsOf, rowWord}
 
 -- WORDS BELOW p
-below-append : (p : ℕ) (a b : List ℕ) → areBelow p (a ++ b) ≡ (areBelow p a && areBelow p b)
-unfolding areBelow
-below-append p [] b = refl
-below-append p (x ∷ a) b = rw (below-append p a b) (sym (and-assoc (ltb x p) (areBelow p a) (areBelow p b)))
-
 pub below-zeros : (p n : ℕ) → 0 < p → areBelow p (table n (λ k. 0)) ≡ true
-unfolding areBelow table
+unfolding every table
 below-zeros p zero h = refl
 below-zeros p (suc n) h = rw (lt-ltb 0 p h) (below-zeros p n h)
 
-both : (t u : Bool) → (t && u) ≡ true → (t ≡ true) × (u ≡ true)
-both true u e = (refl, e)
-both false u e = (e, cc)
-
 pub below-words : (p : ℕ) → 0 < p → (l : List ℕ) → areBelow p l ≡ true → Words p l
-unfolding areBelow
-below-words p h [] e = words-nil p h
-below-words p h (x ∷ l) e = let t = both (ltb x p) (areBelow p l) e in words-cons p h (ltb-true x p (t .0)) (below-words p h l (t .1))
+below-words p h l e = every-words (isBelow p) h (λ x t. ltb-true x p t) l e
 
 -- the loop over the words of a row: before word j, all words passed were fine, and the rest have to be below p
 pub record BelowLoop (p n : ℕ) (f : ℕ → ℕ) (fine : Bool) (j : ℕ) : Type 0 where
@@ -47,10 +36,9 @@ pub record BelowLoop (p n : ℕ) (f : ℕ → ℕ) (fine : Bool) (j : ℕ) : Typ
   pub left : (fine && areBelow p (drop j (table n f))) ≡ areBelow p (table n f)
 
 below-next : (p n : ℕ) (f : ℕ → ℕ) (j : ℕ) → j < n → areBelow p (drop j (table n f)) ≡ (ltb (f j) p && areBelow p (drop (j + 1) (table n f)))
-unfolding areBelow
 below-next p n f j h =
     let b : j < length (table n f) = rw length-table h in
-    rw (add-one j, drop-cons (table n f) j 0 b, getD-table n j f h)
+    every-next (isBelow p) (table n f) j (ltb (f j) p) b (ap (isBelow p) (getD-table n j f h))
 
 module _ {p n : ℕ} {f : ℕ → ℕ} where
   pub below-start : BelowLoop p n f true 0
@@ -64,10 +52,7 @@ module _ {p n : ℕ} {f : ℕ → ℕ} where
     below-over b = record { within = omega arith; left = sym (and-false fine) ∙ (rw (below-next p n f j h, ← e, le-ltb x p b) at (r .left)) }
 
   pub below-end : {fine : Bool} {j : ℕ} → BelowLoop p n f fine j → n ≤ j → fine ≡ areBelow p (table n f)
-  unfolding areBelow
-  below-end {fine} {j} r h =
-      let e : drop j (table n f) ≡ [] = drop-of-length-le (table n f) {i = j} (rw length-table h) in
-      sym (and-true fine) ∙ (rw e at (r .left))
+  below-end {fine} {j} r h = sym (and-true fine) ∙ (rw (every-end (isBelow p) (table n f) j (rw length-table h)) at (r .left))
 
 -- ROWS OF A TABLE. The m words from k on are a table of their own
 row-of : (n k m : ℕ) (f g : ℕ → ℕ) → k + m ≤ n → ((j : ℕ) → j < m → f (k + j) ≡ g j) → drop k (table n f) ≡ table m g ++ drop (k + m) (table n f)
@@ -137,7 +122,7 @@ rows-start p rows width f = record { within = omega arith; left = ap (λ (n : �
 module _ {p rows width : ℕ} {f : ℕ → ℕ} {i : ℕ} (r : RowsLoop p rows width f i) (h : i < rows) (g : ℕ → ℕ) (e : (j : ℕ) → j < width
     → f (i * width + j) ≡ g j) where
   rows-next : (areBelow p (table width g) && areBelow p (drop ((i + 1) * width) (table (rows * width) f))) ≡ areBelow p (table (rows * width) f)
-  rows-next = rw (row-next i width, ← below-append, ← row-of (rows * width) (i * width) width f g (row-in width h) e) (r .left)
+  rows-next = rw (row-next i width, ← every-append (isBelow p), ← row-of (rows * width) (i * width) width f g (row-in width h) e) (r .left)
 
   pub rows-turn : areBelow p (table width g) ≡ true → RowsLoop p rows width f (i + 1)
   rows-turn t = record { within = omega arith; left = rw t at rows-next }
@@ -146,11 +131,9 @@ module _ {p rows width : ℕ} {f : ℕ → ℕ} {i : ℕ} (r : RowsLoop p rows w
   rows-over t = rw t at rows-next
 
 pub rows-end : {p rows width : ℕ} {f : ℕ → ℕ} {i : ℕ} → RowsLoop p rows width f i → rows ≤ i → true ≡ areBelow p (table (rows * width) f)
-unfolding areBelow
 rows-end {p} {rows} {width} {f} {i} r h =
     let e : i ≡ rows = omega (arith, r .within) in
-    let d : drop (i * width) (table (rows * width) f) ≡ [] = drop-of-length-le (table (rows * width) f) {i = i * width} (rw (e, length-table) (omega arith)) in
-    rw d at (r .left)
+    sym (every-end (isBelow p) (table (rows * width) f) (i * width) (rw (e, length-table) (omega arith))) ∙ r .left
 
 -- WORDS OF THE FIELD, in all rows and in a range of columns
 pub columns-words : (p width from cols n : ℕ) (r : List ℕ) → 0 < p → areBelow p r ≡ true → Words p (columnsOf width from cols n r)

@@ -1,10 +1,10 @@
 -- A stripe's bytes in an image, and its words with 0 at erased positions. Assumes nothing: these are definitions.
-use mathlib.Core.Bool.{Bool, true, false, _&&_}
-use mathlib.Core.List.{List, [], _∷_}
+use mathlib.Core.Bool.{Bool, true, false}
+use mathlib.Core.List.{List}
 use Prim.Native.Nat.{ℕ, _*_, _/_}
 use lib.Dec.{ltb}
 use lib.ListN.{getD, take, drop}
-use Rattle.field.specs.Words.{table}
+use Rattle.field.specs.Words.{table, every}
 use Rattle.layout.specs.declared.Header.{Header}
 use Rattle.layout.specs.Header.{stripeAt, stripeSize}
 
@@ -19,6 +19,8 @@ survivingAt width ms r q = elim (getD ms (q / width) false) [ true ↦ 0 | false
 abbrev pub surviving : (width n : ℕ) → (marks : List Bool) → (rows : List ℕ) → List ℕ
 surviving width n ms r = table (n * width) (survivingAt width ms r)
 
-unfoldable pub areBelow : (p : ℕ) → List ℕ → Bool
-areBelow p [] = true
-areBelow p (x ∷ xs) = ltb x p && areBelow p xs
+abbrev pub isBelow : (p : ℕ) → ℕ → Bool
+isBelow p x = ltb x p
+
+abbrev pub areBelow : (p : ℕ) → List ℕ → Bool
+areBelow p xs = every (isBelow p) xs

@@ -1,6 +1,5 @@
 pub mod Bounds
 pub mod Counting
-pub mod EveryWord
 pub mod RecordWords
 pub mod Refusals
 pub mod StripePlaces

@@ -1,5 +1,5 @@
 -- Laws of specs/Records: data words, records replaced, and records that fit. Assumes nothing.
-use mathlib.Core.Path.{_≡_, refl, sym, ap, _∙_}
+use mathlib.Core.Path.{_≡_, refl, sym, ap, ap₂, _∙_}
 use mathlib.Core.Bool.{true, false}
 use mathlib.Core.Logic.{⊎-elim}
 use mathlib.Core.List.{List, [], _∷_, _++_, append-assoc}
@@ -8,26 +8,33 @@ use native.Mathlib.Nat.{eq-or-lt-of-le, le-refl, mul-le-mul-right, zero-mul}
 use native.Mathlib.Decide.{decLt}
 use native.Mathlib.Omega.{arith}
 use lib.Dec.{lit<}
-use lib.ListN.{length, take, drop, length-drop}
+use lib.ListN.{length, take, drop, replicate, length-drop}
 use lib.Seq.{sets, sets-eq, length-take-le, take-all, take-at, drop-at}
-use borrow.Author.Tests.{leb-true, le-leb}
-use Rattle.field.specs.Words.{Words}
-use Rattle.field.proofs.WordLists.{words-nil, words-cons, words-tail, words-take, part-inside, take-sets, drop-sets}
-use Rattle.layout.specs.Records.{every, isData, areData, recordIn, replaced, recordsFit}
-use Rattle.layout.proofs.EveryWord.{every-parts}
+use borrow.Author.Tests.{eqb-true, leb-true, le-leb}
+use Rattle.field.specs.Words.{Words, every}
+use Rattle.field.proofs.WordLists.{words-take, part-inside, take-sets, drop-sets}
+use Rattle.layout.specs.Records.{isData, areData, isZero, isBlank, recordIn, replaced, recordsFit}
+use Rattle.field.proofs.EveryWord.{every-parts, every-same, every-words, words-every}
 use Rattle.field.proofs.Booleans.{both-true, first-true, second-true, first-false, second-false}
 
 -- data words are words below 65536, and so words of the field
 pub data-words : (l : List ℕ) → areData l ≡ true → Words 65536 l
-unfolding every
-data-words [] e = words-nil 65536 (lit< tt)
-data-words (x ∷ l) e =
-    words-cons 65536 (lit< tt) (omega (arith, leb-true x _ (first-true (isData x) (areData l) e))) (data-words l (second-true (isData x) (areData l) e))
+data-words l e = every-words isData (lit< tt) (λ x t. omega (arith, leb-true x 65535 t)) l e
 
 pub are-data : (l : List ℕ) → Words 65536 l → areData l ≡ true
+are-data l u = words-every isData (λ x b. le-leb x 65535 (omega arith)) l u
+
+-- blank blocks are lists of zeros, and so data
+pub zeros-blank : (n : ℕ) → isBlank (replicate n 0) ≡ true
+zeros-blank n = every-same isZero n 0 refl
+
+pub blank-zeros : (b : List ℕ) → isBlank b ≡ true → b ≡ replicate (length b) 0
 unfolding every
-are-data [] u = refl
-are-data (x ∷ l) u = both-true (le-leb x 65535 (omega (arith, u .word 0))) (are-data l (words-tail u))
+blank-zeros [] e = refl
+blank-zeros (x ∷ b) e = ap₂ _∷_ (eqb-true x 0 (first-true (isZero x) (isBlank b) e)) (blank-zeros b (second-true (isZero x) (isBlank b) e))
+
+pub zeros-data : (n : ℕ) → areData (replicate n 0) ≡ true
+zeros-data n = every-same isData n 0 refl
 
 pub field-words : {l : List ℕ} → Words 65536 l → Words 65537 l
 field-words u = record { word = λ i. omega (arith, u .word i) }

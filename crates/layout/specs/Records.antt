@@ -1,15 +1,11 @@
 -- Records in a raw buffer, and which data a record may hold. Assumes nothing: these are definitions.
 use mathlib.Core.Bool.{Bool, true, _&&_}
-use mathlib.Core.List.{List, [], _∷_}
+use mathlib.Core.List.{List}
 use Prim.Native.Nat.{ℕ, zero, suc, _*_}
 use lib.Dec.{leb, eqb}
 use lib.ListN.{take, drop}
 use lib.Seq.{sets}
-
--- whether a test holds of each word
-unfoldable pub every : (ℕ → Bool) → List ℕ → Bool
-every f [] = true
-every f (x ∷ xs) = f x && every f xs
+use Rattle.field.specs.Words.{every}
 
 -- a data word is 0 to 65535
 abbrev pub isData : ℕ → Bool

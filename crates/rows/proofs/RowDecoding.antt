@@ -1,7 +1,7 @@
 -- Decoding of a stripe's words and marks, both ways round: the promises of specs/Promises. Assumes nothing.
 use mathlib.Core.Path.{_≡_, refl, sym, ap, _∙_}
 use mathlib.Core.Bool.{Bool, true, false, _&&_, false≢true}
-use mathlib.Core.List.{List, [], _∷_}
+use mathlib.Core.List.{List}
 use Prim.Native.Nat.{ℕ, zero, suc, _+_, _*_, _/_, _%_, _≤_, _<_}
 use native.Mathlib.Nat.{mod-lt, div-add-mod', div-lt-iff-lt-mul, mul-zero}
 use native.Mathlib.Omega.{arith}
@@ -9,16 +9,17 @@ use borrow.Author.Tests.{ltb-true, ltb-false, lt-ltb, le-ltb}
 use lib.Arith.{digits-lt}
 use lib.Dec.{ltb, lit<}
 use lib.ListN.{length, getD}
-use Rattle.field.specs.Words.{Words, table}
-use Rattle.field.proofs.WordLists.{words-tail, words-table, length-table, getD-table}
+use Rattle.field.specs.Words.{Words, every, table}
+use Rattle.field.proofs.EveryWord.{words-every}
+use Rattle.field.proofs.WordLists.{words-table, length-table, getD-table}
 use Rattle.code.specs.declared.Stripe.{Stripe}
 use Rattle.code.specs.Stripe.{modulusOf, blockCount, positionCount, stripeWords}
 use Rattle.code.specs.Rows.{Column}
 use Rattle.decoder.specs.Decoding.{survivors, isConsistent, blocksIn}
 use Rattle.decoder.specs.Promises.{AgreesRows}
 use Rattle.decoder.proofs.Proved as Decoder
-use Rattle.field.proofs.Booleans.{both-true, is-false}
-use Rattle.image.specs.Loading.{survivingAt, surviving, areBelow}
+use Rattle.field.proofs.Booleans.{is-false}
+use Rattle.image.specs.Loading.{survivingAt, surviving, isBelow, areBelow}
 use Rattle.image.proofs.StripeLoads.{below-words, surviving-marked, surviving-kept}
 use Rattle.rows.specs.Decoding.{Decoded, failed, decoded, areRecords, solved, decodeMarked, decodeRows}
 use Rattle.rows.specs.Promises.{Codes, InField, OutOfField, Readable, SevenIff, EightIff, ElseReadable, DecodesIff, NineIff, TenIff, OneList}
@@ -26,13 +27,11 @@ use Rattle.rows.proofs.StripeNumbers.{solved-nine, solved-ten, solved-b
 
 -- WORDS BELOW p, and the test for them
 words-below : (p : ℕ) (xs : List ℕ) → Words p xs → areBelow p xs ≡ true
-unfolding areBelow
-words-below p [] w = refl
-words-below p (x ∷ xs) w = both-true (lt-ltb x p (w .word 0)) (words-below p xs (words-tail w))
+words-below p xs w = words-every (isBelow p) (λ x b. lt-ltb x p b) xs w
 
 -- a word that is not, where the test fails
 not-below : (p n : ℕ) (f : ℕ → ℕ) → areBelow p (table n f) ≡ false → (q : ℕ) × (q < n) × (p ≤ f q)
-unfolding areBelow table
+unfolding every table
 not-below p zero f e = absurd (false≢true (sym e))
 not-below p (suc n) f e = go (ltb (f 0) p) refl e (not-below p n (λ k. f (suc k)))
   where

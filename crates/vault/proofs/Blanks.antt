@@ -10,10 +10,10 @@ use lib.ListN.{length, replicate, length-replicate}
 use borrow.Author.Tests.{eq-eqb, lt-ltb}
 use Rattle.field.proofs.Booleans.{chosen-first, chosen-second, either}
 use Rattle.layout.specs.Header.{headerOf, count, headerFits, rawSize, fullSize, logSize}
-use Rattle.layout.specs.Records.{every, isData, areData, isZero, isBlank, recordIn}
+use Rattle.field.specs.Words.{every}
+use Rattle.layout.specs.Records.{isData, areData, isZero, isBlank, recordIn}
 use Rattle.layout.specs.Refusals.{Tests, done, test, refusal}
-use Rattle.layout.proofs.EveryWord.{zeros-blank, blank-zeros, zeros-data}
-use Rattle.layout.proofs.RecordWords.{replaced-is, record-same, record-end, fit-all}
+use Rattle.layout.proofs.RecordWords.{zeros-blank, blank-zeros, zeros-data, replaced-is, record-same, record-end, fit-all}
 use Rattle.layout.proofs.Refusals.{equal-three, test-holds, none-fails, if-refused}
 use Rattle.store.specs.Writing.{nextHeader, written}
 use Rattle.store.specs.StoreCalls.{buffersFit, numbered, leaving}

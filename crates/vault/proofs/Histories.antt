@@ -12,7 +12,8 @@ use lib.Pow.{pow-pos}
 use borrow.Author.Tests.{eqb-true, eqb-false, eq-eqb, ltb-true}
 use Rattle.layout.specs.declared.Header.{Header}
 use Rattle.layout.specs.Header.{headerOf, rawSize, fullSize, logSize, levelFor}
-use Rattle.layout.specs.Records.{every, areData, isBlank, replaced}
+use Rattle.field.specs.Words.{every}
+use Rattle.layout.specs.Records.{areData, isBlank, replaced}
 use Rattle.store.specs.Buffers.{fullStripe, Buffers, buffers, opened}
 use Rattle.store.specs.Writing.{nextHeader, logWith, written}
 use Rattle.layout.specs.Refusals.{Tests, done, test, refusal, ifTaken}

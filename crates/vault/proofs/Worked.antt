@@ -5,17 +5,18 @@ use Rattle.field.specs.Power.{powerFrom, power, inverse}
 use Rattle.field.specs.Polynomial.{lift, slopes, interpolate}
 use Rattle.field.specs.Field.{rootOf}
 use Rattle.field.specs.Words as Words
+use Rattle.field.specs.Words.{every}
 use Rattle.code.specs.Transform.{sumAt, differenceAt, mixed, transform, scaled, reversed, turned, bitReversed}
 use Rattle.code.specs.Rows.{column, columnsFrom, rowOf, rowsFrom, lifted}
 use Rattle.code.specs.Stripe.{coded, codedRows}
 use Rattle.decoder.specs.Decoding.{survivorsFrom, pointAt, valueAt, decodedColumn, agrees, consistentColumn, consistentTo, decodedRows}
-use Rattle.layout.specs.Records.{every, recordsFit}
+use Rattle.layout.specs.Records.{recordsFit}
 use Rattle.store.specs.Buffers.{reduced, blocksFrom}
 use Rattle.layout.specs.Header.{firstEmpty}
 use Rattle.store.specs.Writing.{rebuiltHalf}
 use Rattle.image.specs.Image.{little, bytesOf, numberOf}
 use Rattle.image.specs.Erasures.{erasuresFrom, erasuresRise, touched, flagsFrom, markAt}
-use Rattle.image.specs.Loading.{survivingAt, areBelow}
+use Rattle.image.specs.Loading.{survivingAt}
 use Rattle.rows.specs.Decoding.{areRecords}
 use Rattle.laying.specs.Laid.{laid, pairsTo, originsLaid}
 use Rattle.recovery.specs.Recovery.{levelsOver}
@@ -30,7 +31,7 @@ unfolding plus minus times powerFrom power inverse lift slopes interpolate rootO
     columnsFrom
     rowOf rowsFrom lifted coded codedRows survivorsFrom pointAt valueAt bitReversed decodedColumn agrees consistentColumn consistentTo decodedRows every
     recordsFit reduced
-    blocksFrom firstEmpty rebuiltHalf little bytesOf numberOf erasuresFrom erasuresRise touched flagsFrom markAt survivingAt areBelow areRecords laid levelsOver
+    blocksFrom firstEmpty rebuiltHalf little bytesOf numberOf erasuresFrom erasuresRise touched flagsFrom markAt survivingAt areRecords laid levelsOver
     refusal after wordsFit wordsZero fedAll pairsTo left shortfall originsLaid
 all-worked = (
   (is, (is, (is, (is, (is, (is, (is, (is, (is, (is, (is, (is, (is, (is, (is, (is, (is, (is, (is, (is, tt)))))))))))))))))))),

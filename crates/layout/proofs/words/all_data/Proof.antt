@@ -9,7 +9,7 @@ use borrow.Author.Tests.{le-leb, lt-leb}
 use lib.ListN.{length, getD, drop}
 use Rattle.field.proofs.Booleans.{second-false, only-first}
 use Rattle.layout.specs.Records.{isData, areData}
-use Rattle.layout.proofs.EveryWord.{every-next, every-end}
+use Rattle.field.proofs.EveryWord.{every-next, every-end}
 use Rattle.layout.proofs.words.all_data.Statement.{statement}
 use Rattle.layout.proofs.words.all_data.Tie as tie
 
@@ -54,8 +54,7 @@ loop-again c =
 returns : tie.Need-returns Inv-loop μ-loop
 returns c =
     let h = c .before .loop .inv in
-    let e : c .before .loop .i ≡ length (c .before .before .args .words .now) = omega (arith, h .turns, c .loop-test .left) in
-    sym (h .now ∙ only-first (c .before .loop .fit) (every-end isData _ _ e))
+    sym (h .now ∙ only-first (c .before .loop .fit) (every-end isData _ _ (c .loop-test .left)))
 
 pub all-data-spec : {M : Type 1} → statement M
 all-data-spec = tie.close (tie.spec Inv-loop μ-loop loop-holds mul-if1 shared-slice-read-if1 add-i loop-less loop-again returns)

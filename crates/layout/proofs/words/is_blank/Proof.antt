@@ -9,7 +9,7 @@ use borrow.Author.Tests.{eq-eqb, ne-eqb}
 use lib.Dec.{eqb}
 use lib.ListN.{length, getD, drop}
 use Rattle.layout.specs.Records.{isZero, isBlank}
-use Rattle.layout.proofs.EveryWord.{every-next, every-end}
+use Rattle.field.proofs.EveryWord.{every-next, every-end}
 use Rattle.layout.proofs.words.is_blank.Statement.{statement}
 use Rattle.layout.proofs.words.is_blank.Tie as tie
 
@@ -26,7 +26,7 @@ module _ {words : List ℕ} {i : ℕ} (h : Inv words i) where
   stopped l d = ne-eqb i (length words) (λ e. absurd (omega arith)) ∙ sym (h .now ∙ every-next isZero words i false l (ne-eqb _ 0 d))
 
   ended : length words ≤ i → eqb i (length words) ≡ isBlank words
-  ended l = let e : i ≡ length words = omega (arith, h .turns) in eq-eqb i (length words) e ∙ sym (h .now ∙ every-end isZero words i e)
+  ended l = eq-eqb i (length words) (omega (arith, h .turns)) ∙ sym (h .now ∙ every-end isZero words i l)
 
 abbrev Inv-loop : tie.InvT-loop
 Inv-loop words i₀ i = Inv words i
