@@ -16,10 +16,8 @@ pub fn write(
 ) -> (u32, Header) {
     let blank = block.iter().all(|&x| x == 0);
     let tested = tests(header, raw, full, log, record, block).and(test(!blank, Refusal::Blank));
-    if tested.is_err() {
-        return (number(&tested), header);
-    }
-    (0, store(header, raw, full, log, record, block))
+    let stored = tested.map(|()| store(header, raw, full, log, record, block));
+    answer(header, stored)
 }
 
 /// The same of a vault of before number 11 was in the table: a blank block is taken like any other.
@@ -32,10 +30,13 @@ pub fn earlier_write(
     block: &[u32],
 ) -> (u32, Header) {
     let tested = tests(header, raw, full, log, record, block);
-    if tested.is_err() {
-        return (number(&tested), header);
-    }
-    (0, store(header, raw, full, log, record, block))
+    let stored = tested.map(|()| store(header, raw, full, log, record, block));
+    answer(header, stored)
+}
+
+/// The number, and the header afterwards: as it was, after a refusal.
+fn answer(header: Header, stored: Result<Header, Refusal>) -> (u32, Header) {
+    (number(&stored), stored.unwrap_or(header))
 }
 
 /// Tests 1, 2, 4 and 5.

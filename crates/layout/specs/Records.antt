@@ -15,7 +15,7 @@ isData x = leb x 65535
 abbrev pub areData : List ℕ → Bool
 areData b = every isData b
 
--- whether a block is blank: each of its data words is 0. A record may be, but today nobody writes such a block
+-- whether a block is blank: each of its data words is 0. A record may be so, but writing refuses such a block
 abbrev pub isZero : ℕ → Bool
 isZero x = eqb x 0
 

@@ -176,6 +176,7 @@ fn write_number(
     if block.len() != header.s as usize {
         return 2;
     }
+    // What the last tests ask, before any of them is gone by: so their order stands alone.
     let outside = code::number::two_to(header.k as usize) <= number as usize;
     let fit = layout::words::all_data(block);
     let blank = layout::words::is_blank(block);

@@ -13,14 +13,15 @@ use Rattle.layout.specs.Header.{headerOf, count, headerFits, rawSize, fullSize,
 use Rattle.field.specs.Words.{every}
 use Rattle.layout.specs.Records.{isData, areData, isZero, isBlank, recordIn}
 use Rattle.layout.specs.Refusals.{Tests, done, test, refusal}
-use Rattle.layout.proofs.RecordWords.{zeros-blank, blank-zeros, zeros-data, replaced-is, record-same, record-end, fit-all}
+use Rattle.store.proofs.OpenRefusals.{open-data}
+use Rattle.layout.proofs.RecordWords.{data-words, are-data, zeros-blank, blank-zeros, zeros-data, replaced-is, record-same, record-end, fit-all}
 use Rattle.layout.proofs.Refusals.{equal-three, test-holds, none-fails, if-refused}
 use Rattle.store.specs.Writing.{nextHeader, written}
 use Rattle.store.specs.StoreCalls.{buffersFit, numbered, leaving}
 use Rattle.vault.specs.Event.{Opening, Event, write, earlier}
 use Rattle.vault.specs.History.{Vault, vault, numberOn, step, after, Opens, openedVault, vaultAfter}
 use Rattle.vault.specs.Model.{Model, wordsFit, wordsZero, judged, tableNumber, put, fed, fedAll, openedModel, modelOf}
-use Rattle.vault.specs.Promises.{GivesEleven, ElseAsEarlier, FiveNotBlank, RefusedStays, ZerosOpen, BlankRefused, BlankKept}
+use Rattle.vault.specs.Promises.{GivesEleven, ElseAsEarlier, FiveNotBlank, RefusedStays, Fitting, OpensIff, ZerosOpen, BlankRefused, BlankKept}
 use Rattle.vault.proofs.Histories.{data-fit, blank-zero, sizesStay, recordsLong, numbersAre}
 
 -- FOUR TESTS AND MORE: either the four hold, and the others decide, or the first of the four that fails does, whatever follows
@@ -102,18 +103,31 @@ fiveNotBlank v i b e blank =
     never-five (headerFits h) (buffersFit h (v .held) && eqb (length b) (h .s)) (ltb i (count h)) (areData b)
     (ap (every isData) blank ∙ zeros-data (length b)) e
 
-pub refusedStays : RefusedStays
-refusedStays v (write i b) d = let h = v .header in ap₂ vault (if-refused (nextHeader h) h d) (if-refused (written h (v .held) i b) (v .held) d)
-refusedStays v (earlier i b) d = let h = v .header in ap₂ vault (if-refused (nextHeader h) h d) (if-refused (written h (v .held) i b) (v .held) d)
+-- a write whose number is not 0
+refused : (v : Vault) (i : ℕ) (b : List ℕ) {n : ℕ} → (n ≡ 0 → ⊥) → vault (numbered n (v .header) .header) (leaving n (v .header) (v .held) i b) ≡ v
+refused v i b d = let h = v .header in ap₂ vault (if-refused (nextHeader h) h d) (if-refused (written h (v .held) i b) (v .held) d)
 
--- ZERO RECORDS
+pub refusedStays : RefusedStays
+refusedStays v (write i b) d = refused v i b d
+refusedStays v (earlier i b) d = refused v i b d
+
+-- ZERO RECORDS are opened, as all records of data words are
+opens-if : (o : Opening) → Fitting o → areData (o .raw) ≡ true → Opens o
+opens-if o t e =
+    let h = headerOf (o .k) (o .s) 0 in
+    test-holds 1 _ (t .header)
+    ∙ test-holds 2 _ (equal-three (length (o .raw)) (rawSize h) (length (o .full)) (fullSize h) (length (o .log)) (logSize h) (t .raw-long) (t .full-long)
+    (t .log-long))
+    ∙ test-holds 5 done (fit-all (o .s) (o .raw) (count h) e) ∙ none-fails
+
+pub opensIff : OpensIff
+opensIff o t = (
+  λ e i. let w = data-words (o .raw) (open-data (o .k) (o .s) (o .raw) (o .full) (o .log) e) .word i in omega (arith, w),
+  λ b. opens-if o t (are-data (o .raw) (record { word = λ i. omega (arith, b i) })),
+)
+
 pub zerosOpen : ZerosOpen
-zerosOpen k s f g fits ef eg =
-    let h = headerOf k s 0 in
-    let r : List ℕ = replicate (rawSize h) 0 in
-    test-holds 1 _ fits
-    ∙ test-holds 2 _ (equal-three (length r) (rawSize h) (length f) (fullSize h) (length g) (logSize h) (length-replicate (rawSize h) 0) ef eg)
-    ∙ test-holds 5 done (fit-all s r (count h) (zeros-data (rawSize h))) ∙ none-fails
+zerosOpen o t e = opens-if o t (ap (every isData) e ∙ zeros-data (length (o .raw)))
 
 -- ONE EVENT MORE
 after-more : (v : Vault) (es : List Event) (e : Event) → after v (es ++ (e ∷ [])) ≡ step (after v es) e

@@ -8,7 +8,7 @@ use Rattle.vault.proofs.Explaining.{agrees, countsAre, countsSharp, exp
 use Rattle.vault.proofs.ExplainedRounds.{explainsWhy}
 use Rattle.vault.proofs.LastWrites.{lastIsRecord, elseAtStart}
 use Rattle.vault.proofs.Origins.{originsTrue, oneOrigin}
-use Rattle.vault.proofs.Blanks.{givesEleven, elseAsEarlier, fiveNotBlank, refusedStays, zerosOpen, blankRefused, blankKept}
+use Rattle.vault.proofs.Blanks.{givesEleven, elseAsEarlier, fiveNotBlank, refusedStays, opensIff, zerosOpen, blankRefused, blankKept}
 use Rattle.vault.proofs.Boundary.{partIs, noneNamed, noneExplained}
 use Rattle.vault.proofs.Worked.{worked, worked-blanks}
 
@@ -52,6 +52,7 @@ proved = record {
   else-as-earlier = elseAsEarlier;
   five-not-blank = fiveNotBlank;
   refused-stays = refusedStays;
+  opens-iff = opensIff;
   zeros-open = zerosOpen;
   blank-refused = blankRefused;
   blank-kept = blankKept;

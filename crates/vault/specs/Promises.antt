@@ -10,7 +10,7 @@
 --   ⊥                 what is never true                   A → ⊥       not A
 --   h .k              the field k of h                     let x = a in A   A, where x is short for a
 --   ℕ                 the numbers 0, 1, 2, ..              suc n       n + 1 (and 2 ^ suc l is twice 2 ^ l)
---   List T            a list of things of type T           []          the empty list; xs ++ ys is xs and then ys
+--   List T            a list of things of type T           []          the empty list; xs ++ ys is xs and then ys; x ∷ [] is x alone
 --   length xs         how many entries it has              getD xs i d entry i of xs, counted from 0; d if xs has none
 --   take n xs         the first n entries of xs            replicate n x   n times x
 --
@@ -50,10 +50,10 @@
 --                  writes as blocks
 --
 -- FROM OTHER CRATES
---   layout     headerOf k s c: the header of these numbers. headerFits h: k is 1 to 10, s 1 to 128, c below n. rawSize, outSize, scratchSize, imageSize: the
---              lengths of docs/FORMAT.md, section 3. width h: 1 + s. isFull h l: l is k. isFilled h l: bit l of c is 1. firstOf h l: t0, the write that the
---              first block of a level is. stripeAt h l: the word of the image at which the stripe begins; stripeSize h l: how many it has. stripeOf h l: the
---              stripe's numbers: l, k, its t0, and 1 + s. recordIn s r i: record i of the raw records r
+--   layout     headerOf k s c: the header of these numbers. headerFits h: k is 1 to 10, s 1 to 128, c below n. rawSize, fullSize, logSize, outSize,
+--              scratchSize, imageSize: the lengths of docs/FORMAT.md, section 3. width h: 1 + s. isFull h l: l is k. isFilled h l: bit l of c is 1. firstOf h
+--              l: t0, the write that the first block of a level is. stripeAt h l: the word of the image at which the stripe begins; stripeSize h l: how many it
+--              has. stripeOf h l: the stripe's numbers: l, k, its t0, and 1 + s. recordIn s r i: record i of the raw records r
 --   code       p: the field's modulus, 65537. codedStripe st bs: the words that the blocks bs of the stripe st are coded to, with the w of order 2n that its
 --              k has. Column p n xs: xs are n words below p
 --   decoder    survivors l ms: the positions of stripe l that are not erased. AgreesRows ms n width xs ys: xs and ys have the same words at these, of n
@@ -390,7 +390,7 @@ ElseAtStart =
     (o : Opening) (es : List Event) (i : ℕ) → Opens o → NoWrite (modelOf o es) i →
     recordIn (o .s) (modelOf o es .records) i ≡ recordIn (o .s) (roundOf o es .base) i
 
--- 6. BLANK BLOCKS. A block is blank if its words are all 0
+-- 6. BLANK BLOCKS. A block is blank, and so are records, if the words are all 0
 abbrev pub Blank : (block : List ℕ) → Type 0
 Blank b = b ≡ replicate (length b) 0
 
@@ -412,15 +412,21 @@ FiveNotBlank = (v : Vault) (i : ℕ) (b : List ℕ) → numberOn v (earlier i b)
 abbrev pub RefusedStays : Type 0
 RefusedStays = (v : Vault) (next : Event) → (numberOn v next ≡ 0 → ⊥) → step v next ≡ v
 
--- opening takes zero records, for every k and s
-abbrev pub ZerosOpen : Type 0
-ZerosOpen =
-    (k s : ℕ) (full log : List ℕ) →
-    let h = headerOf k s 0 in
-    headerFits h ≡ true → length full ≡ fullSize h → length log ≡ logSize h →
-    Opens (record { k = k; s = s; raw = replicate (rawSize h) 0; full = full; log = log })
+-- an opening whose k and s are in range, and whose buffers have their lengths, is taken if and only if no word of its records is above 65535; and so zero
+-- records are taken
+pub record Fitting (o : Opening) : Type 0 where
+  pub header : headerFits (headerOf (o .k) (o .s) 0) ≡ true
+  pub raw-long : length (o .raw) ≡ rawSize (headerOf (o .k) (o .s) 0)
+  pub full-long : length (o .full) ≡ fullSize (headerOf (o .k) (o .s) 0)
+  pub log-long : length (o .log) ≡ logSize (headerOf (o .k) (o .s) 0)
 
--- after any history, and of any record: a write of a blank block gives 11, and a history with it ends as without it
+abbrev pub OpensIff : Type 0
+OpensIff = (o : Opening) → Fitting o → Opens o ↔ ((i : ℕ) → getD (o .raw) i 0 ≤ 65535)
+
+abbrev pub ZerosOpen : Type 0
+ZerosOpen = (o : Opening) → Fitting o → Blank (o .raw) → Opens o
+
+-- after any history, and of any record below n: a write of a blank block gives 11, and a history with it ends as without it
 abbrev pub BlankRefused : Type 0
 BlankRefused =
     (o : Opening) (es : List Event) (i : ℕ) → Opens o → i < 2 ^ o .k →
@@ -475,6 +481,7 @@ pub record Promises : Type 0 where
   pub else-as-earlier : ElseAsEarlier
   pub five-not-blank : FiveNotBlank
   pub refused-stays : RefusedStays
+  pub opens-iff : OpensIff
   pub zeros-open : ZerosOpen
   pub blank-refused : BlankRefused
   pub blank-kept : BlankKept

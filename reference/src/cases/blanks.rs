@@ -1,6 +1,7 @@
 //! Blank blocks: writes of them are refused, blocks with one word that is not 0 are taken, and so are openings of zero records.
 use super::faults::{self, Call, Fault};
 use super::losses::{damage, lose_each, recover_all, Cover, Garbage};
+use super::recoveries::whole_round;
 use super::writes::{any, edges, history};
 use super::Script;
 use crate::header::Header;
@@ -147,4 +148,5 @@ pub fn add(script: &mut Script) {
         history(script, k, 1, (5 << k) / 2);
     }
     edges(script);
+    whole_round(script, 8);
 }

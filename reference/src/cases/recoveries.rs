@@ -271,32 +271,33 @@ fn two_stripes(script: &mut Script) {
     }
 }
 
-/// A vault of 1024 records: a whole round, and images in it.
-fn large(script: &mut Script) {
-    script.open(10, 1);
-    for i in 1..=1030 {
+/// A large vault: a whole round, and images in it.
+pub fn whole_round(script: &mut Script, k: u32) {
+    let n = 1 << k;
+    script.open(k, 1);
+    for i in 1..=n + 6 {
         script.write();
-        if ![5, 1023, 1024, 1030].contains(&i) {
+        if ![5, n - 1, n, n + 6].contains(&i) {
             continue;
         }
         let lost = lose_each(script, |_, size| size);
         damage(script, &lost, Cover::Whole, Garbage::None);
         script.recover();
-        if i == 1023 || i == 1030 {
+        if i == n - 1 || i == n + 6 {
             script.explain();
         }
-        if i == 1023 {
-            script.decode(10);
-            script.decode(9);
-            script.decode(0);
+        if i == n - 1 {
+            for stripe in [k, k - 1, 0] {
+                script.decode(stripe);
+            }
         }
-        if i == 1030 {
+        if i == n + 6 {
             let lost = lose_each(script, |script, size| script.random.index(size));
             damage(script, &lost, Cover::Touch, Garbage::Gaps);
-            spoil(script, &lost, 10, true);
+            spoil(script, &lost, k, true);
             script.recover();
             script.decode(2);
-            spoil(script, &lost, 10, false);
+            spoil(script, &lost, k, false);
             script.recover();
         }
     }
@@ -311,5 +312,5 @@ pub fn add(script: &mut Script) {
     no_records(script, 3, 1, 7);
     no_records(script, 4, 3, 5);
     two_stripes(script);
-    large(script);
+    whole_round(script, 10);
 }

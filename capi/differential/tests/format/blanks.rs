@@ -130,7 +130,8 @@ fn sections_9_and_10_tests_of_a_write() {
     }
 }
 
-/// What racklist prints of a blank write: the numbers of the list in section 13, which it names in the order of its tests.
+/// What racklist prints of a blank write, by reference/ (crates/test_cases has the library's listings): the numbers of the list in section 13, which it names
+/// in the order of its tests.
 #[test]
 fn section_13_blank_writes() {
     let lines = section("## 13 ");

@@ -115,10 +115,12 @@ fn unplugged(vault: &mut Vault) -> Result<String, Failure> {
     let same = before.iter().zip(&after).filter(|pair| pair.0 == pair.1);
     let mut text = "It is unplugged, and the press sends a sheet of zeros ".to_owned();
     text += &format!("for record {record}.\n\n");
-    text += "   The vault turns it away. The write is\n   ";
     text += &match answer {
-        Ok(()) => "taken".into(),
-        Err(refusal) => Failure::from(refusal).to_string(),
+        Ok(()) => "   The vault takes it.".into(),
+        Err(refusal) => {
+            let refusal = Failure::from(refusal);
+            format!("   The vault turns it away. The write is\n   {refusal}")
+        }
     };
     let (same, all) = (same.count(), before.len());
     Ok(text + &format!("\n\n   {same} of {all} bytes of the rack are as they were.\n"))
