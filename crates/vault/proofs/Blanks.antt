@@ -183,33 +183,33 @@ module _ (o : Opening) (es : List Event) (i : ℕ) (O : Opens o) (within : i < 2
   long : o .s ≡ m .s
   long = sym (sizesStay o es .1)
 
-  refused-model : modelOf o (es ++ (write i zeros ∷ [])) ≡ m
-  refused-model =
+  records-long : length (m .records) ≡ 2 ^ m .k * m .s
+  records-long = let same = sizesStay o es in recordsLong o es O ∙ sym (ap₂ (λ (k s : ℕ). 2 ^ k * s) (same .0) (same .1))
+
+  eleven-now : numberOn (vaultAfter o es) (write i zeros) ≡ 11
+  eleven-now = numbersAre o es (write i zeros) O ∙ zeros-today m i (o .s) inside long
+
+  vault-stays : vaultAfter o (es ++ (write i zeros ∷ [])) ≡ vaultAfter o es
+  vault-stays = after-more (openedVault o) es (write i zeros) ∙ refusedStays (vaultAfter o es) (write i zeros) (λ z. absurd (omega (arith, eleven-now, z)))
+
+  model-stays : modelOf o (es ++ (write i zeros ∷ [])) ≡ m
+  model-stays =
       fed-more (openedModel o) es (write i zeros)
       ∙ chosen-second (eqb (tableNumber m (write i zeros)) 0) (put m i zeros) m (ap (λ (n : ℕ). eqb n 0) (zeros-today m i (o .s) inside long))
 
-  kept-model : modelOf o (es ++ (earlier i zeros ∷ [])) ≡ put m i zeros
-  kept-model =
-      fed-more (openedModel o) es (earlier i zeros)
-      ∙ chosen-first (eqb (tableNumber m (earlier i zeros)) 0) (put m i zeros) m (ap (λ (n : ℕ). eqb n 0) (zeros-before m i (o .s) inside long))
+  taken-earlier : tableNumber m (earlier i zeros) ≡ 0
+  taken-earlier = zeros-before m i (o .s) inside long
+
+  zeros-kept : recordIn (o .s) (modelOf o (es ++ (earlier i zeros ∷ [])) .records) i ≡ zeros
+  zeros-kept =
+      ap (λ (y : Model). recordIn (o .s) (y .records) i) (fed-more (openedModel o) es (earlier i zeros)
+      ∙ chosen-first (eqb (tableNumber m (earlier i zeros)) 0) (put m i zeros) m (ap (λ (n : ℕ). eqb n 0) taken-earlier))
+      ∙ zeros-put m i (o .s) inside long records-long
 
 pub blankRefused : BlankRefused
-blankRefused o es i O w =
-    let next : Event = write i (replicate (o .s) 0) in
-    let e = numbersAre o es next O ∙ zeros-today (m o es i O w) i (o .s) (inside o es i O w) (long o es i O w) in (
-      e,
-      after-more (openedVault o) es next ∙ refusedStays (vaultAfter o es) next (λ z. absurd (omega (arith, e, z))),
-      refused-model o es i O w,
-    )
+blankRefused o es i O w = (eleven-now o es i O w, vault-stays o es i O w, model-stays o es i O w)
 
 pub blankKept : BlankKept
 blankKept o es i O w =
-    let next : Event = earlier i (replicate (o .s) 0) in
-    let x = m o es i O w in
-    let e = zeros-before x i (o .s) (inside o es i O w) (long o es i O w) in
-    let same = sizesStay o es in (
-      numbersAre o es next O ∙ e,
-      e,
-      ap (λ (y : Model). recordIn (o .s) (y .records) i) (kept-model o es i O w)
-          ∙ zeros-put x i (o .s) (inside o es i O w) (long o es i O w) (recordsLong o es O ∙ sym (ap₂ (λ (k s : ℕ). 2 ^ k * s) (same .0) (same .1))),
-    )
+    let e = taken-earlier o es i O w in
+    (numbersAre o es (earlier i (replicate (o .s) 0)) O ∙ e, e, zeros-kept o es i O w)
