@@ -1,4 +1,4 @@
--- Laws of specs/Records: data words, records replaced, and records that fit. Assumes nothing.
+-- Laws of specs/Records: data words, blank blocks, records replaced, and records that fit. Assumes nothing.
 use mathlib.Core.Path.{_≡_, refl, sym, ap, ap₂, _∙_}
 use mathlib.Core.Bool.{true, false}
 use mathlib.Core.Logic.{⊎-elim}
@@ -24,6 +24,9 @@ data-words l e = every-words isData (lit< tt) (λ x t. omega (arith, leb-true x 
 pub are-data : (l : List ℕ) → Words 65536 l → areData l ≡ true
 are-data l u = words-every isData (λ x b. le-leb x 65535 (omega arith)) l u
 
+pub field-words : {l : List ℕ} → Words 65536 l → Words 65537 l
+field-words u = record { word = λ i. omega (arith, u .word i) }
+
 -- blank blocks are lists of zeros, and so data
 pub zeros-blank : (n : ℕ) → isBlank (replicate n 0) ≡ true
 zeros-blank n = every-same isZero n 0 refl
@@ -35,9 +38,6 @@ blank-zeros (x ∷ b) e = ap₂ _∷_ (eqb-true x 0 (first-true (isZero x) (isBl
 
 pub zeros-data : (n : ℕ) → areData (replicate n 0) ≡ true
 zeros-data n = every-same isData n 0 refl
-
-pub field-words : {l : List ℕ} → Words 65536 l → Words 65537 l
-field-words u = record { word = λ i. omega (arith, u .word i) }
 
 -- record i of n stands inside
 pub record-end : (n s i : ℕ) → i < n → i * s + s ≤ n * s
