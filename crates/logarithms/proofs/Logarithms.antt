@@ -83,7 +83,7 @@ module _ (p k g : ℕ) (R : Root p k g) (all : 2 ^ suc k ≡ p - 1) where
   unfolding logarithm
   logarithm-of-zero = finds-none p g 0 (p - 1) 0 (λ j b i. let s = root-positive p k g R j (omega arith) in omega arith)
 
-  -- the logarithm of a residue but 0 is one: the powers are as many as these, and distinct
+  -- each residue but 0 is the power at its logarithm: the powers are distinct, and as many as these
   pub power-of-logarithm : (x : ℕ) → 0 < x → x < p → power p g (logarithm p g x) ≡ x
   power-of-logarithm x l b =
       let f = onto (power p g) (p - 1) (λ i m. root-positive p k g R i (omega arith)) (λ i m. omega (arith, power-lt p big g i))
