@@ -1,4 +1,4 @@
--- `print_powers::put_line` meets its contract: the digits are those of `decimal`, at most five, and the line feed stands behind them. Assumes nothing.
+-- `print_lines::put_line` meets its contract: the digits are those of `decimal`, at most five, and the line feed stands behind them. Assumes nothing.
 use mathlib.Core.Path.{sym, ap, _∙_}
 use mathlib.Core.List.{_++_}
 use Prim.Native.Nat.{_-_, _≤_}
@@ -6,10 +6,10 @@ use native.Mathlib.Omega.{arith}
 use lib.ListN.{length, take, drop, length-take, length-drop}
 use lib.Seq.{take-length}
 use borrow.Author.Needs.{needs}
-use Rattle.print_powers.proofs.Decimal.{digits-are, at-most-five}
-use Rattle.print_powers.proofs.Lines.{line-put}
-use Rattle.print_powers.proofs.put_line.Statement.{statement}
-use Rattle.print_powers.proofs.put_line.Tie as tie
+use Rattle.print_lines.proofs.Decimal.{digits-are, at-most-five}
+use Rattle.print_lines.proofs.Lines.{line-put}
+use Rattle.print_lines.proofs.put_line.Statement.{statement}
+use Rattle.print_lines.proofs.put_line.Tie as tie
 
 abbrev start-at-decimal : tie.After-decimal → tie.Start
 start-at-decimal c = c .before .before .before

@@ -7,7 +7,7 @@ use native.Mathlib.Decide.{decLt}
 use native.Mathlib.Omega.{arith}
 use borrow.Author.Tests.{lt-ltb, le-ltb}
 use Rattle.io.specs.Digits.{glyph, digits, Fewest}
-use Rattle.print_powers.specs.Text.{decimalFrom, decimal}
+use Rattle.print_lines.specs.Text.{decimalFrom, decimal}
 
 glyph-is : (d : ℕ) → d < 10 → glyph d ≡ 48 + d
 glyph-is d b = rw (lt-ltb d 10 b)

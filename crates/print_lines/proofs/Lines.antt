@@ -1,4 +1,5 @@
--- Laws of `lines` of specs/Text: of one list after the other, of one power more, and of a line that is put behind others in a buffer. Assumes nothing.
+-- Laws of `lines` of specs/Text: of one list after the other, of one entry more of a table, and of a line that is put behind others in a buffer. Assumes
+-- nothing.
 use mathlib.Core.Path.{_≡_, refl, sym, ap, ap₂, _∙_}
 use mathlib.Core.List.{List, [], _∷_, _++_, append-assoc}
 use Prim.Native.Nat.{ℕ, _+_, _≤_, _<_}
@@ -7,11 +8,9 @@ use native.Mathlib.Omega.{arith}
 use borrow.Rule.Slice.PartMut.{putMid}
 use lib.ListN.{length, take, drop, set, length-append}
 use lib.Seq.{take-at, take-suc-set, length-take-le}
-use Rattle.field.specs.Power.{power}
 use Rattle.field.specs.Words.{table}
-use Rattle.field.specs.Field.{powersOf}
 use Rattle.field.proofs.WordLists.{table-append}
-use Rattle.print_powers.specs.Text.{decimalFrom, decimal, lines}
+use Rattle.print_lines.specs.Text.{decimalFrom, decimal, lines}
 
 -- the definition computes: 1 and 61869, the table's first lines
 first-lines : lines (1 ∷ 61869 ∷ []) ≡ 49 ∷ 10 ∷ 54 ∷ 49 ∷ 56 ∷ 54 ∷ 57 ∷ 10 ∷ []
@@ -24,14 +23,13 @@ lines-append [] ys = refl
 lines-append (x ∷ xs) ys =
     ap (λ (l : List ℕ). decimal x ++ (10 ∷ l)) (lines-append xs ys) ∙ sym (append-assoc (decimal x) (10 ∷ lines xs) (lines ys))
 
--- one power more
-powers-suc : (p x n : ℕ) → powersOf p x (n + 1) ≡ powersOf p x n ++ (power p x n ∷ [])
-unfolding powersOf table
-powers-suc p x n = table-append n 1 (power p x) (λ i. power p x (n + i)) (λ i b. refl)
-    ∙ ap (λ (i : ℕ). table n (power p x) ++ (power p x i ∷ [])) {x = n + 0} {y = n} (omega arith)
+-- one entry more
+table-suc : (n : ℕ) (f : ℕ → ℕ) → table (n + 1) f ≡ table n f ++ (f n ∷ [])
+unfolding table
+table-suc n f = table-append n 1 f (λ i. f (n + i)) (λ i b. refl) ∙ ap (λ (i : ℕ). table n f ++ (f i ∷ [])) {x = n + 0} {y = n} (omega arith)
 
-pub lines-suc : (p x n : ℕ) → lines (powersOf p x (n + 1)) ≡ lines (powersOf p x n) ++ lines (power p x n ∷ [])
-lines-suc p x n = ap lines (powers-suc p x n) ∙ lines-append (powersOf p x n) (power p x n ∷ [])
+pub lines-suc : (n : ℕ) (f : ℕ → ℕ) → lines (table (n + 1) f) ≡ lines (table n f) ++ lines (f n ∷ [])
+lines-suc n f = ap lines (table-suc n f) ∙ lines-append (table n f) (f n ∷ [])
 
 -- A LINE THAT IS PUT into l at index i: the k digits of n, as the start of what a lent part came back as, and the line feed
 module _ (l digits back rest : List ℕ) (i k n m : ℕ) (room : i + k ≤ length l) (long : length digits ≡ k) (put : back ≡ digits ++ rest) where
