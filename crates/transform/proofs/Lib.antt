@@ -1,2 +1,5 @@
 pub mod Crossing
 pub mod MixLevels
+pub mod FourRows
+pub mod QuadRows
+pub mod TwoLevels

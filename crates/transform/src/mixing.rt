@@ -85,28 +85,23 @@ pub fn mix(part: &mut [u32], m: usize, width: usize, powers: &[u32], step: usize
     }
 }
 
-// Mixes each of `blocks` blocks of 2m rows.
-fn mix_each(half: &mut [u32], blocks: usize, m: usize, width: usize, powers: &[u32], step: usize)
-    requires { ⌜ length (now half) ≡ blocks * ((m + m) * width) ⌝ }
-    requires { ⌜ m < 4294967296 ⌝ }
-    requires { ⌜ (m + m) * width < 9223372036854775808 ⌝ }
-    requires { ⌜ RowFactors (fermat .modulus) m step (now powers) ⌝ }
+// Mixes the rows of each of `blocks` pairs. A row alone has the factor 1, whatever the root is, so that this unmixes them too.
+pub(crate) fn sum_each(half: &mut [u32], blocks: usize, width: usize)
+    requires { ⌜ length (now half) ≡ blocks * (2 * width) ⌝ }
     requires { ⌜ Words (fermat .modulus) (now half) ⌝ }
-    ensures { λ _. ⌜ now (half .exit) ≡
-        eachBlock blocks ((m + m) * width)
-        (lifted width (m + m) (m + m) (mixedHalves (fermat .modulus) (getD (now (powers .entry)) step 0) m)) (now (half .entry)) ⌝ }
+    ensures { λ _. ⌜ now (half .exit) ≡ eachBlock blocks (2 * width) (lifted width 2 2 (mixedHalves (fermat .modulus) 1 1)) (now (half .entry)) ⌝ }
 {
-    let size = (m + m) * width;
+    let size = 2 * width;
     let mut at = 0;
     for b in 0..blocks {
         let to = at + size;
-        mix(&mut half[at..to], m, width, powers, step);
+        sum_row(&mut half[at..to], 0, width, width);
         at = to;
     }
 }
 
-// All mixing of 2^level rows, from single rows up, a row at a time. The root of 2^l records, under which 2^l rows are mixed with 2^l rows, is entry
-// 1024 / 2^l.
+// All mixing of 2^level rows, from single rows up, two levels at once; where their number is odd, the first one alone. The root of 2^l records, under which
+// 2^l rows are mixed with 2^l rows, is entry 1024 / 2^l.
 fn mix_rows(half: &mut [u32], level: usize, width: usize, powers: &[u32])
     requires { ⌜ level ≤ 11 ⌝ }
     requires { ⌜ length (now half) ≡ 2 ^ level * width ⌝ }
@@ -116,13 +111,16 @@ fn mix_rows(half: &mut [u32], level: usize, width: usize, powers: &[u32])
         lifted width (2 ^ level) (2 ^ level) (transform (fermat .modulus) (rootOf fermat level) level level) (now (half .entry)) ⌝ }
 {
     let mut blocks = code::number::two_to(level);
-    let mut step: usize = 1024;
     let mut m: usize = 1;
-    for l in 0..level {
+    if level % 2 == 1 {
         blocks = blocks / 2;
-        mix_each(half, blocks, m, width, powers, step);
-        step = step / 2;
-        m = m * 2;
+        m = 2;
+        sum_each(half, blocks, width);
+    }
+    while 1 < blocks {
+        blocks = blocks / 4;
+        crate::quads::quad_each(half, blocks, m, width, powers, 512 / m);
+        m = m * 4;
     }
 }
 

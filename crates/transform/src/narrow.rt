@@ -1,13 +1,14 @@
-// Mixing of rows of fewer than four words. A loop over the words of one row is too short for vector instructions there, so that one loop goes over the words
+// Mixing and unmixing of rows of fewer than four words. A loop over the words of one row is too short for vector instructions there, so that one loop goes over the words
 // of all rows, and each word has a factor of its own.
 ghost use mathlib.Core.Path.{_≡_};
 ghost use Prim.Native.Nat.{_+_, _*_, _^_, _≤_, _<_};
 ghost use lib.ListN.{length};
+ghost use Rattle.field.specs.Power.{inverse};
 ghost use Rattle.field.specs.Field.{fermat, rootOf, powerTable};
 ghost use Rattle.field.specs.Words.{Words};
 ghost use Rattle.code.specs.Rows.{lifted};
-ghost use Rattle.code.specs.Transform.{transform};
-ghost use Rattle.code.specs.steps.Mixing.{RowFactors, ShortFactors, repeatedAt, mixWords, eachBlock};
+ghost use Rattle.code.specs.Transform.{transform, untransform};
+ghost use Rattle.code.specs.steps.Mixing.{RowFactors, ShortFactors, repeatedAt, mixWords, unmixWords, eachBlock};
 ghost use Rattle.code.specs.steps.Storing.{stored, always};
 
 // Stores g at `width` words from index `at` on.
@@ -90,5 +91,63 @@ pub fn mix_narrow(half: &mut [u32], level: usize, width: usize, powers: &[u32])
         mix_words_each(half, blocks, m * width, &factors);
         step = step / 2;
         m = m * 2;
+    }
+}
+
+// Unmixes the first `size` words and the next ones, each under its factor.
+fn unmix_words(part: &mut [u32], size: usize, factors: &[u32])
+    requires { ⌜ length (now part) ≡ size + size ⌝ }
+    requires { ⌜ ShortFactors (fermat .modulus) size (now factors) ⌝ }
+    requires { ⌜ Words (fermat .modulus) (now part) ⌝ }
+    ensures { λ _. ⌜ now (part .exit) ≡ unmixWords (fermat .modulus) (now (factors .entry)) size (now (part .entry)) ⌝ }
+{
+    let mut j = 0;
+    while j < size {
+        let y = size + j;
+        let a = part[j];
+        let b = part[y];
+        part[j] = field::add(a, b);
+        part[y] = field::short::mul(factors[j], field::sub(a, b));
+        j += 1;
+    }
+}
+
+// The same in each of `blocks` blocks.
+fn unmix_words_each(half: &mut [u32], blocks: usize, size: usize, factors: &[u32])
+    requires { ⌜ length (now half) ≡ blocks * (size + size) ⌝ }
+    requires { ⌜ size < 4294967296 ⌝ }
+    requires { ⌜ ShortFactors (fermat .modulus) size (now factors) ⌝ }
+    requires { ⌜ Words (fermat .modulus) (now half) ⌝ }
+    ensures { λ _. ⌜ now (half .exit) ≡ eachBlock blocks (size + size) (unmixWords (fermat .modulus) (now (factors .entry)) size) (now (half .entry)) ⌝ }
+{
+    let both = size + size;
+    let mut at = 0;
+    for b in 0..blocks {
+        let to = at + both;
+        unmix_words(&mut half[at..to], size, factors);
+        at = to;
+    }
+}
+
+// The inverse of all mixing, but for the factor 2^level, of as many words.
+pub fn unmix_narrow(half: &mut [u32], level: usize, width: usize, powers: &[u32])
+    requires { ⌜ (level ≤ 11) × (2 ^ level * width ≤ 3072) ⌝ }
+    requires { ⌜ length (now half) ≡ 2 ^ level * width ⌝ }
+    requires { ⌜ now powers ≡ powerTable ⌝ }
+    requires { ⌜ Words (fermat .modulus) (now half) ⌝ }
+    ensures { λ _. ⌜ now (half .exit) ≡
+        lifted width (2 ^ level) (2 ^ level)
+        (untransform (fermat .modulus) (inverse (fermat .modulus) (rootOf fermat level)) level level) (now (half .entry)) ⌝ }
+{
+    let mut factors = [0u32; 1536];
+    let mut blocks: usize = 1;
+    let mut m = code::number::two_to(level);
+    let mut left = level;
+    while 0 < left {
+        m = m / 2;
+        left = left - 1;
+        repeat(&mut factors, m, width, powers, 2048 - 1024 / m);
+        unmix_words_each(half, blocks, m * width, &factors);
+        blocks = blocks * 2;
     }
 }

@@ -59,9 +59,12 @@ pub record ShortFactors (p n : ℕ) (factors : List ℕ) : Type 0 where
   pub room : n ≤ length factors
   pub short : (x : ℕ) → x < n → getD factors x 0 < p - 1
 
--- the first n words mixed with the next n, each under a factor of its own
+-- the first n words mixed with the next n, or unmixed, each under a factor of its own
 abbrev pub mixWords : (p : ℕ) → (factors : List ℕ) → (n : ℕ) → List ℕ → List ℕ
 mixWords p fs n l = crossedRow (mixing p) (factorAt fs) n 0 n l
+
+abbrev pub unmixWords : (p : ℕ) → (factors : List ℕ) → (n : ℕ) → List ℕ → List ℕ
+unmixWords p fs n l = crossedRow (unmixing p) (factorAt fs) n 0 n l
 
 -- f done to each of the first b blocks of n words
 unfoldable pub eachBlock : (b n : ℕ) → (f : List ℕ → List ℕ) → List ℕ → List ℕ
