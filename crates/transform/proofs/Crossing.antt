@@ -4,7 +4,7 @@ use mathlib.Core.Path.{_≡_, refl, sym, ap, ap₂, _∙_, subst}
 use mathlib.Core.Logic.{⊎-elim, _≢_}
 use mathlib.Core.List.{List}
 use Prim.Native.Nat.{ℕ, zero, suc, _+_, _-_, _*_, _/_, _%_, _^_, _≤_, _<_}
-use native.Mathlib.Nat.{eq-or-lt-of-le, add-zero, zero-add, add-suc, add-mul, zero-mul}
+use native.Mathlib.Nat.{eq-or-lt-of-le, add-zero, zero-add, add-suc, add-mul, zero-mul, one-mul}
 use native.Mathlib.Numerals.{add-one}
 use native.Mathlib.Decide.{decLt}
 use native.Mathlib.Omega.{arith}
@@ -17,12 +17,14 @@ use mir.Val.{Fits}
 use Rattle.field.specs.Residue.{plus, minus, times}
 use Rattle.field.specs.Power.{power}
 use Rattle.field.specs.Words.{Words}
+use Rattle.field.proofs.Powers.{power-of-one}
 use Rattle.field.proofs.Laws.{plus-lt, minus-lt, times-lt}
 use Rattle.field.proofs.WordLists.{words-set}
 use Rattle.code.specs.Rows.{column, lifted}
 use Rattle.code.specs.Transform.{mixedHalves, unmixed}
-use Rattle.code.specs.steps.Mixing.{Crossing, mixing, unmixing, summing, crossed, crossedRow, RowFactors, factorAt, mixWords}
+use Rattle.code.specs.steps.Mixing.{Crossing, mixing, unmixing, summing, crossed, crossedRow, sumRow, RowFactors, factorAt}
 use Rattle.code.proofs.Shapes.{mixed-low, mixed-high, unmixed-low, unmixed-high}
+use Rattle.code.proofs.Blocks.{OnBlock}
 use Rattle.code.proofs.Lifting.{column-at, length-column, is-lifted, row-in}
 
 -- what a product or a difference gives is a word of the field
@@ -118,12 +120,12 @@ module _ {c : Crossing} {part₀ : List ℕ} {low high width : ℕ} {f : ℕ →
       rw e at (h .now)
 
 -- a turn of the loop over the first words and those behind them
-pub words-turn : {part₀ : List ℕ} {size : ℕ} {f : ℕ → ℕ} {part : List ℕ} {j r s : ℕ} → RowLoop (mixing 65537) part₀ 0 size size f part j → j < size
-    → r ≡ plus 65537 (getD part j 0) (times 65537 (f j) (getD part (size + j) 0)) → s ≡ minus 65537 (getD part j 0) (times 65537 (f j) (getD part (size + j) 0))
-    → RowLoop (mixing 65537) part₀ 0 size size f (set (set part j r) (size + j) s) (j + 1)
-words-turn {j = j} {r} {s} h lt er es =
+pub words-turn : {c : Crossing} {part₀ : List ℕ} {size : ℕ} {f : ℕ → ℕ} {part : List ℕ} {j r s : ℕ} → Stores 65537 c → RowLoop c part₀ 0 size size f part j
+    → j < size → r ≡ c .low (f j) (getD part j 0) (getD part (size + j) 0) → s ≡ c .high (f j) (getD part j 0) (getD part (size + j) 0)
+    → RowLoop c part₀ 0 size size f (set (set part j r) (size + j) s) (j + 1)
+words-turn {j = j} {r} {s} k h lt er es =
     let z : 0 + j ≡ j = zero-add j in
-    rw z at (row-turn {r = r} {s = s} mixing-stores h lt (rw z er) (rw z es))
+    rw z at (row-turn {r = r} {s = s} k h lt (rw z er) (rw z es))
 
 -- the words k and half + k crossed for k below n, each under its factor: what the two loops come to
 unfoldable pub pairs : (c : Crossing) → (f : ℕ → ℕ) → (half n : ℕ) → List ℕ → List ℕ
@@ -254,13 +256,26 @@ module _ (c : Crossing) (v m width : ℕ) (d : List ℕ → List ℕ) (t : Cross
           subst (λ (k : ℕ). getD whole (k * width + j) 0 ≡ getD (d (column width (m + m) j l)) k 0) s (pairs-at (i - m) j (omega arith) b .1)
 
 -- and all words, each under the power of its row
-pub words-lifted-mixed : (v m width : ℕ) (fs l : List ℕ) → length l ≡ m * width + m * width
-    → ((x : ℕ) → x < m * width → getD fs x 0 ≡ power 65537 v (x / width))
-    → mixWords 65537 fs (m * width) l ≡ lifted width (m + m) (m + m) (mixedHalves 65537 v m) l
+pub words-lifted : {c : Crossing} {x m : ℕ} {d : List ℕ → List ℕ} (width : ℕ) (fs l : List ℕ) → Crosses c x m d → length l ≡ m * width + m * width
+    → ((k : ℕ) → k < m * width → getD fs k 0 ≡ power 65537 x (k / width))
+    → crossedRow c (factorAt fs) (m * width) 0 (m * width) l ≡ lifted width (m + m) (m + m) d l
 unfolding factorAt
-words-lifted-mixed v m width fs l e h =
-    pairs-row (mixing 65537) (factorAt fs) (factor v width) (m * width) (m * width) l h
-    ∙ all-pairs (mixing 65537) v m width (mixedHalves 65537 v m) (mixing-crosses v m) l e
+words-lifted {c} {x} {m} {d} width fs l t e h =
+    pairs-row c (factorAt fs) (factor x width) (m * width) (m * width) l h ∙ all-pairs c x m width d t l e
+
+-- rows alone, under the factor 1
+pub sums-lifted : (width : ℕ) (d : List ℕ → List ℕ) (l : List ℕ) → Crosses (summing 65537) 1 1 d → length l ≡ width + width
+    → sumRow 65537 width 0 width l ≡ lifted width 2 2 d l
+sums-lifted width d l t e =
+    let o : 1 * width ≡ width = one-mul width in
+    pairs-row (summing 65537) (λ _. 1) (factor 1 width) width width l (λ j _. sym (power-of-one 65537 (omega arith) (j / width)))
+    ∙ (rw o at (all-pairs (summing 65537) 1 1 width d t l (rw o e)))
+
+pub sums-block : (width : ℕ) → OnBlock 65537 (width + width) (sumRow 65537 width 0 width)
+sums-block width = record {
+  long = λ a e. length-row (summing 65537) (λ _. 1) width 0 width a ∙ e;
+  words = λ a w. words-row (omega arith) summing-stores (λ _. 1) width 0 width w;
+}
 
 -- THE LOOP OVER ROWS: the first i rows are crossed, under powers of entry `step` of a table
 pub record RowsLoop (c : Crossing) (part₀ : List ℕ) (m width : ℕ) (powers : List ℕ) (step : ℕ) (part : List ℕ) (e i low high : ℕ) : Type 0 where

@@ -1,5 +1,8 @@
 pub mod Crossing
-pub mod MixLevels
 pub mod FourRows
+pub mod MixLevels
+pub mod QuadLevels
 pub mod QuadRows
+pub mod SumRows
 pub mod TwoLevels
+pub mod UnmixLevels

@@ -13,23 +13,22 @@ use Rattle.field.specs.Field.{fermat, rootOf}
 use Rattle.field.specs.Words.{Words}
 use Rattle.code.specs.Rows.{lifted}
 use Rattle.code.specs.Transform.{mixed, mixedHalves, transform}
-use Rattle.code.specs.steps.Mixing.{mixing, RowFactors, ShortFactors, repeatedAt, factorAt, mixWords, eachBlock}
+use Rattle.code.specs.steps.Mixing.{Crossing, crossedRow, RowFactors, ShortFactors, repeatedAt, factorAt, eachBlock}
 use Rattle.code.specs.steps.Storing.{stored}
 use Rattle.code.proofs.RowLaws.{length-stored, stored-at}
 use Rattle.code.proofs.Shapes.{length-two, length-transform}
-use Rattle.transform.proofs.Crossing.{mixing-stores, length-row, words-row, words-lifted-mixed}
+use Rattle.transform.proofs.Crossing.{Stores, Crosses, length-row, words-row, words-lifted}
 use Rattle.code.proofs.Blocks.{OnBlock, each-same, Level, level-at, pow-down, words-each, eachRows}
 use Rattle.code.proofs.Blocks.{rows-id, rows-one, both, rows-then, rows-double, mixing-block}
 
 -- what holds after l levels: each block of 2 ^ l rows is transformed
-pub record MixLoop (half₀ : List ℕ) (level width : ℕ) (half : List ℕ) (blocks step m l : ℕ) : Type 0 where
+pub record MixLoop (half₀ : List ℕ) (level width : ℕ) (half : List ℕ) (blocks m l : ℕ) : Type 0 where
   pub turns : l ≤ level
   pub few : level ≤ 11
   pub long : length half₀ ≡ 2 ^ level * width
   pub same : length half ≡ length half₀
   pub words : Words 65537 half
   pub blocks-is : blocks ≡ 2 ^ (level - l)
-  pub step-is : l ≤ 10 → step ≡ 2 ^ (10 - l)
   pub m-is : m ≡ 2 ^ l
   pub now : half ≡ eachRows width (2 ^ (level - l)) (2 ^ l) (transform 65537 (rootOf fermat level) level l) half₀
 
@@ -59,7 +58,7 @@ mix-level width root k l b rows h =
     ∙ ap (λ (n : ℕ). eachRows width b n (transform 65537 root k (suc l)) rows) {x = m + m} {y = 2 ^ suc l} (omega arith)
 
 pub mix-start : {half₀ : List ℕ} {level width blocks : ℕ} → level ≤ 11 → length half₀ ≡ 2 ^ level * width → Words 65537 half₀
-    → blocks ≡ 2 ^ level → MixLoop half₀ level width half₀ blocks 1024 1 0
+    → blocks ≡ 2 ^ level → MixLoop half₀ level width half₀ blocks 1 0
 unfolding transform
 mix-start {half₀} {level} {width} b e w eb = record {
   turns = omega arith;
@@ -68,20 +67,19 @@ mix-start {half₀} {level} {width} b e w eb = record {
   same = refl;
   words = w;
   blocks-is = rw (sub-zero level) eb;
-  step-is = λ _. refl;
   m-is = refl;
   now = rw (sub-zero level) (sym (rows-id width (2 ^ level) half₀ e));
 }
 
-module _ {half₀ : List ℕ} {level width : ℕ} {half : List ℕ} {blocks step m l : ℕ} where
+module _ {half₀ : List ℕ} {level width : ℕ} {half : List ℕ} {blocks m l : ℕ} where
   -- the level that a turn mixes
-  pub level-in : MixLoop half₀ level width half blocks step m l → l < level → Level width level l (length half) (blocks / 2) m
+  pub level-in : MixLoop half₀ level width half blocks m l → l < level → Level width level l (length half) (blocks / 2) m
   level-in h lt = level-at lt (omega arith) (h .same ∙ h .long) (omega (arith, pow-down lt)) (h .m-is)
 
-  pub mix-turn : {half′ : List ℕ} {v : ℕ} → MixLoop half₀ level width half blocks step m l → l < level → length half′ ≡ length half
+  pub mix-turn : {half′ : List ℕ} {v : ℕ} → MixLoop half₀ level width half blocks m l → l < level → length half′ ≡ length half
       → v ≡ power 65537 (rootOf fermat level) (2 ^ level / 2 ^ l)
       → half′ ≡ eachRows width (blocks / 2) (m + m) (mixedHalves 65537 v m) half
-      → MixLoop half₀ level width half′ (blocks / 2) (step / 2) (m * 2) (l + 1)
+      → MixLoop half₀ level width half′ (blocks / 2) (m * 2) (l + 1)
   mix-turn {half′} {v} h lt el u eh =
       let s : Level width level l (length half) (blocks / 2) m = level-in h lt in
       let r : length half ≡ 2 ^ (level - suc l) * ((2 ^ l + 2 ^ l) * width) = rw (s .blocks-is, s .m-is) at (s .rows) in
@@ -92,23 +90,28 @@ module _ {half₀ : List ℕ} {level width : ℕ} {half : List ℕ} {blocks step
         same = el ∙ h .same;
         words = rw eh (words-each 65537 (blocks / 2) _ _ (omega arith) (mixing-block width m v .words) (h .words));
         blocks-is = s .blocks-is;
-        step-is = λ b. omega (arith, h .step-is (omega arith), pow-down {n = 10} {l = l} (omega arith));
         m-is = omega arith;
         now = eh ∙ rw (s .blocks-is, s .m-is, u, h .now, pow-down lt) (mix-level width (rootOf fermat level) level l (2 ^ (level - suc l)) half₀ (omega arith));
       })
 
-  pub mix-done : MixLoop half₀ level width half blocks step m l → level ≤ l
+  pub mix-done : MixLoop half₀ level width half blocks m l → level ≤ l
       → half ≡ lifted width (2 ^ level) (2 ^ level) (transform 65537 (rootOf fermat level) level level) half₀
   mix-done h le =
       let d : l ≡ level = omega arith in
       let z : level - level ≡ 0 = omega arith in
       (rw (d, z) at (h .now)) ∙ rows-one width (2 ^ level) (transform 65537 (rootOf fermat level) level level) half₀ (h .long)
 
--- a level mixed word by word, each under the factor of its row
-pub words-block : (fs : List ℕ) (n : ℕ) → OnBlock 65537 (n + n) (mixWords 65537 fs n)
-words-block fs n = record {
-  long = λ a e. length-row (mixing 65537) (factorAt fs) n 0 n a ∙ e;
-  words = λ a w. words-row (omega arith) mixing-stores (factorAt fs) n 0 n w;
+-- the table's step of a level
+pub step-down : {step l : ℕ} → (l ≤ 10 → step ≡ 2 ^ (10 - l)) → l + 1 ≤ 10 → step / 2 ≡ 2 ^ (10 - (l + 1))
+step-down {step} {l} e b =
+    let s : l + 1 ≡ suc l = add-one l in
+    rw s (omega (arith, e (omega arith), pow-down {n = 10} {l = l} (omega arith)))
+
+-- a level crossed word by word, each under the factor of its row
+pub words-block : {c : Crossing} → Stores 65537 c → (fs : List ℕ) (n : ℕ) → OnBlock 65537 (n + n) (crossedRow c (factorAt fs) n 0 n)
+words-block {c} s fs n = record {
+  long = λ a e. length-row c (factorAt fs) n 0 n a ∙ e;
+  words = λ a w. words-row (omega arith) s (factorAt fs) n 0 n w;
 }
 
 -- the factors that are repeated
@@ -134,10 +137,10 @@ module _ (width : ℕ) (fs₀ : List ℕ) {m step : ℕ} {powers fs : List ℕ} 
     short = λ x h. rw (repeated-is x h) (f .short (x / width) (row-of x h));
   }
 
-pub words-level : (v m width blocks : ℕ) (fs l : List ℕ) → length l ≡ blocks * ((m + m) * width)
-    → ((x : ℕ) → x < m * width → getD fs x 0 ≡ power 65537 v (x / width))
-    → eachBlock blocks (m * width + m * width) (mixWords 65537 fs (m * width)) l ≡ eachRows width blocks (m + m) (mixedHalves 65537 v m) l
-words-level v m width blocks fs l e h =
+pub words-level : {c : Crossing} {x m : ℕ} {d : List ℕ → List ℕ} (width blocks : ℕ) (fs l : List ℕ) → Crosses c x m d → length l ≡ blocks * ((m + m) * width)
+    → ((k : ℕ) → k < m * width → getD fs k 0 ≡ power 65537 x (k / width))
+    → eachBlock blocks (m * width + m * width) (crossedRow c (factorAt fs) (m * width) 0 (m * width)) l ≡ eachRows width blocks (m + m) d l
+words-level {c} {x} {m} {d} width blocks fs l t e h =
     let q : (m + m) * width ≡ m * width + m * width = add-mul m m width in
-    rw q (each-same blocks (m * width + m * width) (mixWords 65537 fs (m * width)) (lifted width (m + m) (m + m) (mixedHalves 65537 v m)) l (omega arith)
-    (λ a b. words-lifted-mixed v m width fs a b h))
+    rw q (each-same blocks (m * width + m * width) (crossedRow c (factorAt fs) (m * width) 0 (m * width)) (lifted width (m + m) (m + m) d) l (omega arith)
+    (λ a b. words-lifted width fs a t b h))

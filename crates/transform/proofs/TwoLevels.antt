@@ -67,7 +67,7 @@ square x i =
 further : (x m i : ℕ) {s : ℕ} → power 65537 x m ≡ s → power 65537 x (m + i) ≡ times 65537 (power 65537 x i) s
 further x m i turn = ap (power 65537 x) (add-comm m i) ∙ power-add 65537 (omega arith) x i m ∙ ap (times 65537 (power 65537 x i)) turn
 
-length-mixed-halves : (x m : ℕ) (b : List ℕ) → length b ≡ m + m → length (mixedHalves 65537 x m b) ≡ m + m
+pub length-mixed-halves : (x m : ℕ) (b : List ℕ) → length b ≡ m + m → length (mixedHalves 65537 x m b) ≡ m + m
 length-mixed-halves x m b e = length-mixed 65537 x (take m b) (drop m b) ∙ omega (arith, length-take-le m b (omega arith))
 
 -- TWO MIXINGS: both halves under x * x, and then the whole under x

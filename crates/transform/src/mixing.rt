@@ -1,6 +1,6 @@
 // Mixing in place: a row at a time here, and in crate::narrow where rows are short.
 ghost use mathlib.Core.Path.{_≡_};
-ghost use Prim.Native.Nat.{_+_, _*_, _-_, _^_, _≤_, _<_};
+ghost use Prim.Native.Nat.{_+_, _*_, _-_, _%_, _^_, _≤_, _<_};
 ghost use lib.ListN.{length, getD};
 ghost use Rattle.field.specs.Field.{fermat, rootOf, powerTable};
 ghost use Rattle.field.specs.Words.{Words};
@@ -85,13 +85,14 @@ pub fn mix(part: &mut [u32], m: usize, width: usize, powers: &[u32], step: usize
     }
 }
 
-// Mixes the rows of each of `blocks` pairs. A row alone has the factor 1, whatever the root is, so that this unmixes them too.
+// Sums and differences of the two rows of each of `blocks` blocks: a row alone has the factor 1, whatever the root is, in mixing and in unmixing.
 pub(crate) fn sum_each(half: &mut [u32], blocks: usize, width: usize)
-    requires { ⌜ length (now half) ≡ blocks * (2 * width) ⌝ }
+    requires { ⌜ length (now half) ≡ blocks * (width + width) ⌝ }
+    requires { ⌜ width + width < 9223372036854775808 ⌝ }
     requires { ⌜ Words (fermat .modulus) (now half) ⌝ }
-    ensures { λ _. ⌜ now (half .exit) ≡ eachBlock blocks (2 * width) (lifted width 2 2 (mixedHalves (fermat .modulus) 1 1)) (now (half .entry)) ⌝ }
+    ensures { λ _. ⌜ now (half .exit) ≡ eachBlock blocks (width + width) (sumRow (fermat .modulus) width 0 width) (now (half .entry)) ⌝ }
 {
-    let size = 2 * width;
+    let size = width + width;
     let mut at = 0;
     for b in 0..blocks {
         let to = at + size;
@@ -100,8 +101,26 @@ pub(crate) fn sum_each(half: &mut [u32], blocks: usize, width: usize)
     }
 }
 
-// All mixing of 2^level rows, from single rows up, two levels at once; where their number is odd, the first one alone. The root of 2^l records, under which
-// 2^l rows are mixed with 2^l rows, is entry 1024 / 2^l.
+// The first level alone, where the number of levels is odd. How many rows are then mixed: 2 or 1.
+fn mix_first(half: &mut [u32], level: usize, width: usize) -> usize
+    requires { ⌜ level ≤ 11 ⌝ }
+    requires { ⌜ length (now half) ≡ 2 ^ level * width ⌝ }
+    requires { ⌜ Words (fermat .modulus) (now half) ⌝ }
+    ensures { λ r. ⌜ r ≡ 2 ^ (level % 2) ⌝ }
+    ensures { λ _. ⌜ Words (fermat .modulus) (now (half .exit)) ⌝ }
+    ensures { λ _. ⌜ now (half .exit) ≡
+        eachBlock (2 ^ (level - level % 2)) (2 ^ (level % 2) * width)
+        (lifted width (2 ^ (level % 2)) (2 ^ (level % 2)) (transform (fermat .modulus) (rootOf fermat level) level (level % 2))) (now (half .entry)) ⌝ }
+{
+    if level % 2 == 0 {
+        return 1;
+    }
+    sum_each(half, code::number::two_to(level - 1), width);
+    2
+}
+
+// All mixing of 2^level rows, from single rows up, two levels at once. The root of 2^l records, under which 2^l rows are mixed with 2^l rows, is entry
+// 1024 / 2^l.
 fn mix_rows(half: &mut [u32], level: usize, width: usize, powers: &[u32])
     requires { ⌜ level ≤ 11 ⌝ }
     requires { ⌜ length (now half) ≡ 2 ^ level * width ⌝ }
@@ -110,13 +129,8 @@ fn mix_rows(half: &mut [u32], level: usize, width: usize, powers: &[u32])
     ensures { λ _. ⌜ now (half .exit) ≡
         lifted width (2 ^ level) (2 ^ level) (transform (fermat .modulus) (rootOf fermat level) level level) (now (half .entry)) ⌝ }
 {
-    let mut blocks = code::number::two_to(level);
-    let mut m: usize = 1;
-    if level % 2 == 1 {
-        blocks = blocks / 2;
-        m = 2;
-        sum_each(half, blocks, width);
-    }
+    let mut m = mix_first(half, level, width);
+    let mut blocks = code::number::two_to(level) / m;
     while 1 < blocks {
         blocks = blocks / 4;
         crate::quads::quad_each(half, blocks, m, width, powers, 512 / m);

@@ -1,19 +1,21 @@
 -- `transform::narrow::mix_narrow` meets its contract, by the laws of the loop over levels of proofs/MixLevels. Assumes nothing.
-use mathlib.Core.Path.{_≡_, sym, ap, _∙_}
+use mathlib.Core.Path.{_≡_, refl, sym, ap, _∙_}
 use mathlib.Core.List.{List}
-use Prim.Native.Nat.{ℕ, _-_, _*_, _/_, _≤_}
+use Prim.Native.Nat.{ℕ, _-_, _*_, _/_, _^_, _≤_}
 use native.Mathlib.Nat.{add-mul}
 use native.Mathlib.Omega.{arith}
 use lib.ListN.{length, length-replicate}
 use Rattle.field.specs.Field.{fermat, rootOf}
 use Rattle.code.proofs.Blocks.{Level}
 use Rattle.code.proofs.Factors.{LevelFactors, mixing-factors}
-use Rattle.transform.proofs.MixLevels.{MixLoop, mix-start, level-in, mix-turn, mix-done, repeated-is, repeated-short, words-level}
+use Rattle.transform.proofs.Crossing.{mixing-crosses}
+use Rattle.transform.proofs.MixLevels.{MixLoop, mix-start, level-in, mix-turn, mix-done, step-down, repeated-is, repeated-short, words-level}
 use Rattle.transform.proofs.narrow.mix_narrow.Statement.{statement}
 use Rattle.transform.proofs.narrow.mix_narrow.Tie as tie
 
 record Inv (half₀ : List ℕ) (level width : ℕ) (half factors : List ℕ) (blocks step m l : ℕ) : Type 0 where
-  levels : MixLoop half₀ level width half blocks step m l
+  levels : MixLoop half₀ level width half blocks m l
+  step-is : l ≤ 10 → step ≡ 2 ^ (10 - l)
   held : length factors ≡ 1536
 
 abbrev Inv-loop : tie.InvT-loop
@@ -44,7 +46,7 @@ two-to-requires c κs = omega arith
 loop-holds : tie.Need-loop-holds Inv-loop μ-loop
 loop-holds c =
     let p = start-at-two-to c .pre in
-    record { levels = mix-start (p .0 .0) (p .1 .0) (p .1 .1 .1) (c .two-to .ensures); held = length-replicate {A = ℕ} 1536 0 }
+    record { levels = mix-start (p .0 .0) (p .1 .0) (p .1 .1 .1) (c .two-to .ensures); step-is = λ _. refl; held = length-replicate {A = ℕ} 1536 0 }
 
 -- the level that a turn mixes, and its factors
 module _ (c : tie.In-loop Inv-loop μ-loop) where
@@ -58,8 +60,8 @@ module _ (c : tie.In-loop Inv-loop μ-loop) where
   factors : let k = start-at-test c .args .level in
       LevelFactors (rootOf fermat k) k (c .before .loop .l) (c .before .loop .m) (c .before .loop .step) (start-at-test c .args .powers .now)
   factors =
-      let i = c .before .loop .inv .levels in
-      mixing-factors (start-at-test c .pre .1 .1 .0) (omega arith) (omega arith, omega arith) (i .m-is) (i .step-is (omega arith))
+      let i = c .before .loop .inv in
+      mixing-factors (start-at-test c .pre .1 .1 .0) (omega arith) (omega arith, omega arith) (i .levels .m-is) (i .step-is (omega arith))
 
   -- both halves of a block are within the words
   room : c .before .loop .m * st-width ≤ 1536
@@ -121,7 +123,8 @@ loop-again c =
     (at-repeat .repeat .ensures) in
     record {
       levels = mix-turn (h .levels) (at-test .loop-test .taken) (at-each .mix-words-each .kept .0) (factors at-test .entry)
-          (at-each .mix-words-each .ensures ∙ words-level _ _ _ _ _ _ (here at-test .rows) is);
+          (at-each .mix-words-each .ensures ∙ words-level _ _ _ _ (mixing-crosses _ _) (here at-test .rows) is);
+      step-is = step-down (h .step-is);
       held = kept at-repeat;
     }
 

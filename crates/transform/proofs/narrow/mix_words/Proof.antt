@@ -5,7 +5,7 @@ use native.Mathlib.Omega.{arith}
 use lib.ListN.{getD, length-set}
 use Rattle.field.specs.Residue.{plus, minus}
 use Rattle.code.specs.steps.Mixing.{mixing, factorAt}
-use Rattle.transform.proofs.Crossing.{RowLoop, row-word, words-turn, row-needs as needs}
+use Rattle.transform.proofs.Crossing.{RowLoop, row-word, words-turn, mixing-stores, row-needs as needs}
 use Rattle.transform.proofs.narrow.mix_words.Statement.{statement}
 use Rattle.transform.proofs.narrow.mix_words.Tie as tie
 
@@ -43,7 +43,7 @@ loop-again c =
     let at-mul = c .before .before in
     let at-test = test-at-mul at-mul in
     let a = getD (at-test .before .loop .part) (at-test .before .loop .j) 0 in
-    words-turn (at-test .before .loop .inv) (at-test .loop-test .taken) (c .before .add .ensures ∙ ap (plus 65537 a) (at-mul .mul .ensures))
+    words-turn mixing-stores (at-test .before .loop .inv) (at-test .loop-test .taken) (c .before .add .ensures ∙ ap (plus 65537 a) (at-mul .mul .ensures))
     (c .sub .ensures ∙ ap (minus 65537 a) (at-mul .mul .ensures))
 
 pub mix-words-spec : {M : Type 1} → statement M

@@ -3,6 +3,7 @@ use Prim.Native.Nat.{_+_, _-_}
 use native.Mathlib.Omega.{arith}
 use Rattle.code.specs.steps.Mixing.{mixWords}
 use Rattle.code.proofs.Blocks.{BlockLoop, block-in, part-long, part-words, blocks-turn, blocks-needs as needs}
+use Rattle.transform.proofs.Crossing.{mixing-stores}
 use Rattle.transform.proofs.MixLevels.{words-block}
 use Rattle.transform.proofs.narrow.mix_words_each.Statement.{statement}
 use Rattle.transform.proofs.narrow.mix_words_each.Tie as tie
@@ -27,7 +28,7 @@ loop-again c =
     let at-words = c .before .before in
     let at-test = at-words .before .before in
     let s = at-test .before .before .before .before in
-    blocks-turn (words-block (s .args .factors .now) (s .args .size)) (at-test .before .loop .inv) (at-test .loop-test .taken) (at-words .mix-words .ensures)
+    blocks-turn (words-block mixing-stores (s .args .factors .now) (s .args .size)) (at-test .before .loop .inv) (at-test .loop-test .taken) (at-words .mix-words .ensures)
 
 pub mix-words-each-spec : {M : Type 1} → statement M
 mix-words-each-spec =
