@@ -1,8 +1,11 @@
+pub mod BitReversal
 pub mod Blocks
 pub mod CodedRows
 pub mod Crossing
 pub mod Factors
+pub mod Inverse
 pub mod Lifting
 pub mod MixLevels
 pub mod RowLaws
 pub mod Shapes
+pub mod Values
