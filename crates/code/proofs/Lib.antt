@@ -1,6 +1,7 @@
 pub mod BitReversal
 pub mod Blocks
 pub mod CodedRows
+pub mod Convolution
 pub mod Crossing
 pub mod Factors
 pub mod Inverse
