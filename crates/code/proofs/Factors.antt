@@ -36,7 +36,7 @@ pub record LevelFactors (w k l m step : ℕ) (powers : List ℕ) : Type 0 where
   pub entry : getD powers step 0 ≡ power 65537 w (2 ^ k / 2 ^ l)
 
 -- by the numbers that a loop over levels has
-module _ {k l m step : ℕ} {powers : List ℕ} (is : powers ≡ powerTable) (b : l ≤ k) (t : k ≤ 10) (em : m ≡ 2 ^ l) where
+module _ {k l m step : ℕ} {powers : List ℕ} (is : powers ≡ powerTable) (b : l ≤ k) (t : (l ≤ 10) × (k ≤ 15)) (em : m ≡ 2 ^ l) where
   pub mixing-factors : step ≡ 2 ^ (10 - l) → LevelFactors (rootOf fermat k) k l m step powers
   mixing-factors e =
       let R : Root 65537 l (getD powerTable (2 ^ (10 - l)) 0) = rw (table-root l (omega arith)) (fermat-root l (omega arith)) in

@@ -38,7 +38,7 @@ fn weigh(part: &mut [u32], marks: &[bool], level: usize, width: usize)
         if !marks[i] {
             g = part[x];
         }
-        code::coding::scale_row(part, at, width, g);
+        coding::scale_row(part, at, width, g);
         at += width;
     }
 }
@@ -54,9 +54,9 @@ fn split(part: &mut [u32], st: Stripe, powers: &[u32])
         (Decoder.split (modulusOf st) (inverse (modulusOf st) (rootIn st)) (st .k) (st .level) (st .first)) (now (part .entry)) ⌝ }
 {
     let half = code::number::two_to(st.level) * st.width;
-    code::unmixing::unmix_all(&mut part[..half], st, powers);
-    code::unmixing::unmix_all(&mut part[half..], st, powers);
-    code::coding::turn_back(&mut part[half..], st, powers);
+    coding::unmix_all(&mut part[..half], st, powers);
+    coding::unmix_all(&mut part[half..], st, powers);
+    coding::turn_back(&mut part[half..], st, powers);
 }
 
 // Whether two rows are equal.
@@ -139,8 +139,8 @@ fn evaluate(part: &mut [u32], st: Stripe, powers: &[u32])
         lifted (st .width) (positionCount st) (positionCount st) (Decoder.evaluated (modulusOf st) (rootIn st) (st .k) (st .level)) (now (part .entry)) ⌝ }
 {
     let half = code::number::two_to(st.level) * st.width;
-    code::mixing::mix_all(&mut part[..half], st, powers);
-    code::mixing::mix_all(&mut part[half..], st, powers);
+    coding::mix_all(&mut part[..half], st, powers);
+    coding::mix_all(&mut part[half..], st, powers);
 }
 
 // g times the row at `from`, in the place of the row at `to`.
@@ -248,7 +248,7 @@ pub fn decode(part: &mut [u32], marks: &[bool], st: Stripe) -> bool
     derive(&mut part[..all], level, width);
     evaluate(&mut part[..all], st, &powers);
     choose(part, marks, st, &powers);
-    code::unmixing::unmix_all(&mut part[..half], st, &powers);
+    coding::unmix_all(&mut part[..half], st, &powers);
     clear(part, half, all);
     true
 }

@@ -1,25 +1,10 @@
 // The program that prints the table of powers (`powerTable`, field/specs/Field), one number to a line, computed from 3^32 alone.
 ghost use mathlib.Core.Path.{_≡_};
-ghost use mathlib.Core.List.{_∷_, [], _++_};
-ghost use Prim.Native.Nat.{_+_, _≤_, _<_};
+ghost use Prim.Native.Nat.{_≤_};
 ghost use lib.ListN.{length, take};
 ghost use Rattle.field.specs.Field.{powerTable};
 ghost use Rattle.io.specs.Counts.{Counts};
-ghost use Rattle.print_powers.specs.Text.{lines};
-
-// Puts the line of a number of at most five digits into the buffer from index `at` on, and gives the index after it.
-fn put_line(out: &mut [u8], at: usize, n: u32) -> usize
-    requires { ⌜ (n < 100000) × (at + 6 ≤ length (now out)) ⌝ }
-    ensures { λ r. ⌜ r ≤ at + 6 ⌝ }
-    ensures { λ r. ⌜ take r (now (out .exit)) ≡ take at (now (out .entry)) ++ lines (n ∷ []) ⌝ }
-{
-    let mut digits = [0u8; 20];
-    let count = io::decimal(n as u64, &mut digits);
-    bytes::copy(&digits[..count], &mut out[at..]);
-    let end = at + count;
-    out[end] = b'\n';
-    end + 1
-}
+ghost use Rattle.print_lines.specs.Text.{lines};
 
 // Puts the lines of the table into the buffer, which has room for 2048 lines of 6 bytes, and gives their length. Each entry is the one before times 3^32.
 fn put_table(out: &mut [u8]) -> usize
@@ -31,7 +16,7 @@ fn put_table(out: &mut [u8]) -> usize
     let mut entry = 1;
     let mut to = 0;
     for i in 0..2048usize {
-        to = put_line(out, to, entry);
+        to = print_lines::put_line(out, to, entry);
         entry = field::mul(x, entry);
     }
     to

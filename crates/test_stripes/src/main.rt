@@ -18,7 +18,7 @@ fn code_case(part: &mut [u32], st: Stripe)
 {
     let count = part.len();
     input::words(part, count);
-    code::coding::code(part, st);
+    coding::code(part, st);
     output::words(part, count);
 }
 

@@ -1,0 +1,15 @@
+-- `coding::mix_all` meets its contract: what a level's root gives is the same for every k (proofs/Levels). Assumes nothing.
+use mathlib.Core.Path.{_∙_}
+use borrow.Author.Needs.{needs}
+use Rattle.coding.proofs.Levels.{rows-transform}
+use Rattle.coding.proofs.mix_all.Statement.{statement}
+use Rattle.coding.proofs.mix_all.Tie as tie
+
+returns : tie.Need-returns
+returns c =
+    let at-all = c .before .before in
+    let s = at-all .before .before .before .before in
+    at-all .mix-all .ensures ∙ rows-transform (s .args .st .width) (s .args .st .k) (s .args .st .level) (s .args .half .now) (s .pre .0 .within) (s .pre .0 .small)
+
+pub mix-all-spec : {M : Type 1} → statement M
+mix-all-spec = tie.close (tie.spec (λ c κs. search needs) (λ c. search needs) returns)
