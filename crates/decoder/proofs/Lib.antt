@@ -19,4 +19,5 @@ pub mod Survivors
 pub mod AllTo
 pub mod Values
 pub mod WeightLaws
+pub mod WeightLogs
 pub mod Worked

@@ -36,7 +36,7 @@ abbrev pub Spared : List Bool → ℕ → ℕ → Type 0
 Spared ms n i = (j : ℕ) → j < n → getD ms j false ≡ true → j ≢ i
 
 -- what holds at suc i, and of suc n where it holds of n, holds of all n above i
-above : (Q : ℕ → Type 0) (i : ℕ) → Q (suc i) → ((n : ℕ) → i < n → Q n → Q (suc n)) → (n : ℕ) → i < n → Q n
+pub above : (Q : ℕ → Type 0) (i : ℕ) → Q (suc i) → ((n : ℕ) → i < n → Q n → Q (suc n)) → (n : ℕ) → i < n → Q n
 above Q i q s zero b = absurd (omega arith)
 above Q i q s (suc n) b = ⊎-elim (λ e. subst (λ (t : ℕ). Q (suc t)) e q) (λ c. s n c (above Q i q s n c)) (eq-or-lt-of-le {n = i} {m = n} (omega arith))
 
