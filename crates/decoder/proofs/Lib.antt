@@ -11,7 +11,6 @@ pub mod Folding
 pub mod Half
 pub mod Inverse
 pub mod Points
-pub mod TablePoints
 pub mod TablePromises
 pub mod Products
 pub mod Proved

@@ -20,7 +20,8 @@ use Rattle.decoder.specs.Decoding.{pointAt}
 use Rattle.decoder.specs.steps.Decoder.{weightTo}
 use Rattle.field.proofs.Booleans.{either}
 use Rattle.decoder.proofs.Points.{point-lt}
-use Rattle.decoder.proofs.Survivors.{erasedTo, erased-zero, erased-true, erased-false}
+use Rattle.logarithms.specs.Weights.{erasedTo}
+use Rattle.decoder.proofs.Survivors.{erased-zero, erased-true, erased-false}
 use Rattle.decoder.proofs.WeightLaws.{weight-zero, weight-survivor, weight-own, weight-other}
 use Rattle.decoder.proofs.Coefficients.{euler, euler-lift}
 

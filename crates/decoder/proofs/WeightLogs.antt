@@ -5,16 +5,17 @@ use mathlib.Core.Logic.{_≢_, ⊎-elim}
 use mathlib.Core.Bool.{Bool, true, false}
 use mathlib.Core.List.{List}
 use Prim.Native.Nat.{ℕ, zero, suc, _+_, _*_, _-_, _/_, _%_, _^_, _≤_, _<_}
-use native.Mathlib.Nat.{mul-comm, mul-pos, zero-mul, zero-mod, mod-lt, mod-self}
+use native.Mathlib.Nat.{mul-comm, mul-pos, zero-mul, zero-mod, mod-lt, mod-self, add-mul-mod-self-left}
 use native.Mathlib.Decide.{decLt}
 use native.Mathlib.Omega.{arith, ne-cases}
 use borrow.Author.Tests.{eq-eqb, ne-eqb, lt-ltb, le-ltb}
 use lib.Dec.{ltb, lit<}
-use lib.ListN.{getD}
+use lib.ListN.{length, getD}
 use lib.Pow.{pow-pos, pow-add}
 use Rattle.field.specs.Residue.{minus, times}
-use Rattle.field.specs.Power.{power}
+use Rattle.field.specs.Power.{power, inverse}
 use Rattle.field.specs.Field.{Root, fermat, rootOf}
+use Rattle.field.specs.Words.{Words}
 use Rattle.field.proofs.Booleans.{either}
 use Rattle.field.proofs.Congruence.{of-eq}
 use Rattle.field.proofs.Laws.{times-comm, times-assoc, times-one}
@@ -23,13 +24,14 @@ use Rattle.field.proofs.Powers.{power-lt, power-zero, power-add, power-mul}
 use Rattle.field.proofs.Primes.{fermat-prime, fermat-root}
 use Rattle.field.proofs.Ring.{v, _⊖_, _⊗_, lin}
 use Rattle.field.proofs.Unity.{two-div, root-full}
+use Rattle.field.proofs.WordLists.{words-table, length-table, getD-table, same-table}
 use Rattle.code.proofs.Lifting.{row-in}
 use Rattle.logarithms.specs.Logarithms.{logTable}
-use Rattle.logarithms.specs.Weights.{exponentAt, logOfPower, logOfLess, logTo, logAt}
+use Rattle.logarithms.specs.Weights.{exponentAt, logOfPower, logOfLess, logTo, logAt, logs}
 use Rattle.logarithms.proofs.Logarithms.{three-root, base-root, log-zero, log-entry}
 use Rattle.decoder.specs.Decoding.{pointAt}
 use Rattle.decoder.specs.Promises.{Parameters}
-use Rattle.decoder.specs.steps.Decoder.{weightTo, weightAt}
+use Rattle.decoder.specs.steps.Decoder.{weightTo, weightAt, factorAt, factors, raisedAt, raised}
 use Rattle.decoder.proofs.Points.{point-lt, points-distinct}
 use Rattle.decoder.proofs.Products.{Spared, above, spared-survivor}
 use Rattle.decoder.proofs.WeightLaws.{weight-zero, weight-survivor, weight-own, weight-other}
@@ -174,14 +176,14 @@ module _ (k l : ℕ) (within : l ≤ k) (small : k ≤ 10) where
     abbrev weight : ℕ → ℕ
     weight n = weightTo 65537 w k l ms i n
 
-    abbrev raised : ℕ → ℕ
-    raised n = power 65537 3 (logTo l ms i n)
+    abbrev powerTo : ℕ → ℕ
+    powerTo n = power 65537 3 (logTo l ms i n)
 
     more : (n : ℕ) → getD ms n false ≡ true
-        → raised (suc n) ≡ times 65537 (raised n) (power 65537 3 (logOfPower l (e n) + logOfLess l (e i + (2 ^ suc l - e n))))
+        → powerTo (suc n) ≡ times 65537 (powerTo n) (power 65537 3 (logOfPower l (e n) + logOfLess l (e i + (2 ^ suc l - e n))))
     more n q = ap (power 65537 3) (log-erased l ms i n q) ∙ power-add 65537 h 3 (logTo l ms i n) _
 
-    spared : (n : ℕ) → n ≤ 2 ^ suc l → Spared ms n i → raised n ≡ weight n
+    spared : (n : ℕ) → n ≤ 2 ^ suc l → Spared ms n i → powerTo n ≡ weight n
     spared zero b s = ap (power 65537 3) (log-none l ms i) ∙ power-zero 65537 h 3 ∙ sym (weight-zero 65537 w k l ms i)
     spared (suc n) b s =
         let r = spared n (omega arith) (λ j c. s j (omega arith)) in
@@ -192,17 +194,17 @@ module _ (k l : ℕ) (within : l ≤ k) (small : k ≤ 10) where
         (λ q. ap (power 65537 3) (log-survivor l ms i n q) ∙ r ∙ sym (weight-survivor 65537 w k l ms i n q)) (either (getD ms n false))
 
     -- once i itself is passed, its point is a factor more
-    passed : getD ms i false ≡ true → (n : ℕ) → i < n → n ≤ 2 ^ suc l → raised n ≡ times 65537 (x i) (weight n)
-    passed q = above (λ (n : ℕ). n ≤ 2 ^ suc l → raised n ≡ times 65537 (x i) (weight n)) i first next
+    passed : getD ms i false ≡ true → (n : ℕ) → i < n → n ≤ 2 ^ suc l → powerTo n ≡ times 65537 (x i) (weight n)
+    passed q = above (λ (n : ℕ). n ≤ 2 ^ suc l → powerTo n ≡ times 65537 (x i) (weight n)) i first next
       where
-        first : suc i ≤ 2 ^ suc l → raised (suc i) ≡ times 65537 (x i) (weight (suc i))
+        first : suc i ≤ 2 ^ suc l → powerTo (suc i) ≡ times 65537 (x i) (weight (suc i))
         first b =
             more i q ∙ ap₂ (times 65537) (spared i (omega arith) (λ j c _ o. omega arith)) (term-own i m)
             ∙ times-comm 65537 z (weight i) (x i)
             ∙ ap (times 65537 (x i)) (sym (weight-own 65537 w k l ms i i (eq-eqb i i refl)))
 
-        next : (n : ℕ) → i < n → (n ≤ 2 ^ suc l → raised n ≡ times 65537 (x i) (weight n)) → suc n ≤ 2 ^ suc l
-            → raised (suc n) ≡ times 65537 (x i) (weight (suc n))
+        next : (n : ℕ) → i < n → (n ≤ 2 ^ suc l → powerTo n ≡ times 65537 (x i) (weight n)) → suc n ≤ 2 ^ suc l
+            → powerTo (suc n) ≡ times 65537 (x i) (weight (suc n))
         next n c r b =
             let o : n ≢ i = λ s. omega arith in
             ⊎-elim
@@ -212,12 +214,43 @@ module _ (k l : ℕ) (within : l ≤ k) (small : k ≤ 10) where
             (either (getD ms n false))
 
     -- THE LAW, by the mark of the position
-    reduced : power 65537 3 (logAt l ms i) ≡ raised (2 ^ suc l)
+    reduced : power 65537 3 (logAt l ms i) ≡ powerTo (2 ^ suc l)
     unfolding logAt
     reduced = turns 65537 15 3 fermat-prime three-root (logTo l ms i (2 ^ suc l))
 
-    pub log-of-survivor : getD ms i false ≡ false → power 65537 3 (logAt l ms i) ≡ weightAt 65537 w k l ms i
+    log-of-survivor : getD ms i false ≡ false → power 65537 3 (logAt l ms i) ≡ weightAt 65537 w k l ms i
     log-of-survivor q = reduced ∙ spared (2 ^ suc l) (omega arith) (spared-survivor ms (2 ^ suc l) i q)
 
-    pub log-of-erased : getD ms i false ≡ true → power 65537 3 (logAt l ms i) ≡ times 65537 (x i) (weightAt 65537 w k l ms i)
+    log-of-erased : getD ms i false ≡ true → power 65537 3 (logAt l ms i) ≡ times 65537 (x i) (weightAt 65537 w k l ms i)
     log-of-erased q = reduced ∙ passed q (2 ^ suc l) m (omega arith)
+
+-- so the powers of 3 at all of them are the factors
+power-is : (k l : ℕ) (ms : List Bool) → l ≤ k → k ≤ 10 → (i : ℕ) → i < 2 ^ suc l → raisedAt 65537 3 (logs l ms) i ≡ factorAt 65537 (rootOf fermat k) k l ms i
+unfolding raisedAt logs factorAt
+power-is k l ms within small i m =
+    ap (power 65537 3) (getD-table (2 ^ suc l) i (logAt l ms) m)
+    ∙ ⊎-elim (λ q. log-of-erased k l within small ms i m q ∙ rw (q, factorAt)) (λ q. log-of-survivor k l within small ms i m q ∙ rw (q, factorAt))
+    (either (getD ms i false))
+
+pub powers-are : (k l : ℕ) (ms : List Bool) → l ≤ k → k ≤ 10 → raised 65537 3 l (logs l ms) ≡ factors 65537 (rootOf fermat k) k l ms
+powers-are k l ms within small =
+    same-table (2 ^ suc l) (raisedAt 65537 3 (logs l ms)) (factorAt 65537 (rootOf fermat k) k l ms) (power-is k l ms within small)
+
+-- THE WORDS that hold them
+pub length-logs : (l : ℕ) (ms : List Bool) → length (logs l ms) ≡ 2 ^ suc l
+unfolding logs
+length-logs l ms = length-table (2 ^ suc l) (logAt l ms)
+
+pub words-logs : (l : ℕ) (ms : List Bool) → Words 65536 (logs l ms)
+unfolding logs logAt
+words-logs l ms = words-table 65536 (lit< tt) (2 ^ suc l) (logAt l ms) (λ i _. mod-lt (logTo l ms i (2 ^ suc l)) (lit< tt))
+
+-- THE INVERSE of a power of 3, by the negated logarithm
+negated : (e : ℕ) → e ≤ 65536 → (65536 - e) % 65536 ≡ e * 65535 % 65536
+negated zero b = refl
+negated (suc e) b =
+    sym (ap (λ (n : ℕ). n % 65536) {x = suc e * 65535} {y = 65536 - suc e + 65536 * e} (omega arith) ∙ add-mul-mod-self-left (65536 - suc e) 65536 e)
+
+pub power-back : (e : ℕ) → e ≤ 65536 → power 65537 3 ((65536 - e) % 65536) ≡ inverse 65537 (power 65537 3 e)
+unfolding inverse
+power-back e b = ap (power 65537 3) (negated e b) ∙ turns 65537 15 3 fermat-prime three-root (e * 65535) ∙ power-mul 65537 h 3 e 65535
