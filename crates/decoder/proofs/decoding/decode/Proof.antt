@@ -11,7 +11,7 @@ use lib.ListN.{length, take, drop}
 use Rattle.field.specs.Words.{Words}
 use Rattle.field.proofs.Primes.{fermat-prime, fermat-root}
 use Rattle.field.proofs.PowerTables.{length-powers, length-table-of-powers}
-use Rattle.field.proofs.WordLists.{words-take, words-drop}
+use Rattle.field.proofs.WordLists.{words-take}
 use Rattle.code.proofs.Lifting.{two-halves}
 use Rattle.decoder.proofs.DecodeRows.{Decoding, Sound, AllRows, HalfRows, isConsistent, weighedOf, splitOf, derivedOf, evaluatedOf}
 use Rattle.decoder.proofs.DecodeRows.{chosenOf, solvedOf, fits, counted, sized, words-lent, words-part, length-holds, length-half, after-weigh}
@@ -19,7 +19,7 @@ use Rattle.decoder.proofs.DecodeRows.{after-split, check-is, after-refu
 use Rattle.code.specs.declared.Stripe.{Stripe}
 use Rattle.code.specs.Stripe.{rootIn, positionCount, blockWords, stripeWords}
 use Rattle.decoder.specs.steps.Decoder.{logsIn}
-use Rattle.decoder.proofs.WeightLogs.{powers-are, length-logs, words-logs}
+use Rattle.decoder.proofs.WeightLogs.{powers-are, length-logs, small-logs, words-logs}
 use Rattle.decoder.proofs.decoding.decode.Statement.{statement}
 use Rattle.decoder.proofs.decoding.decode.Tie as tie
 
@@ -49,14 +49,9 @@ sound c = record {
   powers = powers-are (c .args .st .k) (c .args .st .level) (c .args .marks .now) (c .pre .0 .within) (c .pre .0 .small);
 }
 
--- the logarithms behind the rows: small, words of the field, one for each position
+-- the logarithms behind the rows: small, and one for each position
 logs-small : (c : tie.Start) → Words 65536 (drop (stripeWords (c .args .st)) (c .args .part .now))
-logs-small c = rw (c .pre .1 .1 .1 .1) (words-logs (c .args .st .level) (c .args .marks .now))
-
-logs-words : (c : tie.Start) → Words 65537 (logsIn (c .args .st) (c .args .marks .now))
-logs-words c =
-    let p = c .pre .1 .1 .1 in
-    rw (p .1) at (words-drop 65537 (lit< tt) (stripeWords (c .args .st)) (p .0))
+logs-small c = rw (c .pre .1 .1 .1 .1) (small-logs (c .args .st .level) (c .args .marks .now))
 
 logs-long : (c : tie.Start) → length (logsIn (c .args .st) (c .args .marks .now)) ≡ positionCount (c .args .st)
 logs-long c = length-logs (c .args .st .level) (c .args .marks .now)
@@ -293,7 +288,7 @@ choose-requires c κs =
     let h = evaluate-holds at in
     let threes = evaluate-threes at in
     let long = length-holds h ∙ ap₂ _+_ (all-is two) (logs-long s) in
-    (s .pre .0, (s .pre .1 .0 .0, (long, ((threes .before .powers .ensures, threes .threes .ensures), words-part h (sound s) (logs-words s)))))
+    (s .pre .0, (s .pre .1 .0 .0, (long, ((threes .before .powers .ensures, threes .threes .ensures), words-part h (sound s) (words-logs (s .args .st .level) (s .args .marks .now))))))
 
 slice-relend-prefix-unmix-all : tie.Need-slice-relend-prefix-unmix-all
 slice-relend-prefix-unmix-all c = fits (choose-holds (c .before .before))
