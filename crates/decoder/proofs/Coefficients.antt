@@ -3,7 +3,7 @@
 use mathlib.Core.Path.{_≡_, refl, sym, ap, ap₂, _∙_}
 use mathlib.Core.List.{List, [], _∷_}
 use Prim.Native.Nat.{ℕ, zero, suc, _+_, _≤_, _<_}
-use native.Mathlib.Nat.{mod-lt, zero-add, suc-add, add-zero}
+use native.Mathlib.Nat.{mod-lt, zero-add, add-zero}
 use native.Mathlib.Omega.{arith}
 use lib.ListN.{length, getD}
 use Rattle.field.specs.Residue.{plus, minus, times}
@@ -12,8 +12,7 @@ use Rattle.field.specs.Polynomial.{horner, lift}
 use Rattle.field.specs.Words.{table}
 use Rattle.field.proofs.Congruence.{of-eq}
 use Rattle.field.proofs.Ring.{v, _⊕_, _⊖_, _⊗_, ring, lin}
-use Rattle.field.proofs.Powers.{power-zero, power-suc}
-use Rattle.field.proofs.Polynomials.{horner-lt, lift-is}
+use Rattle.field.proofs.Polynomials.{horner-parts, lift-is}
 use Rattle.field.proofs.WordLists.{same-table}
 use Rattle.code.specs.Transform.{scaled}
 
@@ -104,34 +103,14 @@ module _ (p : ℕ) (h : 0 < p) where
       let t = v (horner p (table n (λ j. g (suc j))) x) in
       ring p h (v (f 0) ⊖ v (g 0) ⊕ v x ⊗ (s ⊖ t)) (v (f 0) ⊕ v x ⊗ s ⊖ (v (g 0) ⊕ v x ⊗ t)) h h (omega arith))
 
--- a polynomial of n + m coefficients, cut at n
+-- cut in half, where the power at the cut is 1, and where it is -1
 module _ (p : ℕ) (h : 1 < p) where
-  horner-parts : (n m : ℕ) (f : ℕ → ℕ) (x : ℕ)
-      → horner p (table (n + m) f) x ≡ plus p (horner p (table n f) x) (times p (power p x n) (horner p (table m (λ j. f (n + j))) x))
-  unfolding horner table
-  horner-parts zero m f x =
-      let t = horner p (table m (λ j. f (0 + j))) x in
-      ap (λ n. horner p (table n f) x) (zero-add m) ∙ ap (λ l. horner p l x) (same-table m f (λ j. f (0 + j)) (λ j _. ap f (sym (zero-add j))))
-      ∙ ring p (omega arith) (v t) (v 0 ⊕ v 1 ⊗ v t) (horner-lt p (omega arith) (table m (λ j. f (0 + j))) x) (omega arith) (omega arith)
-      ∙ ap (λ u. plus p 0 (times p u t)) (sym (power-zero p h x))
-  horner-parts (suc n) m f x =
-      let f′ : ℕ → ℕ = λ j. f (suc j) in
-      ap (λ n. horner p (table n f) x) (suc-add n m) ∙ ap (λ t. plus p (f 0) (times p x t)) (horner-parts n m f′ x)
-      ∙ ap (λ l. plus p (f 0) (times p x (plus p (horner p (table n f′) x) (times p (power p x n) (horner p l x)))))
-      (same-table m (λ j. f′ (n + j)) (λ j. f (suc n + j)) (λ j _. ap f (sym (suc-add n j))))
-      ∙ (let s = v (horner p (table n f′) x) in
-      let t = v (horner p (table m (λ j. f (suc n + j))) x) in
-      let u = v (power p x n) in
-      ring p (omega arith) (v (f 0) ⊕ v x ⊗ (s ⊕ u ⊗ t)) (v (f 0) ⊕ v x ⊗ s ⊕ v x ⊗ u ⊗ t) (omega arith) (omega arith) (omega arith))
-      ∙ ap (λ u. plus p (plus p (f 0) (times p x (horner p (table n f′) x))) (times p u (horner p (table m (λ j. f (suc n + j))) x))) (sym (power-suc p h x n))
-
-  -- cut in half, where the power at the cut is 1, and where it is -1
   pub fold-plus : (n : ℕ) (f : ℕ → ℕ) (x : ℕ) → power p x n ≡ 1 → horner p (table (n + n) f) x ≡ horner p (table n (λ j. plus p (f j) (f (n + j)))) x
   fold-plus n f x e =
       let s = v (horner p (table n f) x) in
       let t = v (horner p (table n (λ j. f (n + j))) x) in
       let o : 0 < p = omega arith in
-      horner-parts n n f x ∙ lin p o (s ⊕ v (power p x n) ⊗ t) (s ⊕ t) t (v (power p x n)) (v 1) (of-eq p e) o o (omega arith)
+      horner-parts p h n n f x ∙ lin p o (s ⊕ v (power p x n) ⊗ t) (s ⊕ t) t (v (power p x n)) (v 1) (of-eq p e) o o (omega arith)
       ∙ sym (horner-plus p o n f (λ j. f (n + j)) x)
 
   pub fold-minus : (n : ℕ) (f : ℕ → ℕ) (x : ℕ) → power p x n ≡ minus p 0 1
@@ -140,5 +119,5 @@ module _ (p : ℕ) (h : 1 < p) where
       let s = v (horner p (table n f) x) in
       let t = v (horner p (table n (λ j. f (n + j))) x) in
       let o : 0 < p = omega arith in
-      horner-parts n n f x ∙ lin p o (s ⊕ v (power p x n) ⊗ t) (s ⊖ t) t (v (power p x n)) (v 0 ⊖ v 1) (of-eq p e) o o (omega arith)
+      horner-parts p h n n f x ∙ lin p o (s ⊕ v (power p x n) ⊗ t) (s ⊖ t) t (v (power p x n)) (v 0 ⊖ v 1) (of-eq p e) o o (omega arith)
       ∙ sym (horner-minus p o n f (λ j. f (n + j)) x)

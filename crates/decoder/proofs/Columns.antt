@@ -18,7 +18,7 @@ use Rattle.decoder.specs.steps.RowTests.{allTo}
 use Rattle.decoder.specs.Promises.{Parameters, Enough, Agrees, FindsColumn, FoundColumn}
 use Rattle.code.specs.Rows.{Column}
 use Rattle.code.proofs.Shapes.{words-coded, column-reversed}
-use Rattle.decoder.proofs.BitReversal.{bitReversed-twice}
+use Rattle.code.proofs.BitReversal.{bitReversed-twice}
 use Rattle.decoder.proofs.Survivors.{Survivors, survivors-are}
 use Rattle.decoder.proofs.AllTo.{unless-same, same-unless, allTo-all, allTo-each}
 use Rattle.decoder.proofs.Points.{point-lt, points-distinct}

@@ -29,17 +29,17 @@ use Rattle.decoder.specs.Promises.{Parameters, Enough, Agrees}
 use Rattle.code.specs.Rows.{Column}
 use Rattle.field.proofs.Booleans.{either}
 use Rattle.code.proofs.Shapes.{append-low, append-high, take-half, drop-half, length-untransform, length-bitReversed, length-scaled, column-reversed}
-use Rattle.code.proofs.Shapes.{column-scaled}
+use Rattle.code.proofs.Shapes.{by-halves, column-scaled}
 use Rattle.decoder.proofs.DecoderShapes.{length-weighed, words-weighed, weighed-at}
-use Rattle.decoder.proofs.BitReversal.{bitReversed-twice}
+use Rattle.code.proofs.BitReversal.{bitReversed-twice}
 use Rattle.decoder.proofs.Coefficients.{horner-table, euler-table, horner-scaled}
 use Rattle.decoder.proofs.Survivors.{count}
-use Rattle.decoder.proofs.Points.{by-halves, point-lt, point-positive, points-distinct}
+use Rattle.decoder.proofs.Points.{point-lt, point-positive, points-distinct}
 use Rattle.decoder.proofs.WeightLaws.{weight-lt, weight-nonzero}
 use Rattle.decoder.proofs.Products.{multiplied, spared-survivor, length-multiplied, multiplied-value, multiplied-root, multiplied-euler, Divided}
 use Rattle.decoder.proofs.Products.{divided}
 use Rattle.decoder.proofs.Values.{valuesX, valuesY}
-use Rattle.decoder.proofs.Inverse.{unscaled}
+use Rattle.code.proofs.Inverse.{unscaled}
 use Rattle.decoder.proofs.Evaluation.{bitReversed-scaled, untransform-values, untransformed-value, untransformed-turned-value}
 use Rattle.decoder.proofs.Folding.{low-same, folded, split-is, low-is, evaluated-low, evaluated-high, unfolded, length-unfolded, unfolded-low}
 use Rattle.decoder.proofs.Folding.{unfolded-high}

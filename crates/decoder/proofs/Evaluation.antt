@@ -23,7 +23,7 @@ use Rattle.decoder.specs.Promises.{Parameters}
 use Rattle.code.specs.Rows.{Column}
 use Rattle.code.proofs.Shapes.{length-transform, length-untransform, length-scaled, length-turned, length-bitReversed, bitReversed-at, coded-low, coded-high}
 use Rattle.code.proofs.Shapes.{scaled-at, reversed-lt, words-untransform, column-reversed, column-turned}
-use Rattle.decoder.proofs.BitReversal.{bitReversed-twice}
+use Rattle.code.proofs.BitReversal.{bitReversed-twice}
 use Rattle.decoder.proofs.Values.{valuesX, valuesY}
 use Rattle.decoder.proofs.Inverse.{untransforms, transforms}
 

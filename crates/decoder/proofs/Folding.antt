@@ -25,7 +25,7 @@ use Rattle.decoder.specs.Promises.{Parameters}
 use Rattle.decoder.proofs.AllTo.{unless-same, same-unless, allTo-all, allTo-each}
 use Rattle.code.proofs.Shapes.{append-low, append-high, take-half, drop-half, length-scaled, length-bitReversed, bitReversed-at, scaled-at, reversed-lt}
 use Rattle.code.proofs.Shapes.{column-scaled, column-table}
-use Rattle.decoder.proofs.BitReversal.{reversed-twice}
+use Rattle.code.proofs.BitReversal.{reversed-twice}
 use Rattle.decoder.proofs.Coefficients.{euler, euler-is, horner-table, horner-scaled, fold-plus, fold-minus}
 use Rattle.decoder.proofs.Points.{point-power-low, point-power-high}
 use Rattle.decoder.proofs.Evaluation.{half-is, bitReversed-scaled, transform-values, untransform-values, untransform-turned-values}

@@ -21,11 +21,11 @@ use Rattle.code.specs.Stripe.{coded}
 use Rattle.decoder.specs.Decoding.{survivors, pointAt, valueAt}
 use Rattle.decoder.specs.Promises.{Parameters, Enough, HalfFixes}
 use Rattle.code.specs.Rows.{Column}
-use Rattle.code.proofs.Shapes.{reversed-lt, column-reversed}
-use Rattle.decoder.proofs.BitReversal.{bitReversed-twice}
+use Rattle.code.proofs.Shapes.{by-halves, reversed-lt, column-reversed}
+use Rattle.code.proofs.BitReversal.{bitReversed-twice}
 use Rattle.decoder.proofs.Survivors.{Survivors, survivors-are}
 use Rattle.field.proofs.Booleans.{choice-lt}
-use Rattle.decoder.proofs.Points.{by-halves, point-lt, points-distinct}
+use Rattle.decoder.proofs.Points.{point-lt, points-distinct}
 use Rattle.decoder.proofs.Values.{valuesX, valuesY}
 
 -- `valueAt` at a position of X, and of Y

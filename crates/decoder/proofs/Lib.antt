@@ -1,4 +1,3 @@
-pub mod BitReversal
 pub mod BlockDecoding
 pub mod Coefficients
 pub mod Columns

@@ -4,83 +4,21 @@ use mathlib.Core.Path.{_≡_, sym, ap, ap₂, _∙_}
 use mathlib.Core.List.{List}
 use Prim.Native.Nat.{ℕ, zero, suc, _+_, _*_, _-_, _/_, _%_, _^_, _≤_, _<_}
 use native.Mathlib.Omega.{arith}
-use lib.ListN.{length, getD, take, drop}
+use lib.ListN.{getD, take, drop}
 use lib.Seq.{getD-take, getD-drop}
-use Rattle.field.specs.Residue.{plus, minus, times}
+use Rattle.field.specs.Residue.{plus, times}
 use Rattle.field.specs.Power.{power}
 use Rattle.field.specs.Polynomial.{horner}
-use Rattle.field.specs.Field.{Root}
-use Rattle.field.specs.Words.{Words}
-use Rattle.field.proofs.Ring.{v, _⊕_, _⊖_, _⊗_, ring}
-use Rattle.field.proofs.Laws.{plus-zero, times-assoc}
+use Rattle.field.proofs.Ring.{v, _⊕_, _⊗_, ring}
+use Rattle.field.proofs.Laws.{times-assoc}
 use Rattle.field.proofs.Powers.{power-zero, power-suc, power-add, power-mul, power-double}
-use Rattle.field.proofs.Unity.{root-half, two-div}
-use Rattle.field.proofs.WordLists.{words-take, words-drop}
-use Rattle.code.specs.Transform.{mixed, transform, reversed, turned, bitReversed}
+use Rattle.field.proofs.Unity.{two-div}
+use Rattle.code.specs.Transform.{reversed, turned, bitReversed}
 use Rattle.decoder.specs.Promises.{ValuesX, ValuesY}
-use Rattle.code.proofs.Shapes.{take-half, drop-half, length-transform, length-turned, mixed-low, mixed-high, coded-low, coded-high, turned-at, words-turned}
-use Rattle.decoder.proofs.Points.{by-halves, level-root, level-square, point-low, point-high}
-use Rattle.decoder.proofs.BitReversal.{reversed-zero, reversed-low, reversed-high, reversed-from, value-zero, value-suc}
-
--- two halves that are values at the even powers of u, mixed under u, are values at the even powers of r, where r * r is u
-module _ (p l r u : ℕ) (R : Root p (suc l) r) (square : power p r 2 ≡ u) (xs a b : List ℕ) (long : length a ≡ 2 ^ l)
-    (low : (i : ℕ) → i < 2 ^ l → getD a i 0 ≡ horner p (bitReversed l (take (2 ^ l) xs)) (power p u (2 * i)))
-    (high : (i : ℕ) → i < 2 ^ l → getD b i 0 ≡ horner p (bitReversed l (drop (2 ^ l) xs)) (power p u (2 * i))) where
-  big : 1 < p
-  big = omega (arith, R .odd)
-
-  h : 0 < p
-  h = omega (arith, R .odd)
-
-  -- the value at a point x whose square is u ^ (2 * i)
-  halves-at : (i x : ℕ) → i < 2 ^ l → times p x x ≡ power p u (2 * i) → horner p (bitReversed (suc l) xs) x ≡ plus p (getD a i 0) (times p x (getD b i 0))
-  halves-at i x m e =
-      value-suc p h l xs x
-      ∙ ap (λ (t : ℕ). plus p (horner p (bitReversed l (take (2 ^ l) xs)) t) (times p x (horner p (bitReversed l (drop (2 ^ l) xs)) t))) e
-      ∙ ap₂ (λ (s t : ℕ). plus p s (times p x t)) (sym (low i m)) (sym (high i m))
-
-  point : (i : ℕ) → power p r (2 * i) ≡ power p u i
-  point i = power-mul p big r 2 i ∙ ap (λ (t : ℕ). power p t i) square
-
-  point-square : (i : ℕ) → times p (power p u i) (power p u i) ≡ power p u (2 * i)
-  point-square i = sym (power-add p big u i i) ∙ ap (power p u) {x = i + i} {y = 2 * i} (omega arith)
-
-  -- half a turn further stands the negative of the point
-  opposite : (i : ℕ) → power p r (2 * (2 ^ l + i)) ≡ minus p 0 (power p u i)
-  opposite i = ap (power p r) {x = 2 * (2 ^ l + i)} {y = 2 * i + 2 ^ suc l} (omega arith) ∙ root-half p (suc l) r R (2 * i) ∙ ap (minus p 0) (point i)
-
-  mixed-low-value : (i : ℕ) → i < 2 ^ l → getD (mixed p u a b) i 0 ≡ horner p (bitReversed (suc l) xs) (power p r (2 * i))
-  mixed-low-value i m =
-      mixed-low p u a b i (omega arith) ∙ sym (halves-at i (power p u i) m (point-square i)) ∙ ap (horner p (bitReversed (suc l) xs)) (sym (point i))
-
-  mixed-high-value : (i : ℕ) → i < 2 ^ l → getD (mixed p u a b) (2 ^ l + i) 0 ≡ horner p (bitReversed (suc l) xs) (power p r (2 * (2 ^ l + i)))
-  mixed-high-value i m =
-      let y = v (power p u i) in
-      mixed-high p u (2 ^ l) a b i long m
-      ∙ ring p h (v (getD a i 0) ⊖ y ⊗ v (getD b i 0)) (v (getD a i 0) ⊕ (v 0 ⊖ y) ⊗ v (getD b i 0)) h h (omega arith)
-      ∙ sym (halves-at i (minus p 0 (power p u i)) m (ring p h ((v 0 ⊖ y) ⊗ (v 0 ⊖ y)) (y ⊗ y) h h (omega arith) ∙ point-square i))
-      ∙ ap (horner p (bitReversed (suc l) xs)) (sym (opposite i))
-
-  mixed-value : (i : ℕ) → i < 2 ^ suc l → getD (mixed p u a b) i 0 ≡ horner p (bitReversed (suc l) xs) (power p r (2 * i))
-  mixed-value = by-halves l (λ (i : ℕ). getD (mixed p u a b) i 0 ≡ horner p (bitReversed (suc l) xs) (power p r (2 * i))) mixed-low-value mixed-high-value
-
--- the transform is the values at the even powers of the level's root
-module _ (p w k : ℕ) (R : Root p k w) where
-  transform-value : (l : ℕ) (xs : List ℕ) → l ≤ k → length xs ≡ 2 ^ l → Words p xs → (i : ℕ) → i < 2 ^ l
-      → getD (transform p w k l xs) i 0 ≡ horner p (bitReversed l xs) (power p (power p w (2 ^ k / 2 ^ l)) (2 * i))
-  unfolding transform
-  transform-value zero xs s e ws i m =
-      let h : 0 < p = omega (arith, R .odd) in
-      ap (λ (j : ℕ). getD xs j 0) {x = i} {y = 0} (omega arith) ∙ sym (plus-zero p h (getD xs 0 0) (ws .word 0)) ∙ sym (value-zero p h xs _)
-  transform-value (suc l) xs s e ws i m =
-      let h : 0 < p = omega (arith, R .odd) in
-      let s′ : l ≤ k = omega arith in
-      let a = take (2 ^ l) xs in
-      let b = drop (2 ^ l) xs in
-      mixed-value p l (power p w (2 ^ k / 2 ^ suc l)) (power p w (2 ^ k / 2 ^ l)) (level-root p w k R (suc l) s) (level-square p w k R l s) xs
-      (transform p w k l a) (transform p w k l b)
-      (length-transform p w k l a (take-half l xs e)) (transform-value l a s′ (take-half l xs e) (words-take p h (2 ^ l) ws))
-      (transform-value l b s′ (drop-half l xs e) (words-drop p h (2 ^ l) ws)) i m
+use Rattle.code.proofs.Shapes.{length-turned, coded-low, coded-high, turned-at, words-turned}
+use Rattle.decoder.proofs.Points.{point-low, point-high}
+use Rattle.code.proofs.Values.{transform-at}
+use Rattle.code.proofs.BitReversal.{reversed-zero, reversed-low, reversed-high, reversed-from, value-zero, value-suc}
 
 module _ (p : ℕ) (big : 1 < p) where
   -- the factor of word j: that of the first word, times the power rev(j) of the level's root
@@ -124,7 +62,7 @@ module _ (p : ℕ) (big : 1 < p) where
 
 pub valuesX : ValuesX
 valuesX p w k l t xs i S C m =
-    coded-low p w k l t xs (C .long) i m ∙ transform-value p w k (S .root) l xs (S .within) (C .long) (C .words) i m
+    coded-low p w k l t xs (C .long) i m ∙ transform-at p w k (S .root) l xs (S .within) (C .long) (C .words) i m
     ∙ ap (horner p (bitReversed l xs)) (sym (point-low p w k l i m))
 
 pub valuesY : ValuesY
@@ -134,7 +72,7 @@ valuesY p w k l t xs i S C m =
     let u = power p w (2 ^ k / 2 ^ l) in
     let f = power p w (reversed k t) in
     coded-high p w k l t xs (C .long) i
-    ∙ transform-value p w k (S .root) l ys (S .within) (length-turned p w k t xs ∙ C .long) (words-turned p (omega arith) w k t xs) i m
+    ∙ transform-at p w k (S .root) l ys (S .within) (length-turned p w k t xs ∙ C .long) (words-turned p (omega arith) w k t xs) i m
     ∙ turned-value p h l f u xs ys (power p u (2 * i)) (λ j b. turned-at p w k t xs j (omega (arith, C .long))
     ∙ ap (λ (s : ℕ). times p s (getD xs j 0)) (turned-factor p h w k l t j (S .within) (S .aligned) b))
     ∙ ap (λ (s : ℕ). times p f (horner p (bitReversed l xs) s)) (sym (power-suc p h u (2 * i)) ∙ sym (point-high p w k l i))
