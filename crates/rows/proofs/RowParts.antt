@@ -63,9 +63,8 @@ part-words st ms part e w =
     (rw w (words-logs (st .level) ms)))
 
 -- THE LOGARITHMS STORED in the last words of a part
-pub logs-last : {n : ℕ} {part ws : List ℕ} (part₀ : List ℕ) (cols : ℕ) → length part₀ ≡ n * cols + n → drop (length part₀ - n) part ≡ ws
-    → drop (n * cols) part ≡ ws
-logs-last {n} {part} part₀ cols e q = ap (λ (k : ℕ). drop k part) {x = n * cols} {y = length part₀ - n} (omega arith) ∙ q
+pub logs-last : (n cols size : ℕ) (part : List ℕ) → size ≡ n * cols + n → drop (n * cols) part ≡ drop (size - n) part
+logs-last n cols size part e = ap (λ (k : ℕ). drop k part) {x = n * cols} {y = size - n} (omega arith)
 
 -- DECODED: the rows as decoding leaves them, and the logarithms or what has come in their place
 module _ (st : Stripe) (ms : List Bool) (r : List ℕ) where

@@ -4,7 +4,7 @@ use mathlib.Core.List.{List, _++_}
 use Prim.Native.Nat.{ℕ, _+_}
 use native.Mathlib.Omega.{arith}
 use borrow.Author.Needs.{needs}
-use lib.ListN.{take}
+use lib.ListN.{length, take}
 use Rattle.field.proofs.WordLists.{length-table}
 use Rattle.code.specs.Stripe.{positionCount, stripeWords}
 use Rattle.decoder.specs.steps.Decoder.{logsIn}
@@ -49,9 +49,10 @@ loaded : (c : tie.After-load) → let a = start c .args in c .load .last .0 ≡ 
 loaded c =
     let s = start c in
     let a = s .args in
+    let stored = c .before .before .before .before .store-logs in
     c .load .ensures
     ∙ ap (λ (y : List ℕ). columns (a .st) (a .marks .now) (words c) 0 (a .st .width) ++ y)
-    (logs-last (a .part .now) (a .st .width) (s .pre .1 .1) (c .before .before .before .before .store-logs .ensures))
+    (logs-last (positionCount (a .st)) (a .st .width) (length (a .part .now)) (stored .last .0) (s .pre .1 .1) ∙ stored .ensures)
 
 front : (c : tie.After-load) → take (stripeWords (start c .args .st)) (c .load .last .0) ≡ words c
 front c =
