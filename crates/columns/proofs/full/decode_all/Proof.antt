@@ -1,9 +1,10 @@
 -- `columns::full::decode_all` meets its contract. Assumes nothing.
-use mathlib.Core.Path.{_≡_, ap, _∙_}
-use Prim.Native.Nat.{ℕ}
+use mathlib.Core.Path.{_≡_, sym, ap, _∙_}
+use Prim.Native.Nat.{ℕ, _-_}
 use native.Mathlib.Omega.{arith}
 use borrow.Author.Needs.{needs}
-use lib.ListN.{replicate}
+use lib.ListN.{drop, replicate}
+use Rattle.code.specs.Stripe.{positionCount}
 use Rattle.decoder.proofs.Survivors.{erased-half}
 use Rattle.image.specs.steps.Loading.{rowsIn}
 use Rattle.columns.specs.steps.Ranges.{scratchWords}
@@ -29,7 +30,8 @@ decode-ranges-requires : tie.Need-decode-ranges-requires
 decode-ranges-requires c κs =
     let s = start-at-store-logs (c .before .before .before .before) in
     let w = c .before .before .before .before .store-logs in
-    (s .pre .0, (omega (arith, s .pre .1 .0), (w .kept .1 .1 .0 ∙ s .pre .1 .1, w .ensures)))
+    let logs = ap (λ (n : ℕ). drop (n - positionCount (s .args .st)) (w .last .0)) (sym (s .pre .1 .1)) ∙ w .ensures in
+    (s .pre .0, (omega (arith, s .pre .1 .0), (w .kept .0 ∙ s .pre .1 .1, logs)))
 
 clear-requires : tie.Need-clear-requires
 clear-requires c κs = search needs
@@ -56,7 +58,7 @@ start p = at-logs p .before .before .before .before .before .before
 cleared : (p : tie.After-clear) → p .clear .last .0 ≡ replicate (scratchWords (start p .args .st)) 0
 cleared p =
     p .clear .ensures
-    ∙ ap (λ (n : ℕ). replicate n 0) (at-ranges p .decode-ranges .kept .1 .1 .1 .1 .1 .0 ∙ at-logs p .store-logs .kept .1 .1 .0 ∙ start p .pre .1 .1)
+    ∙ ap (λ (n : ℕ). replicate n 0) (at-ranges p .decode-ranges .kept .1 .1 .1 .1 .1 .0 ∙ at-logs p .store-logs .kept .0 ∙ start p .pre .1 .1)
 
 returns : tie.Need-returns
 returns c =
