@@ -288,7 +288,8 @@ choose-requires c κs =
     let h = evaluate-holds at in
     let threes = evaluate-threes at in
     let long = length-holds h ∙ ap₂ _+_ (all-is two) (logs-long s) in
-    (s .pre .0, (s .pre .1 .0 .0, (long, ((threes .before .powers .ensures, threes .threes .ensures), words-part h (sound s) (words-logs (s .args .st .level) (s .args .marks .now))))))
+    let words = words-part h (sound s) (words-logs (s .args .st .level) (s .args .marks .now)) in
+    (s .pre .0, (s .pre .1 .0 .0, (long, ((threes .before .powers .ensures, threes .threes .ensures), words))))
 
 slice-relend-prefix-unmix-all : tie.Need-slice-relend-prefix-unmix-all
 slice-relend-prefix-unmix-all c = fits (choose-holds (c .before .before))
