@@ -13,7 +13,7 @@ use Rattle.code.specs.Rows.{column}
 use Rattle.code.specs.declared.Stripe.{Stripe}
 use Rattle.code.specs.Stripe.{modulusOf, rootIn, blockCount, positionCount}
 use Rattle.image.specs.steps.Loading.{columnsOf}
-use Rattle.decoder.specs.steps.Decoder.{weightsIn}
+use Rattle.decoder.specs.steps.Decoder.{logsIn}
 use Rattle.columns.specs.steps.Ranges.{copiedRows, columnsFit, RangeFits, isConsistentRange, rangeNumber, scratchWords}
 use Rattle.columns.specs.steps.Ranges.{fitRange, rangeTaken, withoutFirst}
 use Rattle.field.proofs.Booleans.{both-true, first-false, second-false}
@@ -100,17 +100,17 @@ module _ (st : Stripe) (ms : List Bool) (r : List ℕ) (skip : ℕ) (o₀ : List
   pub record Ranging (o s : List ℕ) (number from : ℕ) : Type 0 where
     pub turns : from ≤ st .width
     pub sized : length s ≡ scratchWords st
-    pub weighed : drop (scratchWords st - positionCount st) s ≡ weightsIn st ms
+    pub logged : drop (scratchWords st - positionCount st) s ≡ logsIn st ms
     pub agreed : areConsistent from ≡ true
     pub numbered : number ≡ rangeNumber true (fitTo from)
     pub copied : Filled (st .width) skip from (blockCount st) (blocksIn st ms r) o₀ o
 
-  pub ranging-start : (s : List ℕ) → length s ≡ scratchWords st → drop (scratchWords st - positionCount st) s ≡ weightsIn st ms → Ranging o₀ s 0 0
+  pub ranging-start : (s : List ℕ) → length s ≡ scratchWords st → drop (scratchWords st - positionCount st) s ≡ logsIn st ms → Ranging o₀ s 0 0
   unfolding consistentTo
   ranging-start s e d = record {
     turns = omega arith;
     sized = e;
-    weighed = d;
+    logged = d;
     agreed = refl;
     numbered = sym (range-zero refl (fit-none (st .width) (blocksIn st ms r) (blockCount st)));
     copied = filled-none (st .width) skip (blockCount st) (blocksIn st ms r) o₀;
@@ -149,7 +149,7 @@ module _ (st : Stripe) (ms : List Bool) (r : List ℕ) (skip : ℕ) (o₀ : List
       ranging-turn s′ few room q same w n = record {
         turns = f .within;
         sized = same ∙ R .sized;
-        weighed = w ∙ R .weighed;
+        logged = w ∙ R .logged;
         agreed = consistent-range (modulusOf st) (rootIn st) (st .k) (st .level) (st .first) ms (st .width) r from cols ∙ both-true fine (R .agreed);
         numbered = n;
         copied = filled-more (R .copied) cols (f .within) few room (q fine);

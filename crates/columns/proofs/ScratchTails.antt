@@ -1,4 +1,4 @@
--- The last words of the scratch lent: the words of a range of columns, and behind them the weights, which stay. Assumes nothing.
+-- The last words of the scratch lent: the words of a range of columns, and behind them the logarithms, which stay. Assumes nothing.
 use mathlib.Core.Path.{_≡_, sym, ap, _∙_}
 use mathlib.Core.List.{List, _++_, append-nil}
 use Prim.Native.Nat.{ℕ, suc, _+_, _*_, _-_, _^_, _≤_}
@@ -17,8 +17,8 @@ use lib.Seq.{take-all, drop-drop, drop-at, length-take-le}
 double : (l c : ℕ) → 2 ^ suc l * c ≡ 2 ^ l * (c + c)
 double l c = let e : 2 ^ suc l ≡ 2 ^ l + 2 ^ l = omega arith in rw e (omega arith)
 
-pub twice-low : (st : Stripe) → positionCount st + positionCount st ≤ scratchWords st
-twice-low st = let e : 2 ^ suc (st .level) ≡ 2 ^ st .level + 2 ^ st .level = omega arith in rw e (omega arith)
+pub room-logs : (st : Stripe) → StripeFits st → 3 * positionCount st ≤ scratchWords st
+room-logs st f = let e : 2 ^ suc (st .level) ≡ 2 ^ st .level + 2 ^ st .level = omega arith in rw e (omega (arith, mul-le-mul-left (2 ^ st .level) (f .thick)))
 
 pub room-half : (st : Stripe) (cols : ℕ) → cols + cols ≤ st .width + 2 → positionCount st * cols + positionCount st ≤ scratchWords st
 room-half st cols t =
@@ -50,8 +50,8 @@ module _ {l : List ℕ} {size start cols rows : ℕ} (T : Tail l size start cols
   pub tail-long : length (take (length l - start) (drop start l)) ≡ rows * cols + rows
   tail-long = ap length tail-is ∙ length-drop start l ∙ omega (arith, T .long, T .begins)
 
-  pub tail-weights : drop (rows * cols) (take (length l - start) (drop start l)) ≡ drop (size - rows) l
-  tail-weights = ap (drop (rows * cols)) tail-is ∙ drop-drop (rows * cols) start l
+  pub tail-logs : drop (rows * cols) (take (length l - start) (drop start l)) ≡ drop (size - rows) l
+  tail-logs = ap (drop (rows * cols)) tail-is ∙ drop-drop (rows * cols) start l
       ∙ ap (λ (n : ℕ). drop n l) {x = start + rows * cols} {y = size - rows} (omega (arith, T .begins))
 
   module _ (x : List ℕ) where
@@ -66,11 +66,11 @@ module _ {l : List ℕ} {size start cols rows : ℕ} (T : Tail l size start cols
     put-tail : drop start (putMid start (length l - start) l x) ≡ x
     put-tail = ap (drop start) put-is ∙ drop-at (take start l) x start front-long
 
-    pub put-weights : drop (rows * cols) x ≡ drop (rows * cols) (take (length l - start) (drop start l))
+    pub put-logs : drop (rows * cols) x ≡ drop (rows * cols) (take (length l - start) (drop start l))
         → drop (size - rows) (putMid start (length l - start) l x) ≡ drop (size - rows) l
-    put-weights e =
+    put-logs e =
         ap (λ (n : ℕ). drop n (putMid start (length l - start) l x)) {x = size - rows} {y = start + rows * cols} (omega (arith, T .begins))
-        ∙ sym (drop-drop (rows * cols) start (putMid start (length l - start) l x)) ∙ ap (drop (rows * cols)) put-tail ∙ e ∙ tail-weights
+        ∙ sym (drop-drop (rows * cols) start (putMid start (length l - start) l x)) ∙ ap (drop (rows * cols)) put-tail ∙ e ∙ tail-logs
 
     -- the same words lent again
     pub lent-again : length x ≡ length (take (length l - start) (drop start l)) → let l′ = putMid start (length l - start) l x in
@@ -79,12 +79,3 @@ module _ {l : List ℕ} {size start cols rows : ℕ} (T : Tail l size start cols
         let l′ = putMid start (length l - start) l x in
         let n : length l′ ≡ start + length x = ap length put-is ∙ length-append (take start l) x ∙ ap (λ (m : ℕ). m + length x) front-long in
         ap (take (length l′ - start)) put-tail ∙ take-all (length l′ - start) x (omega (arith, n))
-
--- weights that are stored in the second half of the words lent, behind as many points
-pub stored-weights : {l : List ℕ} {size start rows : ℕ} → Tail l size start 1 rows → (x ps mid ws : List ℕ) → length ps ≡ rows
-    → x ≡ ps ++ take (length (take (length l - start) (drop start l)) - (rows + rows)) mid ++ ws → drop (size - rows) (putMid start (length l - start) l x) ≡ ws
-stored-weights {l} {size} {start} {rows} T x ps mid ws e q =
-    let z : length (take (length l - start) (drop start l)) - (rows + rows) ≡ 0 = omega (arith, tail-long T) in
-    let f : length (ps ++ take 0 mid) ≡ rows = length-append ps (take 0 mid) ∙ omega (arith, e) in
-    ap (λ (n : ℕ). drop n (putMid start (length l - start) l x)) {x = size - rows} {y = start + rows} (omega (arith, T .begins))
-    ∙ sym (drop-drop rows start (putMid start (length l - start) l x)) ∙ ap (drop rows) (put-tail T x ∙ rw z at q) ∙ drop-at (ps ++ take 0 mid) ws rows f

@@ -1,27 +1,14 @@
 // The full stripe decoded: its blocks, its records, or only whether it holds records.
 use code::Stripe;
 ghost use mathlib.Core.Path.{_≡_};
-ghost use Prim.Native.Nat.{_*_, _-_, _≤_, pred};
-ghost use lib.ListN.{length, drop, replicate};
-ghost use Rattle.code.specs.Stripe.{blockCount, positionCount, blockWords};
-ghost use Rattle.decoder.specs.steps.Decoder.{weightsIn};
+ghost use Prim.Native.Nat.{_*_, _-_, pred};
+ghost use lib.ListN.{length, replicate};
+ghost use Rattle.code.specs.Stripe.{blockCount, blockWords};
 ghost use Rattle.layout.specs.Refusals.{ifTaken};
 ghost use Rattle.image.specs.steps.Loading.{rowsIn};
 ghost use Rattle.rows.specs.Decoding.{decodedNumber, decodedWords, solved};
-ghost use Rattle.rows.specs.StripeFits.{StripeFits};
 ghost use Rattle.columns.specs.steps.Ranges.{Decodable, scratchWords, withoutFirst};
 ghost use Rattle.columns.specs.steps.Full.{decodedData};
-
-// Stores the weights of the positions in the last words of the scratch.
-fn store_weights(st: Stripe, marks: &[bool], scratch: &mut [u32])
-    requires { ⌜ StripeFits st ⌝ }
-    requires { ⌜ (positionCount st ≤ length (now marks)) × (length (now scratch) ≡ scratchWords st) ⌝ }
-    ensures { λ _. ⌜ drop (scratchWords st - positionCount st) (now (scratch .exit)) ≡ weightsIn st (now (marks .entry)) ⌝ }
-{
-    let rows = code::number::two_to(st.level + 1);
-    let start = scratch.len() - 2 * rows;
-    decoder::weights::weights(&mut scratch[start..], marks, st);
-}
 
 // Decodes all columns: 9 or 10, or 0 and the blocks' words without the first `skip` columns; zeros where it is not 0. The scratch is zeros.
 fn decode_all(
@@ -40,7 +27,7 @@ fn decode_all(
         (withoutFirst st (now (marks .entry)) (rowsIn st (now (marks .entry)) (now (bytes .entry))) skip) (replicate (blockCount st * (st .width - skip)) 0) ⌝ }
     ensures { λ _. ⌜ now (scratch .exit) ≡ replicate (scratchWords st) 0 ⌝ }
 {
-    store_weights(st, marks, scratch);
+    weights::store_logs(scratch, marks, st.level);
     let number = crate::ranges::decode_ranges(st, bytes, marks, skip, out, scratch);
     layout::words::clear(scratch);
     if number != 0 {

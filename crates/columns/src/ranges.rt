@@ -9,7 +9,7 @@ ghost use Prim.Native.Nat.{_+_, _*_, _-_, _≤_, _<_, max};
 ghost use lib.ListN.{length, drop};
 ghost use Rattle.code.specs.Stripe.{blockCount, positionCount};
 ghost use Rattle.decoder.specs.Decoding.{isConsistent};
-ghost use Rattle.decoder.specs.steps.Decoder.{weightsIn};
+ghost use Rattle.decoder.specs.steps.Decoder.{logsIn};
 ghost use Rattle.image.specs.steps.Loading.{rowsIn};
 ghost use Rattle.rows.specs.Decoding.{decodedNumber, solved};
 ghost use Rattle.rows.specs.StripeFits.{StripeFits};
@@ -122,7 +122,7 @@ fn take_range(words: &[u32], st: Stripe, range: Range, out: &mut [u32]) -> bool
 }
 
 // Decodes a range of columns in the last words of the scratch and copies the blocks' words to `out`, as `take_range` does. 9 if no blocks have the surviving
-// words, 10 if the blocks' words are not those of records, 0 otherwise. The weights behind the range stay.
+// words, 10 if the blocks' words are not those of records, 0 otherwise. The logarithms behind the range stay.
 fn decode_range(
     st: Stripe,
     bytes: &[u8],
@@ -135,7 +135,7 @@ fn decode_range(
     requires { ⌜ RangeFits st (range .from) (range .cols) ⌝ }
     requires { ⌜ blockCount st * (st .width - range .skip) ≤ length (now out) ⌝ }
     requires { ⌜ length (now scratch) ≡ scratchWords st ⌝ }
-    requires { ⌜ drop (scratchWords st - positionCount st) (now scratch) ≡ weightsIn st (now marks) ⌝ }
+    requires { ⌜ drop (scratchWords st - positionCount st) (now scratch) ≡ logsIn st (now marks) ⌝ }
     ensures { λ r. ⌜ r ≡
         rangeNumber (isConsistentRange st (now (marks .entry)) (rowsIn st (now (marks .entry)) (now (bytes .entry))) (range .from) (range .cols))
         (fitRange st (now (marks .entry)) (rowsIn st (now (marks .entry)) (now (bytes .entry))) (range .from) (range .cols)) ⌝ }
@@ -158,8 +158,8 @@ fn decode_range(
     10
 }
 
-// Decodes all columns, range by range, to rows that lack the first `skip` columns, in a scratch that ends in the weights: 9, 10 or 0. Only the last range
-// tells that none is 9, so that 10 waits for it.
+// Decodes all columns, range by range, to rows that lack the first `skip` columns, in a scratch that ends in the logarithms: 9, 10 or 0. Only the last
+// range tells that none is 9, so that 10 waits for it.
 pub(crate) fn decode_ranges(
     st: Stripe,
     bytes: &[u8],
@@ -171,7 +171,7 @@ pub(crate) fn decode_ranges(
     requires { ⌜ Decodable st skip (now bytes) (now marks) ⌝ }
     requires { ⌜ blockCount st * (st .width - skip) ≤ length (now out) ⌝ }
     requires { ⌜ length (now scratch) ≡ scratchWords st ⌝ }
-    requires { ⌜ drop (scratchWords st - positionCount st) (now scratch) ≡ weightsIn st (now marks) ⌝ }
+    requires { ⌜ drop (scratchWords st - positionCount st) (now scratch) ≡ logsIn st (now marks) ⌝ }
     ensures { λ r. ⌜ r ≡ decodedNumber (solved st (now (marks .entry)) (rowsIn st (now (marks .entry)) (now (bytes .entry)))) ⌝ }
     ensures { λ _. ⌜ (isConsistent st (now (marks .entry)) (rowsIn st (now (marks .entry)) (now (bytes .entry))) ≡ true →
         now (out .exit) ≡

@@ -15,7 +15,7 @@ use Rattle.code.specs.Rows.{column, lifted, Column}
 use Rattle.decoder.specs.Decoding.{decodedColumn, consistentColumn, consistent, decodedRows}
 use Rattle.decoder.specs.steps.Decoder.{rowsLeft}
 use Rattle.decoder.specs.steps.Decoder as Decoder
-use Rattle.decoder.specs.steps.Decoder.{erasedCount, weights, weighed, derived, evaluated, chosen, isLow, splitColumn, solvedColumn, isLowColumn}
+use Rattle.decoder.specs.steps.Decoder.{erasedCount, factors, raised, weighed, derived, evaluated, chosen, isLow, splitColumn, solvedColumn, isLowColumn}
 use Rattle.decoder.specs.steps.RowTests.{allTo, sameAt, lowRowAt, lowRows}
 use Rattle.decoder.specs.Promises.{Parameters, Enough}
 use Rattle.code.proofs.Shapes.{length-untransform, words-untransform}
@@ -78,9 +78,11 @@ module _ (p w k l t width : ℕ) (ms : List Bool) (r : List ℕ) where
   unfolding rowsLeft
   leaves-zeros e = rw (e, rowsLeft)
 
--- A DECODING: the field and the root, the levels of the vault and of the stripe, t0, the words of a row, the marks and the rows
+-- A DECODING: the field, its generator and the root, the levels of the vault and of the stripe, t0, the words of a row, the marks, the rows, and the logarithms
+-- that stand behind them
 pub record Decoding : Type 0 where
   pub p : ℕ
+  pub g : ℕ
   pub w : ℕ
   pub k : ℕ
   pub l : ℕ
@@ -88,11 +90,16 @@ pub record Decoding : Type 0 where
   pub width : ℕ
   pub marks : List Bool
   pub rows : List ℕ
+  pub logs : List ℕ
+
+abbrev pub factorsOf : Decoding → List ℕ
+factorsOf d = factors (d .p) (d .w) (d .k) (d .l) (d .marks)
 
 pub record Sound (d : Decoding) : Type 0 where
   pub stripe : Parameters (d .p) (d .w) (d .k) (d .l) (d .t)
   pub enough : Enough (d .l) (d .marks)
   pub words : Words (d .p) (d .rows)
+  pub powers : raised (d .p) (d .g) (d .l) (d .logs) ≡ factorsOf d
 
 positive : {d : Decoding} → Sound d → 0 < d .p
 positive s = omega (arith, s .stripe .prime .big)
@@ -105,9 +112,6 @@ module _ (d : Decoding) where
   abbrev pub blocksOf : ℕ
   blocksOf = 2 ^ d .l
 
-  abbrev pub weightsOf : List ℕ
-  weightsOf = weights (d .p) (d .w) (d .k) (d .l) (d .marks)
-
   abbrev pub isConsistent : Bool
   isConsistent = consistent (d .p) (d .w) (d .k) (d .l) (d .t) (d .width) (d .marks) (d .rows)
 
@@ -116,7 +120,7 @@ module _ (d : Decoding) where
 
   -- what the steps make of a column
   abbrev pub weighedOf : List ℕ → List ℕ
-  weighedOf c = weighed (d .p) (d .l) (d .marks) weightsOf c
+  weighedOf c = weighed (d .p) (d .l) (d .marks) (factorsOf d) c
 
   abbrev pub splitOf : List ℕ → List ℕ
   splitOf c = splitColumn (d .p) (d .w) (d .k) (d .l) (d .t) (d .marks) c
@@ -128,7 +132,7 @@ module _ (d : Decoding) where
   evaluatedOf c = evaluated (d .p) (d .w) (d .k) (d .l) (derivedOf c)
 
   abbrev pub chosenOf : List ℕ → List ℕ
-  chosenOf c = chosen (d .p) (d .w) (d .k) (d .l) (d .marks) weightsOf (evaluatedOf c)
+  chosenOf c = chosen (d .p) (d .l) (d .marks) (factorsOf d) (evaluatedOf c)
 
   abbrev pub solvedOf : List ℕ → List ℕ
   solvedOf c = solvedColumn (d .p) (d .w) (d .k) (d .l) (d .t) (d .marks) c
@@ -140,9 +144,9 @@ pub record Holds (d : Decoding) (m n : ℕ) (rest : List ℕ) (f : List ℕ → 
   pub words : (c : List ℕ) → Words (d .p) (f c)
   pub is : part ≡ lifted (d .width) (positionsOf d) m f (d .rows) ++ rest
 
--- all rows, and then the weights; or a half of i words, and then what stood behind it before
+-- all rows, and then the logarithms; or a half of i words, and then what stood behind it before
 abbrev pub AllRows : (d : Decoding) → (n : ℕ) → (f : List ℕ → List ℕ) → (part : List ℕ) → Type 0
-AllRows d n f part = Holds d (positionsOf d) n (weightsOf d) f part
+AllRows d n f part = Holds d (positionsOf d) n (d .logs) f part
 
 abbrev pub HalfRows : (d : Decoding) → (i : ℕ) → (before : List ℕ) → (f : List ℕ → List ℕ) → (part : List ℕ) → Type 0
 HalfRows d i before f part = Holds d (blocksOf d) i (drop i before) f part
@@ -198,17 +202,20 @@ module _ {d : Decoding} (s : Sound d) where
   column-of j = record { long = length-column (d .width) (positionsOf d) j (d .rows); words = words-column (d .p) (d .width) (positionsOf d) j (s .words) }
 
   -- THE STEPS on all rows
-  pub after-weigh : (part : List ℕ) {n : ℕ} {x : List ℕ} → d .rows ≡ take (positionsOf d * d .width) part → drop (positionsOf d * d .width) part ≡ weightsOf d
+  pub after-weigh : (part : List ℕ) {n : ℕ} {x : List ℕ} → d .rows ≡ take (positionsOf d * d .width) part → drop (positionsOf d * d .width) part ≡ d .logs
       → n ≡ positionsOf d * d .width
       → x
-      ≡ lifted (d .width) (positionsOf d) (positionsOf d) (weighed (d .p) (d .l) (d .marks) (drop (positionsOf d * d .width) part))
+      ≡ lifted (d .width) (positionsOf d) (positionsOf d)
+      (weighed (d .p) (d .l) (d .marks) (raised (d .p) (d .g) (d .l) (drop (positionsOf d * d .width) part)))
       (take (positionsOf d * d .width) part)
       ++ drop (positionsOf d * d .width) part → AllRows d n (weighedOf d) x
   after-weigh part er ew en e = record {
     size = en;
-    long = length-weighed (d .p) (d .l) (d .marks) (weightsOf d);
-    words = words-weighed (d .p) (positive s) (d .l) (d .marks) (weightsOf d);
-    is = e ∙ ap₂ (λ (r v : List ℕ). lifted (d .width) (positionsOf d) (positionsOf d) (weighed (d .p) (d .l) (d .marks) v) r ++ v) (sym er) ew;
+    long = length-weighed (d .p) (d .l) (d .marks) (factorsOf d);
+    words = words-weighed (d .p) (positive s) (d .l) (d .marks) (factorsOf d);
+    is = e ∙ ap₂ (λ (r v : List ℕ). lifted (d .width) (positionsOf d) (positionsOf d) (weighed (d .p) (d .l) (d .marks) (raised (d .p) (d .g) (d .l) v)) r ++ v)
+        (sym er) ew
+        ∙ ap (λ (v : List ℕ). lifted (d .width) (positionsOf d) (positionsOf d) (weighed (d .p) (d .l) (d .marks) v) (d .rows) ++ d .logs) (s .powers);
   }
 
   module _ {n : ℕ} {part x : List ℕ} where
@@ -230,10 +237,10 @@ module _ {d : Decoding} (s : Sound d) where
 
     -- rows that do not pass the check are cleared
     pub after-refusal : AllRows d n (splitOf d) part → isConsistent d ≡ false → x ≡ take 0 part ++ replicate (n - 0) 0 ++ drop n part
-        → x ≡ leavesOf d ++ weightsOf d
+        → x ≡ leavesOf d ++ d .logs
     after-refusal h c e =
         e ∙ ap₂ (λ (i : ℕ) (y : List ℕ). replicate i 0 ++ y) {x = n - 0} {y = positionsOf d * d .width} (omega (arith, h .size)) (rest-is (parts h))
-        ∙ ap (λ (y : List ℕ). y ++ weightsOf d) (sym (leaves-zeros (d .p) (d .w) (d .k) (d .l) (d .t) (d .width) (d .marks) (d .rows) c))
+        ∙ ap (λ (y : List ℕ). y ++ d .logs) (sym (leaves-zeros (d .p) (d .w) (d .k) (d .l) (d .t) (d .width) (d .marks) (d .rows) c))
 
   pub check-is : {n e : ℕ} {part : List ℕ} → AllRows d n (splitOf d) part → e ≡ erasedCount (d .l) (d .marks)
       → lowRows (d .l) e (d .width) (take n part) ≡ isConsistent d
@@ -251,20 +258,22 @@ module _ {d : Decoding} (s : Sound d) where
   -- and on the first half
   pub after-choose : (i : ℕ) {n : ℕ} {part x : List ℕ} → AllRows d n (evaluatedOf d) part → i ≡ blocksOf d * d .width
       → x
-      ≡ lifted (d .width) (positionsOf d) (blocksOf d) (chosen (d .p) (d .w) (d .k) (d .l) (d .marks) (drop (positionsOf d * d .width) part))
+      ≡ lifted (d .width) (positionsOf d) (blocksOf d)
+      (chosen (d .p) (d .l) (d .marks) (raised (d .p) (d .g) (d .l) (drop (positionsOf d * d .width) part)))
       (take (positionsOf d * d .width) part)
       ++ drop (blocksOf d * d .width) part → HalfRows d i part (chosenOf d) x
   after-choose i {part = part} g ei e =
-      let q : lifted (d .width) (positionsOf d) (blocksOf d) (chosen (d .p) (d .w) (d .k) (d .l) (d .marks) (drop (positionsOf d * d .width) part))
+      let q : lifted (d .width) (positionsOf d) (blocksOf d)
+      (chosen (d .p) (d .l) (d .marks) (raised (d .p) (d .g) (d .l) (drop (positionsOf d * d .width) part)))
       (take (positionsOf d * d .width) part)
       ≡ lifted (d .width) (positionsOf d) (blocksOf d) (chosenOf d) (d .rows) =
-      rw (← g .size, rest-is (parts g), lent-front (parts g))
-      (lifted-then (d .width) (positionsOf d) (positionsOf d) (blocksOf d) (evaluatedOf d) (chosen (d .p) (d .w) (d .k) (d .l) (d .marks) (weightsOf d))
+      rw (← g .size, rest-is (parts g), lent-front (parts g), s .powers)
+      (lifted-then (d .width) (positionsOf d) (positionsOf d) (blocksOf d) (evaluatedOf d) (chosen (d .p) (d .l) (d .marks) (factorsOf d))
       (d .rows) (λ c _. g .long c)) in
       record {
         size = ei;
-        long = λ c. length-chosen (d .p) (d .l) (d .w) (d .k) (d .marks) (weightsOf d) (evaluatedOf d c);
-        words = λ c. words-chosen (d .p) (positive s) (d .l) (d .w) (d .k) (d .marks) (weightsOf d) (evaluatedOf d c);
+        long = λ c. length-chosen (d .p) (d .l) (d .marks) (factorsOf d) (evaluatedOf d c);
+        words = λ c. words-chosen (d .p) (positive s) (d .l) (d .marks) (factorsOf d) (evaluatedOf d c);
         is = e ∙ ap₂ (λ (y z : List ℕ). y ++ z) q (ap (λ (j : ℕ). drop j part) (sym ei));
       }
 
@@ -277,10 +286,10 @@ module _ {d : Decoding} (s : Sound d) where
 
   -- rows that pass: the blocks stay, and the second half is cleared
   pub after-blocks : {i : ℕ} {before part x : List ℕ} → AllRows d (i + i) (evaluatedOf d) before → HalfRows d i before (solvedOf d) part → isConsistent d ≡ true
-      → x ≡ take i part ++ replicate (i + i - i) 0 ++ drop (i + i) part → x ≡ leavesOf d ++ weightsOf d
+      → x ≡ take i part ++ replicate (i + i - i) 0 ++ drop (i + i) part → x ≡ leavesOf d ++ d .logs
   unfolding decodedRows
   after-blocks {i} {before} {part} g h c e =
-      let z : drop (i + i) part ≡ weightsOf d = sym (drop-drop i i part) ∙ ap (drop i) (rest-is (parts h)) ∙ drop-drop i i before ∙ rest-is (parts g) in
+      let z : drop (i + i) part ≡ d .logs = sym (drop-drop i i part) ∙ ap (drop i) (rest-is (parts h)) ∙ drop-drop i i before ∙ rest-is (parts g) in
       let j : i + i - i ≡ blocksOf d * d .width = omega (arith, h .size) in
       let f = decodedColumn (d .p) (d .w) (d .k) (d .l) (d .t) (d .marks) in
       let y : lifted (d .width) (positionsOf d) (blocksOf d) (solvedOf d) (d .rows) ≡ lifted (d .width) (positionsOf d) (blocksOf d) f (d .rows) =
@@ -292,7 +301,7 @@ module _ {d : Decoding} (s : Sound d) where
         j,
         z,
         y,
-      ) (ap (λ (q : List ℕ). q ++ weightsOf d) (sym (leaves-blocks (d .p) (d .w) (d .k) (d .l) (d .t) (d .width) (d .marks) (d .rows) c)))
+      ) (ap (λ (q : List ℕ). q ++ d .logs) (sym (leaves-blocks (d .p) (d .w) (d .k) (d .l) (d .t) (d .width) (d .marks) (d .rows) c)))
 
 pub length-half : {d : Decoding} {i : ℕ} {before part : List ℕ} {f g : List ℕ → List ℕ} → AllRows d (i + i) f before → HalfRows d i before g part
     → length part ≡ length before

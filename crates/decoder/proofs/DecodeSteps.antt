@@ -79,20 +79,19 @@ module _ (p l width : ℕ) (r : List ℕ) (long : length r ≡ 2 ^ suc l * width
           (digits-lt (omega arith) b)
           ∙ derive-word a j (omega arith) b ∙ sym (derived-high p l (column width (2 ^ suc l) j r) a (length-column width (2 ^ suc l) j r) (omega arith)))
 
--- STEP 5, word q of the first half; the weights stand behind the rows
-unfoldable pub chooseWord : (p w k level width : ℕ) → (marks : List Bool) → (part : List ℕ) → (q : ℕ) → ℕ
-chooseWord p w k l width ms part q =
-    times p (inverse p (divisorAt p w k l ms (drop (2 ^ suc l * width) part) (q / width)))
+-- STEP 5, word q of the first half, for the factors ws
+unfoldable pub chooseWord : (p level width : ℕ) → (marks : List Bool) → (ws part : List ℕ) → (q : ℕ) → ℕ
+chooseWord p l width ms ws part q =
+    times p (inverse p (divisorAt p l ws (q / width)))
     (elim (getD ms (q / width) false) [ true ↦ getD part (2 ^ l * width + q) 0 | false ↦ getD part q 0 ])
 
 -- a word of a column of the first n rows
 column-take : (width n i j : ℕ) (l : List ℕ) → i < n → j < width → getD (column width n j (take (n * width) l)) i 0 ≡ getD l (i * width + j) 0
 column-take width n i j l h b = column-at width n j (take (n * width) l) i h ∙ getD-take (n * width) l (i * width + j) 0 (digits-lt h b)
 
-module _ (p w k l width : ℕ) (ms : List Bool) (part : List ℕ) (long : 2 ^ suc l * width ≤ length part) where
+module _ (p l width : ℕ) (ms : List Bool) (ws part : List ℕ) (long : 2 ^ suc l * width ≤ length part) where
   choose-word : (i j : ℕ) → i < 2 ^ l → j < width
-      → chooseWord p w k l width ms part (i * width + j)
-      ≡ getD (chosen p w k l ms (drop (2 ^ suc l * width) part) (column width (2 ^ suc l) j (take (2 ^ suc l * width) part))) i 0
+      → chooseWord p l width ms ws part (i * width + j) ≡ getD (chosen p l ms ws (column width (2 ^ suc l) j (take (2 ^ suc l * width) part))) i 0
   unfolding chooseWord chosenAt
   choose-word i j h b =
       let c = column width (2 ^ suc l) j (take (2 ^ suc l * width) part) in
@@ -100,32 +99,29 @@ module _ (p w k l width : ℕ) (ms : List Bool) (part : List ℕ) (long : 2 ^ su
       let y : getD c (2 ^ l + i) 0 ≡ getD part (2 ^ l * width + (i * width + j)) 0 =
       column-take width (2 ^ suc l) (2 ^ l + i) j part (omega arith) b ∙ ap (λ (q : ℕ). getD part q 0) (high-row l i width j) in
       rw (digits-div i b)
-      (ap₂ (λ (a e : ℕ). times p (inverse p (divisorAt p w k l ms (drop (2 ^ suc l * width) part) i)) (elim (getD ms i false) [ true ↦ e | false ↦ a ])) (sym x)
-      (sym y)
-      ∙ sym (chosen-at p l w k ms (drop (2 ^ suc l * width) part) c i h))
+      (ap₂ (λ (a e : ℕ). times p (inverse p (divisorAt p l ws i)) (elim (getD ms i false) [ true ↦ e | false ↦ a ])) (sym x) (sym y)
+      ∙ sym (chosen-at p l ms ws c i h))
 
-  pub choose-rows : stored 0 (chooseWord p w k l width ms part) (2 ^ l * width) part
-      ≡ lifted width (2 ^ suc l) (2 ^ l) (chosen p w k l ms (drop (2 ^ suc l * width) part)) (take (2 ^ suc l * width) part) ++ drop (2 ^ l * width) part
+  pub choose-rows : stored 0 (chooseWord p l width ms ws part) (2 ^ l * width) part
+      ≡ lifted width (2 ^ suc l) (2 ^ l) (chosen p l ms ws) (take (2 ^ suc l * width) part) ++ drop (2 ^ l * width) part
   choose-rows =
-      let f = chooseWord p w k l width ms part in
+      let f = chooseWord p l width ms ws part in
       stored-front f (2 ^ l * width) part (omega (arith, two-halves l width))
-      ∙ rw (table-lifted width (2 ^ suc l) (2 ^ l) (chosen p w k l ms (drop (2 ^ suc l * width) part)) f (take (2 ^ suc l * width) part) choose-word)
+      ∙ rw (table-lifted width (2 ^ suc l) (2 ^ l) (chosen p l ms ws) f (take (2 ^ suc l * width) part) choose-word)
 
--- STEP 1: the factor of row i, whose weight stands behind the rows
-unfoldable pub weightOr : (marks : List Bool) → (ws : List ℕ) → (i : ℕ) → ℕ
-weightOr ms ws i = elim (getD ms i false) [ true ↦ 0 | false ↦ getD ws i 0 ]
+-- STEP 1: what row i is multiplied by, for the factors ws
+unfoldable pub factorOr : (marks : List Bool) → (ws : List ℕ) → (i : ℕ) → ℕ
+factorOr ms ws i = elim (getD ms i false) [ true ↦ 0 | false ↦ getD ws i 0 ]
 
-pub weightOr-lt : (p : ℕ) → 0 < p → (ms : List Bool) {ws : List ℕ} → Words p ws → (i : ℕ) → weightOr ms ws i < p
-unfolding weightOr
-weightOr-lt p z ms w i = choice-lt (getD ms i false) z (w .word i)
+pub factorOr-lt : (p : ℕ) → 0 < p → (ms : List Bool) {ws : List ℕ} → Words p ws → (i : ℕ) → factorOr ms ws i < p
+unfolding factorOr
+factorOr-lt p z ms w i = choice-lt (getD ms i false) z (w .word i)
 
-module _ (p : ℕ) (z : 0 < p) (l width : ℕ) (ms : List Bool) (part : List ℕ) (long : 2 ^ suc l * width ≤ length part) where
+module _ (p : ℕ) (z : 0 < p) (l width : ℕ) (ms : List Bool) (ws part : List ℕ) (long : 2 ^ suc l * width ≤ length part) where
   weigh-word : (i j : ℕ) → i < 2 ^ suc l → j < width
-      → scaledRowsWord p width (weightOr ms (drop (2 ^ suc l * width) part)) part (i * width + j)
-      ≡ getD (weighed p l ms (drop (2 ^ suc l * width) part) (column width (2 ^ suc l) j (take (2 ^ suc l * width) part))) i 0
-  unfolding scaledRowsWord weightOr weighedAt
+      → scaledRowsWord p width (factorOr ms ws) part (i * width + j) ≡ getD (weighed p l ms ws (column width (2 ^ suc l) j (take (2 ^ suc l * width) part))) i 0
+  unfolding scaledRowsWord factorOr weighedAt
   weigh-word i j h b =
-      let ws = drop (2 ^ suc l * width) part in
       let c = column width (2 ^ suc l) j (take (2 ^ suc l * width) part) in
       let x : getD c i 0 ≡ getD part (i * width + j) 0 = column-take width (2 ^ suc l) i j part h b in
       rw (digits-div i b, ← x) (marked (getD ms i false) (getD ws i 0) (getD c i 0)) ∙ sym (weighed-at p l ms ws c i h)
@@ -134,11 +130,10 @@ module _ (p : ℕ) (z : 0 < p) (l width : ℕ) (ms : List Bool) (part : List ℕ
       marked true a b = times-comm p z 0 b ∙ times-zero p z b
       marked false a b = refl
 
-  pub weigh-rows : stored 0 (scaledRowsWord p width (weightOr ms (drop (2 ^ suc l * width) part)) part) (2 ^ suc l * width) part
-      ≡ lifted width (2 ^ suc l) (2 ^ suc l) (weighed p l ms (drop (2 ^ suc l * width) part)) (take (2 ^ suc l * width) part) ++ drop (2 ^ suc l * width) part
+  pub weigh-rows : stored 0 (scaledRowsWord p width (factorOr ms ws) part) (2 ^ suc l * width) part
+      ≡ lifted width (2 ^ suc l) (2 ^ suc l) (weighed p l ms ws) (take (2 ^ suc l * width) part) ++ drop (2 ^ suc l * width) part
   weigh-rows =
-      let ws = drop (2 ^ suc l * width) part in
-      let f = scaledRowsWord p width (weightOr ms ws) part in
+      let f = scaledRowsWord p width (factorOr ms ws) part in
       stored-front f (2 ^ suc l * width) part (omega arith)
       ∙ rw (table-lifted width (2 ^ suc l) (2 ^ suc l) (weighed p l ms ws) f (take (2 ^ suc l * width) part) weigh-word)
 

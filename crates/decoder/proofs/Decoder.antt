@@ -23,7 +23,7 @@ use Rattle.field.proofs.WordLists.{getD-table, same-table, words-take, words-dr
 use Rattle.code.specs.Transform.{untransform, turned, scaled, reversed, bitReversed}
 use Rattle.code.specs.Stripe.{coded}
 use Rattle.decoder.specs.Decoding.{pointAt}
-use Rattle.decoder.specs.steps.Decoder.{erasedCount, weightTo, weightAt, weights, weighedAt, weighed, split, lowTo, derived, evaluated, divisorAt}
+use Rattle.decoder.specs.steps.Decoder.{erasedCount, weightTo, factorAt, factors, weighedAt, weighed, split, lowTo, derived, evaluated, divisorAt}
 use Rattle.decoder.specs.steps.Decoder.{chosenAt, chosen, splitColumn, solvedColumn, isLowColumn}
 use Rattle.decoder.specs.Promises.{Parameters, Enough, Agrees}
 use Rattle.code.specs.Rows.{Column}
@@ -47,21 +47,27 @@ use Rattle.decoder.proofs.Folding.{unfolded-high}
 once : (p : ℕ) → 0 < p → (cs : List ℕ) (x : ℕ) → times p 1 (horner p cs x) ≡ horner p cs x
 once p h cs x = ring p h (v 1 ⊗ v (horner p cs x)) (v (horner p cs x)) h (horner-lt p h cs x) (omega arith)
 
--- the weights, and the words times them
+-- the factors, and the words times them
 module _ (p w k l : ℕ) (ms : List Bool) (c : List ℕ) where
-  weights-at : (i : ℕ) → i < 2 ^ suc l → getD (weights p w k l ms) i 0 ≡ weightTo p w k l ms i (2 ^ suc l)
-  weights-at i b = getD-table (2 ^ suc l) i (weightAt p w k l ms) b
+  factor-survivor : (i : ℕ) → i < 2 ^ suc l → getD ms i false ≡ false → getD (factors p w k l ms) i 0 ≡ weightTo p w k l ms i (2 ^ suc l)
+  unfolding factorAt
+  factor-survivor i b e = getD-table (2 ^ suc l) i (factorAt p w k l ms) b ∙ rw (e, factorAt)
+
+  factor-erased : (i : ℕ) → i < 2 ^ suc l → getD ms i false ≡ true
+      → getD (factors p w k l ms) i 0 ≡ times p (pointAt p w k l i) (weightTo p w k l ms i (2 ^ suc l))
+  unfolding factorAt
+  factor-erased i b e = getD-table (2 ^ suc l) i (factorAt p w k l ms) b ∙ rw (e, factorAt)
 
   abbrev products : List ℕ
-  products = weighed p l ms (weights p w k l ms) c
+  products = weighed p l ms (factors p w k l ms) c
 
   weighed-erased : (i : ℕ) → i < 2 ^ suc l → getD ms i false ≡ true → getD products i 0 ≡ 0
   unfolding weighedAt
-  weighed-erased i b e = weighed-at p l ms (weights p w k l ms) c i b ∙ rw (e, weighedAt)
+  weighed-erased i b e = weighed-at p l ms (factors p w k l ms) c i b ∙ rw (e, weighedAt)
 
   weighed-survivor : (i : ℕ) → i < 2 ^ suc l → getD ms i false ≡ false → getD products i 0 ≡ times p (weightTo p w k l ms i (2 ^ suc l)) (getD c i 0)
   unfolding weighedAt
-  weighed-survivor i b e = weighed-at p l ms (weights p w k l ms) c i b ∙ rw (e, weighedAt) (ap (λ (u : ℕ). times p u (getD c i 0)) (weights-at i b))
+  weighed-survivor i b e = weighed-at p l ms (factors p w k l ms) c i b ∙ rw (e, weighedAt) (ap (λ (u : ℕ). times p u (getD c i 0)) (factor-survivor i b e))
 
   -- 1. they are R's values, times g in Y
   weighed-is : 0 < p → (cs : List ℕ) (g i : ℕ) → i < 2 ^ suc l → (getD ms i false ≡ false → getD c i 0 ≡ times p g (horner p cs (pointAt p w k l i)))
@@ -76,13 +82,13 @@ module _ (p w k l : ℕ) (ms : List Bool) (c : List ℕ) where
       ∙ ap (times p g) (sym (multiplied-value p w k l ms h cs i (2 ^ suc l) (spared-survivor ms (2 ^ suc l) i e))))
       (either (getD ms i false))
 
-module _ (p w k l : ℕ) (ms : List Bool) (ws c : List ℕ) (i : ℕ) where
+module _ (p l : ℕ) (ms : List Bool) (ws c : List ℕ) (i : ℕ) where
   chosen-erased : getD ms i false ≡ true
-      → chosenAt p w k l ms ws c i ≡ times p (inverse p (times p (times p (2 ^ l) (2 ^ l)) (times p (pointAt p w k l i) (getD ws i 0)))) (getD c (2 ^ l + i) 0)
+      → chosenAt p l ms ws c i ≡ times p (inverse p (times p (times p (2 ^ l) (2 ^ l)) (getD ws i 0))) (getD c (2 ^ l + i) 0)
   unfolding chosenAt divisorAt
   chosen-erased e = rw (e, chosenAt, divisorAt)
 
-  chosen-survivor : getD ms i false ≡ false → chosenAt p w k l ms ws c i ≡ times p (inverse p (times p (times p (2 ^ l) (2 ^ l)) (getD ws i 0))) (getD c i 0)
+  chosen-survivor : getD ms i false ≡ false → chosenAt p l ms ws c i ≡ times p (inverse p (times p (times p (2 ^ l) (2 ^ l)) (getD ws i 0))) (getD c i 0)
   unfolding chosenAt divisorAt
   chosen-survivor e = rw (e, chosenAt, divisorAt)
 
@@ -146,7 +152,7 @@ module _ (p w k l t : ℕ) (ms : List Bool) (c xs : List ℕ) (stripe : Paramete
 
   splits : splitColumn p w k l t ms c ≡ folded p l f
   splits =
-      split-is p w k l t stripe f (weighed p l ms (weights p w k l ms) c) (length-weighed p l ms (weights p w k l ms) c)
+      split-is p w k l t stripe f (weighed p l ms (factors p w k l ms) c) (length-weighed p l ms (factors p w k l ms) c)
       (λ i b.
       let x = pointAt p w k l i in
       weighed-is p w k l ms c h P 1 i (omega arith) (λ e. sym (agrees .same i (omega arith) e) ∙ valuesX p w k l t xs i stripe column b ∙ sym (once p h P x))
@@ -163,7 +169,7 @@ module _ (p w k l t : ℕ) (ms : List Bool) (c xs : List ℕ) (stripe : Paramete
 
   -- M times R, or M times z R'(z), over the divisor
   chosen-at : (j : ℕ) → j < 2 ^ l
-      → chosenAt p w k l ms (weights p w k l ms) (evaluated p w k l (derived p l (folded p l f))) j ≡ times p (inverse p (2 ^ l % p))
+      → chosenAt p l ms (factors p w k l ms) (evaluated p w k l (derived p l (folded p l f))) j ≡ times p (inverse p (2 ^ l % p))
       (horner p P (pointAt p w k l j))
   chosen-at j b =
       let m = 2 ^ l in
@@ -174,15 +180,15 @@ module _ (p w k l t : ℕ) (ms : List Bool) (c xs : List ℕ) (stripe : Paramete
       let y = horner p P x in
       let b′ : j < 2 ^ suc l = omega arith in
       ⊎-elim
-      (λ q. chosen-erased p w k l ms (weights p w k l ms) e j q
-      ∙ ap₂ (λ (g z : ℕ). times p (inverse p (times p (times p m m) (times p x g))) z) (weights-at p w k l ms c j b′)
+      (λ q. chosen-erased p l ms (factors p w k l ms) e j q
+      ∙ ap₂ (λ (g z : ℕ). times p (inverse p (times p (times p m m) g)) z) (factor-erased p w k l ms c j b′ q)
       (evaluated-high p w k l t stripe f j b ∙ ap (times p m) (euler-table p h (m + m) R x short ∙ multiplied-euler p w k l ms h P j (2 ^ suc l) b′ q))
       ∙ divided-out p (stripe .prime) m i (times p x u) y (two-power-inverse p (stripe .prime) (stripe .root .odd) l) (times-lt p h x u)
       (λ z. weight-nonzero p w k l t ms stripe j b′
       (no-divisors p (stripe .prime) x u (weight-lt p (stripe .prime .big) w k l ms j (2 ^ suc l)) (point-lt p w k l (stripe .prime .big) j)
       (λ o. omega (arith, point-positive p w k l (stripe .root) (stripe .within) j b′)) z)))
-      (λ q. chosen-survivor p w k l ms (weights p w k l ms) e j q
-      ∙ ap₂ (λ (g z : ℕ). times p (inverse p (times p (times p m m) g)) z) (weights-at p w k l ms c j b′)
+      (λ q. chosen-survivor p l ms (factors p w k l ms) e j q
+      ∙ ap₂ (λ (g z : ℕ). times p (inverse p (times p (times p m m) g)) z) (factor-survivor p w k l ms c j b′ q)
       (evaluated-low p w k l t stripe f j b ∙ ap (times p m) (value x ∙ multiplied-value p w k l ms h P j (2 ^ suc l) (spared-survivor ms (2 ^ suc l) j q)))
       ∙ divided-out p (stripe .prime) m i u y (two-power-inverse p (stripe .prime) (stripe .root .odd) l)
       (weight-lt p (stripe .prime .big) w k l ms j (2 ^ suc l)) (weight-nonzero p w k l t ms stripe j b′))
@@ -193,9 +199,9 @@ module _ (p w k l t : ℕ) (ms : List Bool) (c xs : List ℕ) (stripe : Paramete
   solved =
       let m = 2 ^ l in
       let i = inverse p (2 ^ l % p) in
-      ap (λ (d : List ℕ). untransform p (inverse p w) k l (chosen p w k l ms (weights p w k l ms) (evaluated p w k l (derived p l d)))) splits
+      ap (λ (d : List ℕ). untransform p (inverse p w) k l (chosen p l ms (factors p w k l ms) (evaluated p w k l (derived p l d)))) splits
       ∙ ap (untransform p (inverse p w) k l)
-      (same-table m (chosenAt p w k l ms (weights p w k l ms) (evaluated p w k l (derived p l (folded p l f))))
+      (same-table m (chosenAt p l ms (factors p w k l ms) (evaluated p w k l (derived p l (folded p l f))))
       (λ j. horner p (scaled p i P) (pointAt p w k l j))
       (λ j b. chosen-at j b ∙ sym (horner-scaled p h i P (pointAt p w k l j))))
       ∙ untransform-values p w k l t stripe (scaled p i P) (column-scaled p h i P (length-bitReversed l xs))
@@ -222,7 +228,7 @@ module _ (p w k l t : ℕ) (ms : List Bool) (c : List ℕ) (stripe : Parameters 
   e = erasedCount l ms
 
   abbrev vs : List ℕ
-  vs = weighed p l ms (weights p w k l ms) c
+  vs = weighed p l ms (factors p w k l ms) c
 
   abbrev ω : ℕ
   ω = power p w (reversed k t)
@@ -236,14 +242,14 @@ module _ (p w k l t : ℕ) (ms : List Bool) (c : List ℕ) (stripe : Parameters 
 
   low-column : Column p (2 ^ l) (take (2 ^ l) vs)
   low-column = record {
-    long = take-half l vs (length-weighed p l ms (weights p w k l ms) c);
-    words = words-take p positive (2 ^ l) (words-weighed p positive l ms (weights p w k l ms) c);
+    long = take-half l vs (length-weighed p l ms (factors p w k l ms) c);
+    words = words-take p positive (2 ^ l) (words-weighed p positive l ms (factors p w k l ms) c);
   }
 
   high-column : Column p (2 ^ l) (drop (2 ^ l) vs)
   high-column = record {
-    long = drop-half l vs (length-weighed p l ms (weights p w k l ms) c);
-    words = words-drop p positive (2 ^ l) (words-weighed p positive l ms (weights p w k l ms) c);
+    long = drop-half l vs (length-weighed p l ms (factors p w k l ms) c);
+    words = words-drop p positive (2 ^ l) (words-weighed p positive l ms (factors p w k l ms) c);
   }
 
   checked : lowTo l e (A ++ B) (2 ^ l) ≡ true

@@ -3,16 +3,28 @@ use mathlib.Core.Path.{_≡_, _∙_}
 use mathlib.Core.Bool.{Bool, false}
 use mathlib.Core.List.{List}
 use Prim.Native.Nat.{ℕ, suc, _+_, _^_, _<_}
+use native.Mathlib.Omega.{arith}
 use lib.ListN.{length, getD, take, drop}
 use lib.Seq.{getD-take}
+use Rattle.field.specs.Power.{power}
 use Rattle.field.specs.Words.{Words, table}
 use Rattle.field.proofs.Laws.{minus-lt, times-lt}
+use Rattle.field.proofs.Powers.{power-lt}
 use Rattle.field.proofs.WordLists.{words-take, words-drop, words-append, words-table, length-table, getD-table}
 use Rattle.code.specs.Transform.{transform, untransform, turned}
-use Rattle.decoder.specs.steps.Decoder.{weighedAt, weighed, split, derivedAt, derived, evaluated, chosenAt, chosen}
+use Rattle.decoder.specs.steps.Decoder.{raisedAt, raised, weighedAt, weighed, split, derivedAt, derived, evaluated, chosenAt, chosen}
 use Rattle.field.proofs.Booleans.{choice-lt}
 use Rattle.code.proofs.Shapes.{take-half, drop-half, length-halves, length-transform, length-untransform, length-turned, append-low, append-high}
 use Rattle.code.proofs.Shapes.{words-transform, words-untransform, words-turned}
+
+-- the powers of g that are the factors
+pub raised-at : (p g l : ℕ) (es : List ℕ) (i : ℕ) → i < 2 ^ suc l → getD (raised p g l es) i 0 ≡ power p g (getD es i 0)
+unfolding raisedAt
+raised-at p g l es i b = getD-table (2 ^ suc l) i (raisedAt p g es) b
+
+pub words-raised : (p : ℕ) → 1 < p → (g l : ℕ) (es : List ℕ) → Words p (raised p g l es)
+unfolding raisedAt
+words-raised p h g l es = words-table p (omega arith) (2 ^ suc l) (raisedAt p g es) (λ i _. power-lt p h g (getD es i 0))
 
 -- lengths
 module _ (p l : ℕ) where
@@ -37,9 +49,9 @@ module _ (p l : ℕ) where
       length-halves l (transform p w k l (take (2 ^ l) c)) (transform p w k l (drop (2 ^ l) c)) (length-transform p w k l (take (2 ^ l) c) (take-half l c e))
       (length-transform p w k l (drop (2 ^ l) c) (drop-half l c e))
 
-  pub length-chosen : (w k : ℕ) (ms : List Bool) (ws c : List ℕ) → length (chosen p w k l ms ws c) ≡ 2 ^ l
+  pub length-chosen : (ms : List Bool) (ws c : List ℕ) → length (chosen p l ms ws c) ≡ 2 ^ l
   unfolding chosen
-  length-chosen w k ms ws c = length-table (2 ^ l) (chosenAt p w k l ms ws c)
+  length-chosen ms ws c = length-table (2 ^ l) (chosenAt p l ms ws c)
 
   -- words at an index
   pub weighed-at : (ms : List Bool) (ws c : List ℕ) (i : ℕ) → i < 2 ^ suc l → getD (weighed p l ms ws c) i 0 ≡ weighedAt p ms ws c i
@@ -54,9 +66,9 @@ module _ (p l : ℕ) where
   unfolding derived
   derived-high c i e b = append-high (take (2 ^ l) c) (table (2 ^ l) (derivedAt p l c)) (take-half l c e) i ∙ getD-table (2 ^ l) i (derivedAt p l c) b
 
-  pub chosen-at : (w k : ℕ) (ms : List Bool) (ws c : List ℕ) (i : ℕ) → i < 2 ^ l → getD (chosen p w k l ms ws c) i 0 ≡ chosenAt p w k l ms ws c i
+  pub chosen-at : (ms : List Bool) (ws c : List ℕ) (i : ℕ) → i < 2 ^ l → getD (chosen p l ms ws c) i 0 ≡ chosenAt p l ms ws c i
   unfolding chosen
-  chosen-at w k ms ws c i b = getD-table (2 ^ l) i (chosenAt p w k l ms ws c) b
+  chosen-at ms ws c i b = getD-table (2 ^ l) i (chosenAt p l ms ws c) b
 
 -- words of the field
 module _ (p : ℕ) (h : 0 < p) (l : ℕ) where
@@ -80,6 +92,6 @@ module _ (p : ℕ) (h : 0 < p) (l : ℕ) where
       words-append p h {a = transform p w k l (take (2 ^ l) c)} (words-transform p h w k l (words-take p h (2 ^ l) u))
       (words-transform p h w k l (words-drop p h (2 ^ l) u))
 
-  pub words-chosen : (w k : ℕ) (ms : List Bool) (ws c : List ℕ) → Words p (chosen p w k l ms ws c)
+  pub words-chosen : (ms : List Bool) (ws c : List ℕ) → Words p (chosen p l ms ws c)
   unfolding chosen chosenAt
-  words-chosen w k ms ws c = words-table p h (2 ^ l) (chosenAt p w k l ms ws c) (λ i _. times-lt p h _ _)
+  words-chosen ms ws c = words-table p h (2 ^ l) (chosenAt p l ms ws c) (λ i _. times-lt p h _ _)

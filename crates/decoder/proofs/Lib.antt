@@ -10,7 +10,6 @@ pub mod Folding
 pub mod Half
 pub mod Inverse
 pub mod Points
-pub mod TablePoints
 pub mod TablePromises
 pub mod Products
 pub mod Proved
@@ -18,4 +17,5 @@ pub mod Survivors
 pub mod AllTo
 pub mod Values
 pub mod WeightLaws
+pub mod WeightLogs
 pub mod Worked

@@ -9,10 +9,8 @@ use borrow.Author.Tests.{lt-ltb, le-ltb}
 use Rattle.field.specs.Residue.{minus}
 use Rattle.field.specs.Power.{power}
 use Rattle.field.specs.Field.{Root}
-use Rattle.field.specs.Words.{Words, table}
 use Rattle.field.proofs.Powers.{power-lt, power-mul}
 use Rattle.field.proofs.Unity.{root-half, root-distinct, root-positive}
-use Rattle.field.proofs.WordLists.{words-table}
 use Rattle.code.proofs.Shapes.{by-halves}
 use Rattle.code.proofs.Values.{level-root, even-power}
 use Rattle.decoder.specs.Decoding.{pointAt}
@@ -36,9 +34,6 @@ module _ (p w k l : ℕ) where
     pub point-lt : (i : ℕ) → pointAt p w k l i < p
     unfolding pointAt
     point-lt i = choice-lt (ltb i (2 ^ l)) (power-lt p h u (2 * i)) (power-lt p h u (2 * (i - 2 ^ l) + 1))
-
-    pub words-points : (n : ℕ) → Words p (table n (pointAt p w k l))
-    words-points n = words-table p (omega arith) n (pointAt p w k l) (λ i _. point-lt i)
 
 module _ (p w k l : ℕ) (R : Root p k w) (within : l ≤ k) where
   h : 1 < p

@@ -20,7 +20,8 @@ use Rattle.decoder.specs.Decoding.{pointAt}
 use Rattle.decoder.specs.steps.Decoder.{weightTo}
 use Rattle.field.proofs.Booleans.{either}
 use Rattle.decoder.proofs.Points.{point-lt}
-use Rattle.decoder.proofs.Survivors.{erasedTo, erased-zero, erased-true, erased-false}
+use Rattle.logarithms.specs.Weights.{erasedTo}
+use Rattle.decoder.proofs.Survivors.{erased-zero, erased-true, erased-false}
 use Rattle.decoder.proofs.WeightLaws.{weight-zero, weight-survivor, weight-own, weight-other}
 use Rattle.decoder.proofs.Coefficients.{euler, euler-lift}
 
@@ -36,7 +37,7 @@ abbrev pub Spared : List Bool → ℕ → ℕ → Type 0
 Spared ms n i = (j : ℕ) → j < n → getD ms j false ≡ true → j ≢ i
 
 -- what holds at suc i, and of suc n where it holds of n, holds of all n above i
-above : (Q : ℕ → Type 0) (i : ℕ) → Q (suc i) → ((n : ℕ) → i < n → Q n → Q (suc n)) → (n : ℕ) → i < n → Q n
+pub above : (Q : ℕ → Type 0) (i : ℕ) → Q (suc i) → ((n : ℕ) → i < n → Q n → Q (suc n)) → (n : ℕ) → i < n → Q n
 above Q i q s zero b = absurd (omega arith)
 above Q i q s (suc n) b = ⊎-elim (λ e. subst (λ (t : ℕ). Q (suc t)) e q) (λ c. s n c (above Q i q s n c)) (eq-or-lt-of-le {n = i} {m = n} (omega arith))
 

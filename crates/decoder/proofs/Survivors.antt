@@ -7,6 +7,7 @@ use Prim.Native.Nat.{ℕ, zero, suc, _+_, _^_, _≤_, _<_}
 use native.Mathlib.Nat.{zero-add, add-zero}
 use native.Mathlib.Omega.{arith}
 use lib.ListN.{length, getD}
+use Rattle.logarithms.specs.Weights.{erasedTo}
 use Rattle.decoder.specs.Decoding.{survivorsFrom}
 use Rattle.decoder.specs.steps.Decoder.{erasedCount}
 use Rattle.decoder.specs.Promises.{Enough}
@@ -59,10 +60,6 @@ survivors-are ms i zero = record {
 survivors-are ms i (suc n) = front ms i n (survivorsFrom ms (suc i) n) (survivors-are ms (suc i) n) (getD ms i false) refl
 
 -- how many of the positions below n are erased
-unfoldable pub erasedTo : List Bool → ℕ → ℕ
-erasedTo ms zero = 0
-erasedTo ms (suc n) = elim (getD ms n false) [ true ↦ suc (erasedTo ms n) | false ↦ erasedTo ms n ]
-
 module _ (ms : List Bool) where
   pub erased-zero : erasedTo ms 0 ≡ 0
   unfolding erasedTo
@@ -103,6 +100,9 @@ module _ (ms : List Bool) where
   pub count : (l : ℕ) → erasedCount l ms ≡ erasedTo ms (2 ^ suc l)
   count l = omega (arith, counted 0 (2 ^ suc l), erased-zero, ap (erasedTo ms) (zero-add (2 ^ suc l)))
 
--- at least half of the positions survive where at most half are erased
+-- at least half of the positions survive where at most half are erased, and the other way round
 pub enough : (l : ℕ) (ms : List Bool) → erasedCount l ms + erasedCount l ms ≤ 2 ^ suc l → Enough l ms
 enough l ms b = omega arith
+
+pub erased-half : (l : ℕ) (ms : List Bool) → Enough l ms → erasedTo ms (2 ^ suc l) ≤ 2 ^ l
+erased-half l ms e = omega (arith, count ms l)

@@ -12,7 +12,7 @@ use Rattle.field.proofs.PowerTables.{length-table-of-powers, powers-at, table-s
 use Rattle.code.proofs.Factors.{turning-entry}
 use Rattle.code.proofs.Lifting.{row-in}
 use Rattle.decoder.specs.Promises.{TableRule, RootInTable, PowersInTable, InversesInTable, MixingInTable, UnmixingInTable, TurningInTable, PointsInTable}
-use Rattle.decoder.proofs.TablePoints.{even-point, odd-point}
+use Rattle.decoder.proofs.Points.{point-low, point-high}
 
 pub tableRule : TableRule
 tableRule = (length-table-of-powers, λ i b. powers-at 65537 (power 65537 3 32) 2048 i b)
@@ -54,6 +54,7 @@ turningInTable k t b h = turning-entry b h refl
 
 pub pointsInTable : PointsInTable
 pointsInTable k l i b t h =
-    let s : 1024 / 2 ^ l ≡ 2 ^ (10 - l) = two-div 10 l (omega arith) in
-    let q : suc (2 * i) * (1024 / 2 ^ l) ≡ 2 * i * (1024 / 2 ^ l) + 1024 / 2 ^ l = omega arith in
-    (even-point refl b t s h, ap (λ (e : ℕ). getD powerTable e 0) q ∙ odd-point refl b t s h)
+    let w = rootOf fermat k in
+    let at : (j : ℕ) → j < 2 ^ suc l → getD powerTable (j * (1024 / 2 ^ l)) 0 ≡ power 65537 (power 65537 w (2 ^ k / 2 ^ l)) j =
+    λ j m. powersInTable l j (omega arith) m ∙ ap (λ (w : ℕ). power 65537 w j) (sym (level-root k l b (omega arith))) in
+    (at (2 * i) (omega arith) ∙ sym (point-low 65537 w k l i h), at (suc (2 * i)) (omega arith) ∙ sym (point-high 65537 w k l i))

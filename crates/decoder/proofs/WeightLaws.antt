@@ -11,10 +11,8 @@ use lib.Dec.{eqb}
 use lib.ListN.{getD}
 use Rattle.field.specs.Residue.{minus, times}
 use Rattle.field.specs.Field.{Prime}
-use Rattle.field.specs.Words.{Words, table}
 use Rattle.field.proofs.Laws.{minus-lt, times-lt}
 use Rattle.field.proofs.Polynomials.{minus-zero, no-divisors}
-use Rattle.field.proofs.WordLists.{words-table}
 use Rattle.decoder.specs.Decoding.{pointAt}
 use Rattle.decoder.specs.steps.Decoder.{weightTo}
 use Rattle.decoder.specs.Promises.{Parameters}
@@ -53,9 +51,6 @@ module _ (p : ℕ) (h : 1 < p) (w k l : ℕ) where
   unfolding weightTo
   weight-lt ms i zero = h
   weight-lt ms i (suc n) = choice-lt (getD ms n false && not (eqb n i)) (times-lt p (omega arith) _ _) (weight-lt ms i n)
-
-  pub words-weights : (ms : List Bool) (n j : ℕ) → Words p (table n (λ i. weightTo p w k l ms i j))
-  words-weights ms n j = words-table p (omega arith) n (λ i. weightTo p w k l ms i j) (λ i _. weight-lt ms i j)
 
 -- no weight is 0
 module _ (p w k l : ℕ) (ms : List Bool) (P : Prime p) (i : ℕ) where

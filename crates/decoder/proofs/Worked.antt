@@ -12,8 +12,8 @@ use Rattle.field.specs.Words.{table}
 use Rattle.code.specs.Transform.{sumAt, differenceAt, mixed, transform, evenAt, oddAt, unmixed, untransform, reversed, turned, bitReversed}
 use Rattle.code.specs.Stripe.{coded}
 use Rattle.decoder.specs.Decoding.{survivorsFrom, pointAt, valueAt, decodedColumn, agrees, consistentColumn}
-use Rattle.decoder.specs.steps.Decoder.{weightTo, weighedAt, weighed, split, lowTo, halfOf, derivedAt, derived, evaluated, divisorAt, chosenAt, chosen}
-use Rattle.decoder.specs.steps.Decoder.{solvedColumn, isLowColumn}
+use Rattle.decoder.specs.steps.Decoder.{weightTo, factorAt, weighedAt, weighed, split, lowTo, halfOf, derivedAt, derived, evaluated, divisorAt, chosenAt}
+use Rattle.decoder.specs.steps.Decoder.{chosen, solvedColumn, isLowColumn}
 
 abbrev w : ℕ
 w = rootOf fermat 2
@@ -41,23 +41,23 @@ abbrev threeErased : List Bool
 threeErased = true ∷ false ∷ true ∷ false ∷ false ∷ true ∷ false ∷ false ∷ []
 
 pub p3-passes : isLowColumn 65537 w 2 2 0 threeErased (0 ∷ 255 ∷ 0 ∷ 65280 ∷ 11841 ∷ 0 ∷ 52674 ∷ 49618 ∷ []) ≡ true
-unfolding rootOf power powerFrom inverse plus minus times table reversed survivorsFrom pointAt turned evenAt oddAt unmixed untransform weightTo weighedAt
-    weighed split lowTo
+unfolding rootOf power powerFrom inverse plus minus times table reversed survivorsFrom pointAt turned evenAt oddAt unmixed untransform weightTo factorAt
+    weighedAt weighed split lowTo
 p3-passes = refl
 
 pub p3-fails : isLowColumn 65537 w 2 2 0 threeErased (0 ∷ 255 ∷ 0 ∷ 65280 ∷ 11841 ∷ 0 ∷ 52673 ∷ 49618 ∷ []) ≡ false
-unfolding rootOf power powerFrom inverse plus minus times table reversed survivorsFrom pointAt turned evenAt oddAt unmixed untransform weightTo weighedAt
-    weighed split lowTo
+unfolding rootOf power powerFrom inverse plus minus times table reversed survivorsFrom pointAt turned evenAt oddAt unmixed untransform weightTo factorAt
+    weighedAt weighed split lowTo
 p3-fails = refl
 
 -- its steps on P3 with half of the positions erased, and on P2, a stripe of one block
 pub p3-solved : solvedColumn 65537 w 2 2 0 (true ∷ false ∷ true ∷ false ∷ false ∷ true ∷ true ∷ false ∷ []) (0 ∷ 255 ∷ 0 ∷ 65280 ∷ 11841 ∷ 0 ∷ 0 ∷ 49618 ∷ [])
     ≡ 1 ∷ 2 ∷ 3 ∷ 4 ∷ []
 unfolding rootOf power powerFrom inverse plus minus times table reversed survivorsFrom pointAt sumAt differenceAt mixed transform turned evenAt oddAt unmixed
-    untransform weightTo weighedAt weighed split halfOf derivedAt derived evaluated divisorAt chosenAt chosen
+    untransform weightTo factorAt weighedAt weighed split halfOf derivedAt derived evaluated divisorAt chosenAt chosen
 p3-solved = refl
 
 pub p2-solved : solvedColumn 65537 w 2 0 2 (true ∷ false ∷ []) (0 ∷ 12288 ∷ []) ≡ 3 ∷ []
-unfolding rootOf power powerFrom inverse plus minus times table reversed survivorsFrom pointAt turned transform untransform weightTo weighedAt weighed split
-    halfOf derivedAt derived evaluated divisorAt chosenAt chosen
+unfolding rootOf power powerFrom inverse plus minus times table reversed survivorsFrom pointAt turned transform untransform weightTo factorAt weighedAt weighed
+    split halfOf derivedAt derived evaluated divisorAt chosenAt chosen
 p2-solved = refl

@@ -1,31 +1,40 @@
-// Decoding of a range of columns of a stripe, in place, by the steps of specs/steps/Decoder. The part holds the stripe's rows, X then Y, and then a weight
-// for each position.
+// Decoding of a range of columns of a stripe, in place, by the steps of specs/steps/Decoder. The part holds the stripe's rows, X then Y, and then a
+// logarithm to the base 3 for each position: that of its factor, so that rows are multiplied and divided by it with entries of two tables.
 use code::Stripe;
 ghost use mathlib.Core.Path.{_≡_};
 ghost use mathlib.Core.List.{_++_};
 ghost use Prim.Native.Nat.{_+_, _*_, _-_, _^_, _≤_, _<_, suc};
 ghost use lib.ListN.{length, take, drop, replicate};
 ghost use Rattle.field.specs.Power.{inverse};
-ghost use Rattle.field.specs.Field.{fermat, powerTable};
+ghost use Rattle.field.specs.Field.{fermat, powersOf, powerTable};
 ghost use Rattle.field.specs.Words.{Words};
 ghost use Rattle.code.specs.Rows.{lifted};
 ghost use Rattle.code.specs.Stripe.{Numbers, modulusOf, rootIn, blockCount, positionCount, blockWords, stripeWords};
 ghost use Rattle.decoder.specs.Decoding.{isConsistent};
-ghost use Rattle.decoder.specs.steps.Decoder.{leftOf};
+ghost use Rattle.decoder.specs.steps.Decoder.{leftOf, logsIn, raised};
 ghost use Rattle.decoder.specs.steps.Decoder as Decoder;
 ghost use Rattle.code.specs.steps.Storing.{stored, scaledWord};
 ghost use Rattle.decoder.specs.steps.RowTests.{deriveAt, allTo, sameAt, lowRows};
 ghost use Rattle.decoder.specs.Promises.{Enough};
 
-// Step 1: multiplies each row by its position's weight, and clears the rows of erased positions.
-fn weigh(part: &mut [u32], marks: &[bool], level: usize, width: usize)
+// Step 1: multiplies each row by its position's factor, and clears the rows of erased positions.
+fn weigh(
+    part: &mut [u32],
+    marks: &[bool],
+    level: usize,
+    width: usize,
+    powers: &[u32],
+    threes: &[u32],
+)
     requires { ⌜ level ≤ 15 ⌝ }
     requires { ⌜ 2 ^ suc level ≤ length (now marks) ⌝ }
     requires { ⌜ length (now part) ≡ 2 ^ suc level * width + 2 ^ suc level ⌝ }
-    requires { ⌜ Words (fermat .modulus) (now part) ⌝ }
+    requires { ⌜ (now powers ≡ powerTable) × (now threes ≡ powersOf (fermat .modulus) (fermat .generator) 32) ⌝ }
+    requires { ⌜ Words (fermat .modulus) (now part) × Words (fermat .modulus - 1) (drop (2 ^ suc level * width) (now part)) ⌝ }
     ensures { λ _. ⌜ now (part .exit) ≡
         lifted width (2 ^ suc level) (2 ^ suc level)
-        (Decoder.weighed (fermat .modulus) level (now (marks .entry)) (drop (2 ^ suc level * width) (now (part .entry))))
+        (Decoder.weighed (fermat .modulus) level (now (marks .entry))
+        (raised (fermat .modulus) (fermat .generator) level (drop (2 ^ suc level * width) (now (part .entry)))))
         (take (2 ^ suc level * width) (now (part .entry))) ++
         drop (2 ^ suc level * width) (now (part .entry)) ⌝ }
 {
@@ -36,7 +45,7 @@ fn weigh(part: &mut [u32], marks: &[bool], level: usize, width: usize)
         let x = base + i;
         let mut g: u32 = 0;
         if !marks[i] {
-            g = part[x];
+            g = logarithms::powers::power_of_three(part[x], powers, threes);
         }
         coding::scale_row(part, at, width, g);
         at += width;
@@ -157,39 +166,37 @@ fn choose_row(part: &mut [u32], to: usize, from: usize, width: usize, g: u32)
     }
 }
 
-// Step 5: the first half becomes the polynomial's values at the points of X, from the second half where the position is erased. The points of X stand
-// 2048 / 2^level apart in the powers.
-fn choose(part: &mut [u32], marks: &[bool], st: Stripe, powers: &[u32])
+// Step 5: the first half becomes the polynomial's values at the points of X, from the second half where the position is erased. A row is divided by its
+// factor as it is multiplied by the power of the negated logarithm: exponents of 3 count modulo 65536.
+fn choose(part: &mut [u32], marks: &[bool], st: Stripe, powers: &[u32], threes: &[u32])
     requires { ⌜ Numbers st ⌝ }
     requires { ⌜ positionCount st ≤ length (now marks) ⌝ }
     requires { ⌜ length (now part) ≡ stripeWords st + positionCount st ⌝ }
-    requires { ⌜ now powers ≡ powerTable ⌝ }
+    requires { ⌜ (now powers ≡ powerTable) × (now threes ≡ powersOf (modulusOf st) (fermat .generator) 32) ⌝ }
     requires { ⌜ Words (modulusOf st) (now part) ⌝ }
     ensures { λ _. ⌜ now (part .exit) ≡
         lifted (st .width) (positionCount st) (blockCount st)
-        (Decoder.chosen (modulusOf st) (rootIn st) (st .k) (st .level) (now (marks .entry)) (drop (stripeWords st) (now (part .entry))))
+        (Decoder.chosen (modulusOf st) (st .level) (now (marks .entry))
+        (raised (modulusOf st) (fermat .generator) (st .level) (drop (stripeWords st) (now (part .entry)))))
         (take (stripeWords st) (now (part .entry))) ++
         drop (blockWords st) (now (part .entry)) ⌝ }
 {
     // locals of their own, since the loop's invariant speaks of them
     let level = st.level;
-    let k = st.k;
     let width = st.width;
     let rows = code::number::two_to(level);
     let half = rows * width;
     let base = half + half;
-    let square = field::mul(rows as u32, rows as u32);
-    let step = 2048 / rows;
+    let over = field::inverse(field::mul(rows as u32, rows as u32));
     let mut at = 0;
     for i in 0..rows {
         let x = base + i;
-        let mut d = part[x];
+        let d = logarithms::powers::power_of_three((65536 - part[x]) % 65536, powers, threes);
         let mut from = at;
         if marks[i] {
-            d = field::mul(powers[i * step], d);
             from = half + at;
         }
-        choose_row(part, at, from, width, field::inverse(field::mul(square, d)));
+        choose_row(part, at, from, width, field::mul(over, d));
         at += width;
     }
 }
@@ -221,16 +228,16 @@ pub fn count_erased(marks: &[bool], level: usize) -> usize
 }
 
 // Decodes the rows of a stripe, of which at least half survive, in place: whether some blocks code to all surviving words, and then the blocks in
-// order of time in the first half, zeros behind them; zeros alone where there are none. What stands at erased positions does not matter. The weights stay.
+// order of time in the first half, zeros behind them; zeros alone where there are none. What stands at erased positions does not matter. The logarithms stay.
 pub fn decode(part: &mut [u32], marks: &[bool], st: Stripe) -> bool
     requires { ⌜ Numbers st ⌝ }
     requires { ⌜ (positionCount st ≤ length (now marks)) × Enough (st .level) (now marks) ⌝ }
     requires { ⌜ length (now part) ≡ stripeWords st + positionCount st ⌝ }
     requires { ⌜ Words (modulusOf st) (now part) ⌝ }
-    requires { ⌜ drop (stripeWords st) (now part) ≡ Decoder.weightsIn st (now marks) ⌝ }
+    requires { ⌜ drop (stripeWords st) (now part) ≡ logsIn st (now marks) ⌝ }
     ensures { λ r. ⌜ r ≡ isConsistent st (now (marks .entry)) (take (stripeWords st) (now (part .entry))) ⌝ }
     ensures { λ _. ⌜ now (part .exit) ≡
-        leftOf st (now (marks .entry)) (take (stripeWords st) (now (part .entry))) ++ Decoder.weightsIn st (now (marks .entry)) ⌝ }
+        leftOf st (now (marks .entry)) (take (stripeWords st) (now (part .entry))) ++ logsIn st (now (marks .entry)) ⌝ }
 {
     let level = st.level;
     let width = st.width;
@@ -238,7 +245,8 @@ pub fn decode(part: &mut [u32], marks: &[bool], st: Stripe) -> bool
     let half = rows * width;
     let all = half + half;
     let powers = code::table::powers();
-    weigh(part, marks, level, width);
+    let threes = logarithms::table::threes();
+    weigh(part, marks, level, width, &powers, &threes);
     split(&mut part[..all], st, &powers);
     let erased = count_erased(marks, level);
     if !is_low(&part[..all], level, width, erased) {
@@ -247,7 +255,7 @@ pub fn decode(part: &mut [u32], marks: &[bool], st: Stripe) -> bool
     }
     derive(&mut part[..all], level, width);
     evaluate(&mut part[..all], st, &powers);
-    choose(part, marks, st, &powers);
+    choose(part, marks, st, &powers, &threes);
     coding::unmix_all(&mut part[..half], st, &powers);
     clear(part, half, all);
     true

@@ -69,7 +69,7 @@ inverse-power p h x e = sym (power-mul p h x (p - 2) e) ∙ ap (power p x) (mul-
 -- ALL 2n POWERS of a root of order 2n
 module _ (p k w : ℕ) (P : Prime p) (R : Root p k w) where
   -- exponents count modulo 2n
-  turns : (e : ℕ) → power p w (e % 2 ^ suc k) ≡ power p w e
+  pub turns : (e : ℕ) → power p w (e % 2 ^ suc k) ≡ power p w e
   turns e =
       let h : 0 < p = omega (arith, P .big) in
       let n = 2 ^ suc k in

@@ -149,7 +149,7 @@ pub log-zero : getD logTable 0 0 ≡ 0
 log-zero = logs-at 65537 3 (power 65537 3 32) 2048 0 (omega arith) ∙ logarithm-first 65537 15 3 three-root refl (power 65537 3 32)
 
 -- u is the root of 1,024 records, of which no power before the 2,048th is 1
-base-root : power 65537 3 32 ≡ rootOf fermat 10
+pub base-root : power 65537 3 32 ≡ rootOf fermat 10
 unfolding rootOf
 base-root = refl
 

@@ -1,5 +1,5 @@
--- A part that holds some columns of a stripe's rows and then a weight for each position: before decoding, after it, and once the weights are cleared. Assumes
--- nothing.
+-- A part that holds some columns of a stripe's rows and then a logarithm for each position: before decoding, after it, and once the logarithms are
+-- cleared. Assumes nothing.
 use mathlib.Core.Path.{_≡_, refl, sym, ap, ap₂, _∙_}
 use mathlib.Core.Bool.{Bool, true, false}
 use mathlib.Core.List.{List, _++_, append-assoc, append-nil}
@@ -10,14 +10,14 @@ use borrow.Rule.Slice.PartMut.{putMid}
 use lib.Dec.{lit<}
 use lib.ListN.{length, take, drop, replicate, length-append, length-replicate, length-drop, take-append-drop, drop-of-length-le, replicate-append-replicate}
 use lib.Seq.{take-at, drop-at, length-take-le}
-use Rattle.field.specs.Words.{Words, table}
-use Rattle.field.proofs.WordLists.{length-table, words-append}
+use Rattle.field.specs.Words.{Words}
+use Rattle.field.proofs.WordLists.{words-append}
 use Rattle.code.specs.declared.Stripe.{Stripe}
 use Rattle.code.specs.Stripe.{modulusOf, rootIn, positionCount, blockWords, stripeWords, Numbers}
-use Rattle.decoder.specs.Decoding.{pointAt, isConsistent, blocksIn}
-use Rattle.decoder.specs.steps.Decoder.{leftOf, weightAt, weightsIn}
+use Rattle.decoder.specs.Decoding.{isConsistent, blocksIn}
+use Rattle.decoder.specs.steps.Decoder.{leftOf, logsIn}
 use Rattle.decoder.proofs.DecodeRows.{leaves-blocks, leaves-zeros}
-use Rattle.decoder.proofs.WeightLaws.{words-weights}
+use Rattle.decoder.proofs.WeightLogs.{length-logs, words-logs}
 use Rattle.image.specs.Loading.{areBelow}
 use Rattle.image.specs.steps.Loading.{columnsOf}
 use Rattle.image.proofs.StripeLoads.{below-words, columns-words}
@@ -31,63 +31,42 @@ twice st = let e : 2 ^ suc (st .level) ≡ 2 ^ st .level + 2 ^ st .level = omega
 pub narrow-numbers : {st : Stripe} (cols : ℕ) → Numbers st → Numbers (narrow st cols)
 narrow-numbers cols n = record { within = n .within; small = n .small; aligned = n .aligned; ends = n .ends }
 
-pub length-weights : (st : Stripe) (ms : List Bool) → length (weightsIn st ms) ≡ positionCount st
-length-weights st ms = length-table (positionCount st) (weightAt (modulusOf st) (rootIn st) (st .k) (st .level) ms)
-
--- COLUMNS LOADED, and the weights behind them
+-- COLUMNS LOADED, and the logarithms behind them
 module _ (st : Stripe) (ms : List Bool) (r : List ℕ) (from cols : ℕ) where
   abbrev pub columns : List ℕ
   columns = columnsOf (st .width) from cols (positionCount st) r
 
-  module _ {part : List ℕ} (L : part ≡ columns ++ weightsIn st ms) where
+  module _ {part : List ℕ} (L : part ≡ columns ++ logsIn st ms) where
     pub loaded-front : take (positionCount st * cols) part ≡ columns
     loaded-front = ap (take (positionCount st * cols)) L
-        ∙ take-at columns (weightsIn st ms) (positionCount st * cols) (length-columns (st .width) from cols (positionCount st) r)
+        ∙ take-at columns (logsIn st ms) (positionCount st * cols) (length-columns (st .width) from cols (positionCount st) r)
 
-    pub loaded-weights : drop (positionCount st * cols) part ≡ weightsIn st ms
-    loaded-weights = ap (drop (positionCount st * cols)) L
-        ∙ drop-at columns (weightsIn st ms) (positionCount st * cols) (length-columns (st .width) from cols (positionCount st) r)
+    pub loaded-logs : drop (positionCount st * cols) part ≡ logsIn st ms
+    loaded-logs = ap (drop (positionCount st * cols)) L
+        ∙ drop-at columns (logsIn st ms) (positionCount st * cols) (length-columns (st .width) from cols (positionCount st) r)
 
     pub loaded-long : length part ≡ positionCount st * cols + positionCount st
     loaded-long =
-        ap length L ∙ length-append columns (weightsIn st ms) ∙ ap₂ _+_ (length-columns (st .width) from cols (positionCount st) r) (length-weights st ms)
+        ap length L ∙ length-append columns (logsIn st ms) ∙ ap₂ _+_ (length-columns (st .width) from cols (positionCount st) r) (length-logs (st .level) ms)
 
     pub loaded-words : areBelow (modulusOf st) r ≡ true → Words (modulusOf st) part
     loaded-words e =
         rw L (words-append (modulusOf st) (lit< tt) {a = columns} (columns-words (modulusOf st) (st .width) from cols (positionCount st) r (lit< tt) e)
-        (words-weights (modulusOf st) (lit< tt) (rootIn st) (st .k) (st .level) ms (positionCount st) (positionCount st)))
+        (words-logs (st .level) ms))
 
--- ROWS of words of the field, and the weights behind them
+-- ROWS of words of the field, and the logarithms behind them
 pub part-words : (st : Stripe) (ms : List Bool) (part : List ℕ) → areBelow (modulusOf st) (take (stripeWords st) part) ≡ true
-    → drop (stripeWords st) part ≡ weightsIn st ms → Words (modulusOf st) part
+    → drop (stripeWords st) part ≡ logsIn st ms → Words (modulusOf st) part
 part-words st ms part e w =
     rw (← take-append-drop (stripeWords st) part)
     (words-append (modulusOf st) (lit< tt) {a = take (stripeWords st) part} (below-words (modulusOf st) (lit< tt) (take (stripeWords st) part) e)
-    (rw w (words-weights (modulusOf st) (lit< tt) (rootIn st) (st .k) (st .level) ms (positionCount st) (positionCount st))))
+    (rw w (words-logs (st .level) ms)))
 
--- THE WEIGHTS STORED in the last words of a part
-pub weights-last : (st : Stripe) (ms : List Bool) {part : List ℕ} (part₀ : List ℕ) (cols : ℕ) → 0 < cols
-    → length part₀ ≡ positionCount st * cols + positionCount st
-    → part ≡ table (positionCount st) (pointAt (modulusOf st) (rootIn st) (st .k) (st .level)) ++ take (length part₀ - (positionCount st + positionCount st))
-    (drop (positionCount st) part₀) ++ weightsIn st ms
-    → drop (positionCount st * cols) part ≡ weightsIn st ms
-weights-last st ms {part} part₀ cols z e q =
-    let n = positionCount st in
-    let m : ℕ = length part₀ - (n + n) in
-    let ps = table n (pointAt (modulusOf st) (rootIn st) (st .k) (st .level)) in
-    let b : n ≤ n * cols = some n cols z in
-    let long : length (ps ++ take m (drop n part₀)) ≡ n * cols =
-    length-append ps (take m (drop n part₀)) ∙ omega (
-      arith,
-      length-table n (pointAt (modulusOf st) (rootIn st) (st .k) (st .level)),
-      length-take-le m (drop n part₀) (rw length-drop (omega arith)),
-    ) in
-    ap (drop (n * cols)) q ∙ drop-at (ps ++ take m (drop n part₀)) (weightsIn st ms) (n * cols) long
-  where
-    some : (n cols : ℕ) → 0 < cols → n ≤ n * cols
-    some n cols z = omega (arith, mul-le-mul-left n z)
+-- THE LOGARITHMS STORED in the last words of a part
+pub logs-last : (n cols size : ℕ) (part : List ℕ) → size ≡ n * cols + n → drop (n * cols) part ≡ drop (size - n) part
+logs-last n cols size part e = ap (λ (k : ℕ). drop k part) {x = n * cols} {y = size - n} (omega arith)
 
--- DECODED: the rows as decoding leaves them, and the weights or what has come in their place
+-- DECODED: the rows as decoding leaves them, and the logarithms or what has come in their place
 module _ (st : Stripe) (ms : List Bool) (r : List ℕ) where
   pub length-left : length (leftOf st ms r) ≡ stripeWords st
   length-left = by (isConsistent st ms r) refl
@@ -102,18 +81,18 @@ module _ (st : Stripe) (ms : List Bool) (r : List ℕ) where
   pub length-blocks : length (blocksIn st ms r) ≡ blockWords st
   length-blocks = length-decoded (modulusOf st) (rootIn st) (st .k) (st .level) (st .first) ms (st .width) r
 
-  -- zeros in place of the weights
-  pub weights-cleared : {rows : ℕ} {part x : List ℕ} → part ≡ leftOf st ms r ++ weightsIn st ms → rows ≡ stripeWords st
+  -- zeros in place of the logarithms
+  pub logs-cleared : {rows : ℕ} {part x : List ℕ} → part ≡ leftOf st ms r ++ logsIn st ms → rows ≡ stripeWords st
       → x ≡ replicate (length (take (length part - rows) (drop rows part))) 0
       → putMid rows (length part - rows) part x ≡ leftOf st ms r ++ replicate (positionCount st) 0
-  weights-cleared {rows} {part} {x} q e z =
+  logs-cleared {rows} {part} {x} q e z =
       let long : length part ≡ stripeWords st + positionCount st =
-      ap length q ∙ length-append (leftOf st ms r) (weightsIn st ms) ∙ ap₂ _+_ length-left (length-weights st ms) in
+      ap length q ∙ length-append (leftOf st ms r) (logsIn st ms) ∙ ap₂ _+_ length-left (length-logs (st .level) ms) in
       let n : length (take (length part - rows) (drop rows part)) ≡ positionCount st =
       length-take-le (length part - rows) (drop rows part) (omega (arith, length-drop rows part)) ∙ omega arith in
       ap (λ (y : List ℕ). take rows part ++ (x ++ y)) (drop-of-length-le (drop rows part) {i = length part - rows} (omega (arith, length-drop rows part)))
       ∙ ap (λ (y : List ℕ). take rows part ++ y) (append-nil x)
-      ∙ ap₂ _++_ (ap (take rows) q ∙ take-at (leftOf st ms r) (weightsIn st ms) rows (length-left ∙ sym e)) (z ∙ ap (λ (m : ℕ). replicate m 0) n)
+      ∙ ap₂ _++_ (ap (take rows) q ∙ take-at (leftOf st ms r) (logsIn st ms) rows (length-left ∙ sym e)) (z ∙ ap (λ (m : ℕ). replicate m 0) n)
 
   pub length-cleared : length (leftOf st ms r ++ replicate (positionCount st) 0) ≡ stripeWords st + positionCount st
   length-cleared = length-append (leftOf st ms r) (replicate (positionCount st) 0) ∙ ap₂ _+_ length-left (length-replicate (positionCount st) 0)
@@ -138,6 +117,6 @@ module _ (st : Stripe) (ms : List Bool) (r : List ℕ) where
   left-front c = ap (take (blockWords st)) (left-blocks c)
       ∙ take-at (blocksIn st ms r) (replicate (stripeWords st + positionCount st - length (blocksIn st ms r)) 0) (blockWords st) length-blocks
 
--- two words for each position at least
-pub room : (n w : ℕ) → 1 < w → n + n ≤ n * w + n
+-- three words for each position at least
+pub room : (n w : ℕ) → 1 < w → 3 * n ≤ n * w + n
 room n w h = omega (arith, mul-le-mul-left n h)

@@ -6,7 +6,7 @@ ghost use Prim.Native.Nat.{_+_, _*_, _≤_};
 ghost use lib.ListN.{length, take, drop};
 ghost use Rattle.code.specs.Stripe.{positionCount, stripeWords};
 ghost use Rattle.decoder.specs.Decoding.{isConsistent};
-ghost use Rattle.decoder.specs.steps.Decoder.{leftOf, weightsIn};
+ghost use Rattle.decoder.specs.steps.Decoder.{leftOf, logsIn};
 ghost use Rattle.image.specs.steps.Loading.{rowsIn, columnsOf};
 ghost use Rattle.rows.specs.Decoding.{decodedNumber, decodedWords, solved};
 ghost use Rattle.rows.specs.steps.Ready.{readyNumber, Ready, narrow};
@@ -28,8 +28,8 @@ pub fn ready_number(st: Stripe, bytes: &[u8], marks: &[bool]) -> u32
     8
 }
 
-// Decodes the columns `from` up to `from + cols` in a part that ends in the weights: whether some blocks have the surviving words of those columns. The
-// part then holds the blocks' columns and zeros after them, or zeros; the weights stay.
+// Decodes the columns `from` up to `from + cols` in a part that ends in the logarithms: whether some blocks have the surviving words of those columns. The
+// part then holds the blocks' columns and zeros after them, or zeros; the logarithms stay.
 pub fn decode_columns(
     st: Stripe,
     bytes: &[u8],
@@ -41,14 +41,14 @@ pub fn decode_columns(
     requires { ⌜ Ready st (now marks) (rowsIn st (now marks) (now bytes)) ⌝ }
     requires { ⌜ (length (now bytes) ≡ 4 * stripeWords st) × (from + cols ≤ st .width) ⌝ }
     requires { ⌜ length (now part) ≡ positionCount st * cols + positionCount st ⌝ }
-    requires { ⌜ drop (positionCount st * cols) (now part) ≡ weightsIn st (now marks) ⌝ }
+    requires { ⌜ drop (positionCount st * cols) (now part) ≡ logsIn st (now marks) ⌝ }
     ensures { λ r. ⌜ r ≡
         isConsistent (narrow st cols) (now (marks .entry))
         (columnsOf (st .width) from cols (positionCount st) (rowsIn st (now (marks .entry)) (now (bytes .entry)))) ⌝ }
     ensures { λ _. ⌜ now (part .exit) ≡
         leftOf (narrow st cols) (now (marks .entry))
         (columnsOf (st .width) from cols (positionCount st) (rowsIn st (now (marks .entry)) (now (bytes .entry)))) ++
-        weightsIn st (now (marks .entry)) ⌝ }
+        logsIn st (now (marks .entry)) ⌝ }
 {
     image::loading::load(part, bytes, marks, st, from, cols);
     let range = Stripe {
@@ -60,10 +60,10 @@ pub fn decode_columns(
     decoder::decoding::decode(part, marks, range)
 }
 
-// Decodes the rows that stand in a part, before the weights: 9 or 10, or 0. The part then holds the blocks and zeros after them, or zeros.
+// Decodes the rows that stand in a part, before the logarithms: 9 or 10, or 0. The part then holds the blocks and zeros after them, or zeros.
 pub fn solve(st: Stripe, marks: &[bool], part: &mut [u32]) -> u32
     requires { ⌜ Ready st (now marks) (take (stripeWords st) (now part)) ⌝ }
-    requires { ⌜ (length (now part) ≡ stripeWords st + positionCount st) × (drop (stripeWords st) (now part) ≡ weightsIn st (now marks)) ⌝ }
+    requires { ⌜ (length (now part) ≡ stripeWords st + positionCount st) × (drop (stripeWords st) (now part) ≡ logsIn st (now marks)) ⌝ }
     ensures { λ r. ⌜ r ≡ decodedNumber (solved st (now (marks .entry)) (take (stripeWords st) (now (part .entry)))) ⌝ }
     ensures { λ _. ⌜ now (part .exit) ≡
         decodedWords (solved st (now (marks .entry)) (take (stripeWords st) (now (part .entry)))) (stripeWords st + positionCount st) ⌝ }
@@ -82,7 +82,7 @@ pub fn solve(st: Stripe, marks: &[bool], part: &mut [u32]) -> u32
     10
 }
 
-// Loads all rows of a stripe into a part with room for them and a weight for each position, and decodes them as `solve` does.
+// Loads all rows of a stripe into a part with room for them and a logarithm for each position, and decodes them as `solve` does.
 fn load_and_solve(st: Stripe, bytes: &[u8], marks: &[bool], part: &mut [u32]) -> u32
     requires { ⌜ Ready st (now marks) (rowsIn st (now marks) (now bytes)) ⌝ }
     requires { ⌜ (length (now bytes) ≡ 4 * stripeWords st) × (length (now part) ≡ stripeWords st + positionCount st) ⌝ }
@@ -90,13 +90,13 @@ fn load_and_solve(st: Stripe, bytes: &[u8], marks: &[bool], part: &mut [u32]) ->
     ensures { λ _. ⌜ now (part .exit) ≡
         decodedWords (solved st (now (marks .entry)) (rowsIn st (now (marks .entry)) (now (bytes .entry)))) (stripeWords st + positionCount st) ⌝ }
 {
-    decoder::weights::weights(part, marks, st);
+    weights::store_logs(part, marks, st.level);
     image::loading::load(part, bytes, marks, st, 0, st.width);
     solve(st, marks, part)
 }
 
-// Decodes a stripe in the first words of a scratch that has room for its rows and a weight for each position: 9 or 10, or 0. These words are then the blocks
-// and zeros after them, or zeros; the others stay.
+// Decodes a stripe in the first words of a scratch that has room for its rows and a logarithm for each position: 9 or 10, or 0. These words are then the
+// blocks and zeros after them, or zeros; the others stay.
 pub fn decode_rows(st: Stripe, bytes: &[u8], marks: &[bool], scratch: &mut [u32]) -> u32
     requires { ⌜ Ready st (now marks) (rowsIn st (now marks) (now bytes)) ⌝ }
     requires { ⌜ (length (now bytes) ≡ 4 * stripeWords st) × (stripeWords st + positionCount st ≤ length (now scratch)) ⌝ }

@@ -1,19 +1,16 @@
--- Words of the buffer: its lengths, what is read, the weights. Assumes nothing.
+-- Words of the buffer: its lengths, what is read, what is lent of it. Assumes nothing.
 use mathlib.Core.Path.{_≡_, ap, _∙_}
-use mathlib.Core.Bool.{Bool}
-use mathlib.Core.List.{List, _++_}
-use Prim.Native.Nat.{ℕ, suc, _+_, _*_, _%_, _^_, _≤_, _<_}
+use mathlib.Core.List.{List}
+use Prim.Native.Nat.{ℕ, suc, _+_, _*_, _-_, _%_, _^_, _≤_, _<_}
 use native.Mathlib.Nat.{pow-suc, mul-le-mul, le-of-lt}
 use native.Mathlib.Omega.{arith}
 use lib.Dec.{lit<}
-use lib.ListN.{length, drop, length-append, take-append-drop}
+use lib.ListN.{length, take, drop, length-drop, take-append-drop}
 use lib.Pow.{pow-mono}
-use lib.Seq.{drop-at, drop-length}
+use lib.Seq.{take-all, drop-drop, drop-length}
 use Rattle.field.specs.Words.{Words}
 use Rattle.code.specs.Stripe.{Numbers}
-use Rattle.field.proofs.WordLists.{words-append, words-nil, length-table}
-use Rattle.decoder.specs.steps.Decoder.{weightTo, weights}
-use Rattle.decoder.proofs.WeightLaws.{words-weights}
+use Rattle.field.proofs.WordLists.{words-append, words-nil}
 use Rattle.test_stripes.specs.Input.{Loaded}
 
 -- the numbers of a stripe, where the code has 2 ^ l and 2 ^ k in locals and tests the others
@@ -29,10 +26,10 @@ module _ (l width : ℕ) {size : ℕ} (e : size ≡ 2 ^ l) where
   pub stripe-length : (size + size) * width ≡ 2 ^ l * width + 2 ^ l * width
   stripe-length = rw e (omega arith)
 
-  pub part-length : (size + size) * width + (size + size) ≡ 2 ^ suc l * width + 2 ^ suc l
-  part-length = ap (λ (n : ℕ). n * width + n) twice
+  pub part-length : (size + size) * width + (size + size) + (size + size) ≡ 2 ^ suc l * width + 2 ^ suc l + 2 ^ suc l
+  part-length = ap (λ (n : ℕ). n * width + n + n) twice
 
-  pub small-length : l ≤ 15 → width < 256 → (size + size) * width + (size + size) < 4294967296
+  pub small-length : l ≤ 15 → width < 256 → (size + size) * width + (size + size) + (size + size) < 4294967296
   small-length b f =
       let s : size + size ≤ 65536 = omega (arith, pow-mono {i = l} {j = 15} b) in
       omega (arith, mul-le-mul {n₂ = 65536} {m₂ = 256} s (le-of-lt f))
@@ -46,15 +43,13 @@ words-loaded {count} {before} {after} r w =
 pub words-loaded-all : {before after : List ℕ} → Loaded (length before) before after → Words 65537 after
 words-loaded-all r = words-loaded r (rw drop-length (words-nil 65537 (lit< tt)))
 
--- the buffer once `decoder::weights::weights` has left the weights behind n words, and then these words are read
-module _ (w k l n : ℕ) (ms : List Bool) (a : List ℕ) {count : ℕ} {before after : List ℕ} (left : before ≡ a ++ weights 65537 w k l ms)
-    (long : length before ≡ n + 2 ^ suc l) (e : count ≡ n) (read : Loaded count before after) where
-  behind : drop n before ≡ weights 65537 w k l ms
-  behind =
-      let ws = weights 65537 w k l ms in
-      rw left (drop-at a ws n (omega (arith, length-append a ws, ap length left, length-table (2 ^ suc l) (λ i. weightTo 65537 w k l ms i (2 ^ suc l)))))
+-- the last words of the buffer, n and then the m logarithms, as they are lent
+module _ (n m start : ℕ) (l : List ℕ) (e : start + (n + m) ≡ length l) where
+  lent : take (length l - start) (drop start l) ≡ drop start l
+  lent = take-all (length l - start) (drop start l) (omega (arith, length-drop start l))
 
-  pub loaded : (length after ≡ n + 2 ^ suc l) × (Words 65537 after × (drop n after ≡ weights 65537 w k l ms))
-  loaded =
-      let r : Loaded n before after = rw e at read in
-      (r .long ∙ long, (words-loaded r (rw behind (words-weights 65537 (lit< tt) w k l ms (2 ^ suc l) (2 ^ suc l))), r .rest ∙ behind))
+  pub lent-long : length (take (length l - start) (drop start l)) ≡ n + m
+  lent-long = ap length lent ∙ length-drop start l ∙ omega arith
+
+  pub lent-logs : drop n (take (length l - start) (drop start l)) ≡ drop (length l - m) l
+  lent-logs = ap (drop n) lent ∙ drop-drop n start l ∙ ap (λ (k : ℕ). drop k l) {x = start + n} {y = length l - m} (omega arith)

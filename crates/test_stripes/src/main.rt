@@ -4,9 +4,9 @@ use code::Stripe;
 ghost use mathlib.Core.Path.{_≡_};
 ghost use Prim.Native.Nat.{_+_, _≤_, _<_};
 ghost use lib.ListN.{length, drop};
-ghost use Rattle.field.specs.Words.{Words};
-ghost use Rattle.code.specs.Stripe.{Numbers, modulusOf, positionCount, blockWords, stripeWords};
-ghost use Rattle.decoder.specs.steps.Decoder.{weightsIn};
+ghost use Rattle.code.specs.Stripe.{Numbers, positionCount, blockWords, stripeWords};
+ghost use Rattle.decoder.specs.Promises.{Enough};
+ghost use Rattle.decoder.specs.steps.Decoder.{logsIn};
 
 mod input;
 mod output;
@@ -22,22 +22,16 @@ fn code_case(part: &mut [u32], st: Stripe)
     output::words(part, count);
 }
 
-// Decodes a stripe and prints what is left of it, if at least half of its positions survive. The part has the stripe's words and, behind them, a weight
-// for each position.
+// Reads the words of a stripe, of which at least half survive, decodes it and prints what is left of it. The part has room for the words and, behind them, the
+// logarithms of the positions' factors.
 fn decode_and_print(part: &mut [u32], marks: &[bool], st: Stripe)
     requires { ⌜ Numbers st ⌝ }
-    requires { ⌜ positionCount st ≤ length (now marks) ⌝ }
+    requires { ⌜ (positionCount st ≤ length (now marks)) × Enough (st .level) (now marks) ⌝ }
     requires { ⌜ length (now part) ≡ stripeWords st + positionCount st ⌝ }
-    requires { ⌜ Words (modulusOf st) (now part) ⌝ }
-    requires { ⌜ drop (stripeWords st) (now part) ≡ weightsIn st (now marks) ⌝ }
+    requires { ⌜ drop (stripeWords st) (now part) ≡ logsIn st (now marks) ⌝ }
 {
-    let positions = code::number::two_to(st.level + 1);
-    let count = part.len() - positions;
-    let erased = decoder::decoding::count_erased(marks, st.level);
-    if positions < erased + erased {
-        output::number(7, b'\n');
-        return;
-    }
+    let count = part.len() - code::number::two_to(st.level + 1);
+    input::words(part, count);
     if decoder::decoding::decode(part, marks, st) {
         output::number(0, b' ');
     } else {
@@ -46,19 +40,25 @@ fn decode_and_print(part: &mut [u32], marks: &[bool], st: Stripe)
     output::words(part, count);
 }
 
-// Reads a stripe, decodes it and prints what is left of it.
+// Reads a stripe, and if at least half of its positions survive, decodes it and prints what is left of it.
 fn decode_case(part: &mut [u32], marks: &mut [bool], st: Stripe)
     requires { ⌜ Numbers st ⌝ }
     requires { ⌜ 0 < st .width ⌝ }
     requires { ⌜ positionCount st ≤ length (now marks) ⌝ }
-    requires { ⌜ length (now part) ≡ stripeWords st + positionCount st ⌝ }
+    requires { ⌜ stripeWords st + positionCount st + positionCount st ≤ length (now part) ⌝ }
 {
     let positions = code::number::two_to(st.level + 1);
-    let count = part.len() - positions;
+    let count = positions * st.width;
     input::marks(marks, positions);
-    decoder::weights::weights(part, marks, st);
-    input::words(part, count);
-    decode_and_print(part, marks, st);
+    let erased = decoder::decoding::count_erased(marks, st.level);
+    if positions < erased + erased {
+        input::words(part, count);
+        output::number(7, b'\n');
+        return;
+    }
+    weights::store_logs(part, marks, st.level);
+    let start = part.len() - (count + positions);
+    decode_and_print(&mut part[start..], marks, st);
 }
 
 // One case; nothing where its numbers are out of range or its words do not fit into the buffers.
@@ -75,7 +75,7 @@ fn run_case(part: &mut [u32], marks: &mut [bool]) {
     let size = code::number::two_to(level);
     let positions = size + size;
     let count = positions * width;
-    let all = count + positions;
+    let all = count + positions + positions;
     if first % size != 0 || records < first + size || marks.len() < positions || part.len() < all {
         return;
     }
@@ -86,7 +86,7 @@ fn run_case(part: &mut [u32], marks: &mut [bool]) {
         width: width,
     };
     if decodes == 1 {
-        decode_case(&mut part[..all], marks, st);
+        decode_case(part, marks, st);
     } else {
         code_case(&mut part[..count], st);
     }
@@ -100,9 +100,9 @@ fn run_all(part: &mut [u32], marks: &mut [bool]) {
     }
 }
 
-// The buffers hold a stripe of 2048 positions of 2 words each, and its weights.
+// The buffers hold a stripe of 2048 positions of 2 words each, and two words more for each.
 fn main() {
-    let mut part = [0u32; 6144];
+    let mut part = [0u32; 8192];
     let mut marks = [false; 2048];
     run_all(&mut part, &mut marks);
 }

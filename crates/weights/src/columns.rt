@@ -57,7 +57,7 @@ fn unmix(column: &mut [u32], level: usize, powers: &[u32])
     requires { ⌜ Words (fermat .modulus) (now column) ⌝ }
     ensures { λ _. ⌜ now (column .exit) ≡ unmixedColumn level (now (column .entry)) ⌝ }
 {
-    transform::unmixing::unmix_all(column, level + 1, 1, powers);
+    transform::narrow::unmix_narrow(column, level + 1, 1, powers);
 }
 
 // Multiplies the last `count` words by the first ones, each by its own.

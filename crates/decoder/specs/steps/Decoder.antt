@@ -7,9 +7,10 @@ use Prim.Native.Nat.{ℕ, zero, suc, _+_, _*_, _-_, _/_, _^_}
 use lib.Dec.{ltb, eqb}
 use lib.ListN.{length, getD, take, drop, replicate}
 use Rattle.field.specs.Residue.{plus, minus, times}
-use Rattle.field.specs.Power.{inverse}
+use Rattle.field.specs.Power.{power, inverse}
 use Rattle.field.specs.Words.{table}
 use Rattle.code.specs.Transform.{transform, untransform, turned, reversed}
+use Rattle.logarithms.specs.Weights.{logs}
 use Rattle.code.specs.declared.Stripe.{Stripe}
 use Rattle.code.specs.Stripe.{modulusOf, rootIn}
 use Rattle.decoder.specs.Decoding.{survivors, pointAt, consistent, decodedRows}
@@ -28,13 +29,26 @@ weightTo p w k l ms i (suc n) =
 abbrev pub weightAt : (p w k level : ℕ) → (marks : List Bool) → (i : ℕ) → ℕ
 weightAt p w k l ms i = weightTo p w k l ms i (2 ^ suc l)
 
-abbrev pub weights : (p w k level : ℕ) → (marks : List Bool) → List ℕ
-weights p w k l ms = table (2 ^ suc l) (weightAt p w k l ms)
+-- THE FACTOR of position i: its weight where it survives, and its point times its weight where it is erased
+unfoldable pub factorAt : (p w k level : ℕ) → (marks : List Bool) → (i : ℕ) → ℕ
+factorAt p w k l ms i =
+    let r = weightAt p w k l ms i in
+    elim (getD ms i false) [ true ↦ times p (pointAt p w k l i) r | false ↦ r ]
 
-abbrev pub weightsIn : Stripe → (marks : List Bool) → List ℕ
-weightsIn st ms = weights (modulusOf st) (rootIn st) (st .k) (st .level) ms
+abbrev pub factors : (p w k level : ℕ) → (marks : List Bool) → List ℕ
+factors p w k l ms = table (2 ^ suc l) (factorAt p w k l ms)
 
--- 1. R's values, but for Y's factor w^rev(first): the words times their weights, 0 at erased positions
+-- what stands behind the rows are their logarithms, of which these are the powers of g
+unfoldable pub raisedAt : (p g : ℕ) → (es : List ℕ) → (i : ℕ) → ℕ
+raisedAt p g es i = power p g (getD es i 0)
+
+abbrev pub raised : (p g level : ℕ) → (es : List ℕ) → List ℕ
+raised p g l es = table (2 ^ suc l) (raisedAt p g es)
+
+abbrev pub logsIn : Stripe → (marks : List Bool) → List ℕ
+logsIn st ms = logs (st .level) ms
+
+-- 1. R's values, but for Y's factor w^rev(first): the words times their factors, 0 at erased positions
 unfoldable pub weighedAt : (p : ℕ) → (marks : List Bool) → (ws c : List ℕ) → (i : ℕ) → ℕ
 weighedAt p ms ws c i = elim (getD ms i false) [ true ↦ 0 | false ↦ times p (getD ws i 0) (getD c i 0) ]
 
@@ -68,25 +82,24 @@ derived p l c = take (2 ^ l) c ++ table (2 ^ l) (derivedAt p l c)
 unfoldable pub evaluated : (p w k level : ℕ) → (c : List ℕ) → List ℕ
 evaluated p w k l c = transform p w k l (take (2 ^ l) c) ++ transform p w k l (drop (2 ^ l) c)
 
--- 5. P over M at the points of X: R over the weight where the position survives, z R' over point and weight where it is erased, each over M * M
-unfoldable pub divisorAt : (p w k level : ℕ) → (marks : List Bool) → (ws : List ℕ) → (i : ℕ) → ℕ
-divisorAt p w k l ms ws i =
-    times p (times p (2 ^ l) (2 ^ l)) (elim (getD ms i false) [ true ↦ times p (pointAt p w k l i) (getD ws i 0) | false ↦ getD ws i 0 ])
+-- 5. P over M at the points of X: R where the position survives, z R' where it is erased, each over the factor and M * M
+unfoldable pub divisorAt : (p level : ℕ) → (ws : List ℕ) → (i : ℕ) → ℕ
+divisorAt p l ws i = times p (times p (2 ^ l) (2 ^ l)) (getD ws i 0)
 
-unfoldable pub chosenAt : (p w k level : ℕ) → (marks : List Bool) → (ws c : List ℕ) → (i : ℕ) → ℕ
-chosenAt p w k l ms ws c i =
-    times p (inverse p (divisorAt p w k l ms ws i)) (elim (getD ms i false) [ true ↦ getD c (2 ^ l + i) 0 | false ↦ getD c i 0 ])
+unfoldable pub chosenAt : (p level : ℕ) → (marks : List Bool) → (ws c : List ℕ) → (i : ℕ) → ℕ
+chosenAt p l ms ws c i =
+    times p (inverse p (divisorAt p l ws i)) (elim (getD ms i false) [ true ↦ getD c (2 ^ l + i) 0 | false ↦ getD c i 0 ])
 
-unfoldable pub chosen : (p w k level : ℕ) → (marks : List Bool) → (ws c : List ℕ) → List ℕ
-chosen p w k l ms ws c = table (2 ^ l) (chosenAt p w k l ms ws c)
+unfoldable pub chosen : (p level : ℕ) → (marks : List Bool) → (ws c : List ℕ) → List ℕ
+chosen p l ms ws c = table (2 ^ l) (chosenAt p l ms ws c)
 
 -- S and D of a column, and the words in order of time that follow from them
 abbrev pub splitColumn : (p w k level first : ℕ) → (marks : List Bool) → (c : List ℕ) → List ℕ
-splitColumn p w k l t ms c = split p (inverse p w) k l t (weighed p l ms (weights p w k l ms) c)
+splitColumn p w k l t ms c = split p (inverse p w) k l t (weighed p l ms (factors p w k l ms) c)
 
 abbrev pub solvedColumn : (p w k level first : ℕ) → (marks : List Bool) → (c : List ℕ) → List ℕ
 solvedColumn p w k l t ms c =
-    untransform p (inverse p w) k l (chosen p w k l ms (weights p w k l ms) (evaluated p w k l (derived p l (splitColumn p w k l t ms c))))
+    untransform p (inverse p w) k l (chosen p l ms (factors p w k l ms) (evaluated p w k l (derived p l (splitColumn p w k l t ms c))))
 
 abbrev pub isLowColumn : (p w k level first : ℕ) → (marks : List Bool) → (c : List ℕ) → Bool
 isLowColumn p w k l t ms c = isLow l (erasedCount l ms) (splitColumn p w k l t ms c)

@@ -76,6 +76,12 @@ add-all c = omega (
   small-length (byte2-at-two-to2 c .byte2 .result) (byte4-at-two-to2 c .byte4 .result) (c .two-to2 .ensures) (omega (arith, ltb-false)) (omega arith),
 )
 
+add-all-2 : tie.Need-add-all-2
+add-all-2 c = omega (
+  arith,
+  small-length (byte2-at-two-to2 c .byte2 .result) (byte4-at-two-to2 c .byte4 .result) (c .two-to2 .ensures) (omega (arith, ltb-false)) (omega arith),
+)
+
 rem-if4 : tie.Need-rem-if4
 rem-if4 c = rw (c .two-to2 .ensures) (pow-pos (byte2-at-two-to2 c .byte2 .result))
 
@@ -89,12 +95,6 @@ add-if5 c = omega (
 returns-2 : tie.Need-returns-2
 returns-2 c = search needs
 
-slice-relend-prefix-decode-case : tie.Need-slice-relend-prefix-decode-case
-slice-relend-prefix-decode-case c = search needs
-
-slice-aggregate-decode-case : tie.Need-slice-aggregate-decode-case
-slice-aggregate-decode-case c = sym (length-take-le _ _ (omega (arith, ltb-false)))
-
 decode-case-requires : tie.Need-decode-case-requires
 decode-case-requires c κs =
     let t = two-to2-at-else7 (c .before .before .before) in
@@ -107,7 +107,7 @@ decode-case-requires c κs =
         omega (arith, eqb-false),
         (
           omega (arith, ltb-false, twice l width e),
-          length-take-le _ _ (omega (arith, ltb-false)) ∙ part-length l width e,
+          omega (arith, ltb-false, part-length l width e),
         ),
       ),
     )
@@ -163,11 +163,10 @@ run-case-spec =
     add-positions
     mul-count
     add-all
+    add-all-2
     rem-if4
     add-if5
     returns-2
-    slice-relend-prefix-decode-case
-    slice-aggregate-decode-case
     decode-case-requires
     slice-relend-prefix-code-case
     slice-aggregate-code-case

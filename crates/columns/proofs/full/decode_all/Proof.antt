@@ -1,30 +1,37 @@
 -- `columns::full::decode_all` meets its contract. Assumes nothing.
-use mathlib.Core.Path.{_≡_, ap, _∙_}
-use Prim.Native.Nat.{ℕ}
+use mathlib.Core.Path.{_≡_, sym, ap, _∙_}
+use Prim.Native.Nat.{ℕ, _-_}
 use native.Mathlib.Omega.{arith}
 use borrow.Author.Needs.{needs}
-use lib.ListN.{replicate}
+use lib.ListN.{drop, replicate}
+use Rattle.code.specs.Stripe.{positionCount}
+use Rattle.decoder.proofs.Survivors.{erased-half}
 use Rattle.image.specs.steps.Loading.{rowsIn}
 use Rattle.columns.specs.steps.Ranges.{scratchWords}
 use Rattle.columns.proofs.FullNumbers.{left-zeros, left-words}
+use Rattle.columns.proofs.ScratchTails.{room-logs}
 use Rattle.columns.proofs.full.decode_all.Statement.{statement}
 use Rattle.columns.proofs.full.decode_all.Tie as tie
 
 -- PLACES: `x-at-y c` is the place x that stands before y
-abbrev start-at-store-weights : tie.After-store-weights → tie.Start
-start-at-store-weights c = c .before .before .before .before .before .before
+abbrev start-at-store-logs : tie.After-store-logs → tie.Start
+start-at-store-logs c = c .before .before .before .before .before .before
 
 abbrev clear-at-clear2 : tie.After-clear2 → tie.After-clear
 clear-at-clear2 c = c .before .before .before .before .before
 
-store-weights-requires : tie.Need-store-weights-requires
-store-weights-requires c κs = search needs
+store-logs-requires : tie.Need-store-logs-requires
+store-logs-requires c κs =
+    let s = c .before .before .before .before .before in
+    let r = s .pre .0 .ready in
+    (omega (arith, r .fits .numbers), (r .long, (erased-half _ _ (r .enough), rw (s .pre .1 .1) (room-logs (s .args .st) (r .fits)))))
 
 decode-ranges-requires : tie.Need-decode-ranges-requires
 decode-ranges-requires c κs =
-    let s = start-at-store-weights (c .before .before .before .before) in
-    let w = c .before .before .before .before .store-weights in
-    (s .pre .0, (omega (arith, s .pre .1 .0), (w .kept .1 .1 .0 ∙ s .pre .1 .1, w .ensures)))
+    let s = start-at-store-logs (c .before .before .before .before) in
+    let w = c .before .before .before .before .store-logs in
+    let logs = ap (λ (n : ℕ). drop (n - positionCount (s .args .st)) (w .last .0)) (sym (s .pre .1 .1)) ∙ w .ensures in
+    (s .pre .0, (omega (arith, s .pre .1 .0), (w .kept .0 ∙ s .pre .1 .1, logs)))
 
 clear-requires : tie.Need-clear-requires
 clear-requires c κs = search needs
@@ -42,16 +49,16 @@ same-length-2 c = search needs
 abbrev at-ranges : tie.After-clear → tie.After-decode-ranges
 at-ranges p = p .before .before .before .before .before .before
 
-abbrev at-weights : tie.After-clear → tie.After-store-weights
-at-weights p = at-ranges p .before .before .before .before .before
+abbrev at-logs : tie.After-clear → tie.After-store-logs
+at-logs p = at-ranges p .before .before .before .before .before
 
 abbrev start : tie.After-clear → tie.Start
-start p = at-weights p .before .before .before .before .before .before
+start p = at-logs p .before .before .before .before .before .before
 
 cleared : (p : tie.After-clear) → p .clear .last .0 ≡ replicate (scratchWords (start p .args .st)) 0
 cleared p =
     p .clear .ensures
-    ∙ ap (λ (n : ℕ). replicate n 0) (at-ranges p .decode-ranges .kept .1 .1 .1 .1 .1 .0 ∙ at-weights p .store-weights .kept .1 .1 .0 ∙ start p .pre .1 .1)
+    ∙ ap (λ (n : ℕ). replicate n 0) (at-ranges p .decode-ranges .kept .1 .1 .1 .1 .1 .0 ∙ at-logs p .store-logs .kept .0 ∙ start p .pre .1 .1)
 
 returns : tie.Need-returns
 returns c =
@@ -89,7 +96,7 @@ pub decode-all-spec : {M : Type 1} → statement M
 decode-all-spec =
     tie.close
     (tie.spec
-    store-weights-requires
+    store-logs-requires
     decode-ranges-requires
     clear-requires
     clear-requires-2

@@ -10,10 +10,10 @@ use lib.ListN.{length, take, drop}
 use Rattle.code.specs.Stripe.{blockCount, positionCount}
 use Rattle.image.specs.steps.Loading.{rowsIn}
 use Rattle.columns.specs.steps.Ranges.{scratchWords, isConsistentRange, fitRange, rangeTaken}
-use Rattle.columns.proofs.ScratchTails.{Tail, span, half-span, scratch-low, tail-long, tail-weights, put-weights, lent-again}
+use Rattle.columns.proofs.ScratchTails.{Tail, span, half-span, scratch-low, tail-long, tail-logs, put-logs, lent-again}
 use Rattle.columns.proofs.FullNumbers.{range-nine, range-zero, range-ten}
 use Rattle.columns.proofs.RangeCopies.{range-taken}
-use Rattle.columns.proofs.RangeDecoding.{range-weights, range-blocks}
+use Rattle.columns.proofs.RangeDecoding.{range-logs, range-blocks}
 use Rattle.columns.proofs.ranges.decode_range.Statement.{statement}
 use Rattle.columns.proofs.ranges.decode_range.Tie as tie
 
@@ -36,7 +36,7 @@ mul-start c = search needs
 add-start : tie.Need-add-start
 add-start c = search needs
 
--- the words of the range and the weights, and where they begin
+-- the words of the range and the logarithms, and where they begin
 span-is : (c : tie.After-two-to) → let a = c .before .before .before .before .before .args in 2 * c .two-to .result * (a .range .cols + 1) ≡ positionCount
     (a .st) * a .range .cols + positionCount (a .st)
 span-is c = let a = c .before .before .before .before .before .args in span (a .st .level) (a .range .cols) (a .range .cols) (c .two-to .result) refl
@@ -73,23 +73,23 @@ decode-columns-requires : tie.Need-decode-columns-requires
 decode-columns-requires c κs =
     let s = c .before .before .before .before .before .before in
     let T = tail (c .before) in
-    (s .pre .0 .ready, ((s .pre .0 .long, s .pre .1 .0 .within), (tail-long T, tail-weights T ∙ s .pre .1 .1 .1 .1)))
+    (s .pre .0 .ready, ((s .pre .0 .long, s .pre .1 .0 .within), (tail-long T, tail-logs T ∙ s .pre .1 .1 .1 .1)))
 
 same-length : tie.Need-same-length
 same-length c = search needs
 
--- the weights stay
-weights-stay : (c : tie.After-decode-columns) → let a = start-at-part (c .before) .args in let n =
+-- the logarithms stay
+logs-stay : (c : tie.After-decode-columns) → let a = start-at-part (c .before) .args in let n =
     length (a .scratch .now) - 2 * c .before .before .two-to .result * (a .range .cols + 1) in
     drop (scratchWords (a .st) - positionCount (a .st))
     (putMid n (length (a .scratch .now) - n) (a .scratch .now) (c .decode-columns .last .1 .1 .1 .1 .1 .0)) ≡ drop
     (scratchWords (a .st) - positionCount (a .st)) (a .scratch .now)
-weights-stay c =
+logs-stay c =
     let s = start-at-part (c .before) in
     let a = s .args in
     let T = tail (c .before .before) in
-    put-weights T _ (range-weights (a .st) (a .marks .now) (rowsIn (a .st) (a .marks .now) (a .bytes .now)) (a .range .from) (a .range .cols)
-    (c .decode-columns .ensures .1) ∙ sym (tail-weights T ∙ s .pre .1 .1 .1 .1))
+    put-logs T _ (range-logs (a .st) (a .marks .now) (rowsIn (a .st) (a .marks .now) (a .bytes .now)) (a .range .from) (a .range .cols)
+    (c .decode-columns .ensures .1) ∙ sym (tail-logs T ∙ s .pre .1 .1 .1 .1))
 
 -- whether the range is consistent
 consistent : (c : tie.After-decode-columns) {b : Bool} → c .decode-columns .result ≡ b → let a = start-at-part (c .before) .args in
@@ -99,7 +99,7 @@ consistent c e = sym (c .decode-columns .ensures .0) ∙ e
 returns : tie.Need-returns
 returns c =
     let e = consistent (c .before .before .before) (not-true _ (c .if1 .taken)) in
-    (sym (range-nine _ e), (λ t. absurd (false≢true (sym e ∙ t)), weights-stay (c .before .before .before)))
+    (sym (range-nine _ e), (λ t. absurd (false≢true (sym e ∙ t)), logs-stay (c .before .before .before)))
 
 mul-take-range : tie.Need-mul-take-range
 mul-take-range c = search needs
@@ -163,7 +163,7 @@ taken c =
 returns-2 : tie.Need-returns-2
 returns-2 c =
     let t = c .before .before .before in
-    (sym (range-zero (agrees t) (sym (taken t .0) ∙ c .if2 .taken)), (λ _. taken t .1, weights-stay (decode-columns-at-take-range t)))
+    (sym (range-zero (agrees t) (sym (taken t .0) ∙ c .if2 .taken)), (λ _. taken t .1, logs-stay (decode-columns-at-take-range t)))
 
 same-length-4 : tie.Need-same-length-4
 same-length-4 c = search needs
@@ -174,7 +174,7 @@ same-length-5 c = search needs
 returns-3 : tie.Need-returns-3
 returns-3 c =
     let t = c .before .before .before in
-    (sym (range-ten (agrees t) (sym (taken t .0) ∙ c .if2 .left)), (λ _. taken t .1, weights-stay (decode-columns-at-take-range t)))
+    (sym (range-ten (agrees t) (sym (taken t .0) ∙ c .if2 .left)), (λ _. taken t .1, logs-stay (decode-columns-at-take-range t)))
 
 pub decode-range-spec : {M : Type 1} → statement M
 decode-range-spec =

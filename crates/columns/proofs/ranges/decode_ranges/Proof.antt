@@ -56,7 +56,7 @@ decode-range-requires : tie.Need-decode-range-requires Inv-loop μ-loop
 decode-range-requires c κs =
     let s = start-at-range-columns (c .before .before) in
     let i = c .before .before .before .before .loop .inv in
-    (s .pre .0, (c .before .before .range-columns .ensures, (omega (arith, i .1, s .pre .1 .0), (i .3 .sized, i .3 .weighed))))
+    (s .pre .0, (c .before .before .range-columns .ensures, (omega (arith, i .1, s .pre .1 .0), (i .3 .sized, i .3 .logged))))
 
 same-length : tie.Need-same-length Inv-loop μ-loop
 same-length c = c .before .before .before .before .before .decode-range .kept .1 .1 .1 .1 .0 ∙ loop-at-out (c .before .before .before .before) .loop .inv .1

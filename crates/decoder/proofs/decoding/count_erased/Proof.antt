@@ -8,7 +8,8 @@ use native.Mathlib.Numerals.{add-one}
 use native.Mathlib.Omega.{arith}
 use lib.ListN.{getD}
 use Rattle.code.proofs.Shapes.{positions}
-use Rattle.decoder.proofs.Survivors.{erasedTo, erased-zero, erased-true, erased-false, count}
+use Rattle.logarithms.specs.Weights.{erasedTo}
+use Rattle.decoder.proofs.Survivors.{erased-zero, erased-true, erased-false, count}
 use Rattle.decoder.proofs.decoding.count_erased.Statement.{statement}
 use Rattle.decoder.proofs.decoding.count_erased.Tie as tie
 

@@ -1,7 +1,8 @@
--- `decoder::decoding::decode` meets its contract: each step leaves its map on the columns in the rows' place, and the weights behind them. Assumes nothing.
+-- `decoder::decoding::decode` meets its contract: each step leaves its map on the columns in the rows' place, and the logarithms stay behind them.
+-- Assumes nothing.
 use mathlib.Core.Path.{_≡_, refl, sym, ap, ap₂, _∙_}
 use mathlib.Core.List.{List, _++_}
-use Prim.Native.Nat.{ℕ, _+_, _*_, _<_}
+use Prim.Native.Nat.{ℕ, _+_, _*_}
 use native.Mathlib.Omega.{arith}
 use borrow.Author.Needs.{needs}
 use borrow.Author.Tests.{not-true, not-false}
@@ -9,14 +10,16 @@ use lib.Dec.{lit<}
 use lib.ListN.{length, take, drop}
 use Rattle.field.specs.Words.{Words}
 use Rattle.field.proofs.Primes.{fermat-prime, fermat-root}
-use Rattle.field.proofs.PowerTables.{length-table-of-powers}
-use Rattle.field.proofs.WordLists.{words-take, words-drop, length-table}
+use Rattle.field.proofs.PowerTables.{length-powers, length-table-of-powers}
+use Rattle.field.proofs.WordLists.{words-take}
 use Rattle.code.proofs.Lifting.{two-halves}
-use Rattle.decoder.proofs.DecodeRows.{Decoding, Sound, AllRows, HalfRows, isConsistent, weightsOf, weighedOf, splitOf, derivedOf, evaluatedOf}
+use Rattle.decoder.proofs.DecodeRows.{Decoding, Sound, AllRows, HalfRows, isConsistent, weighedOf, splitOf, derivedOf, evaluatedOf}
 use Rattle.decoder.proofs.DecodeRows.{chosenOf, solvedOf, fits, counted, sized, words-lent, words-part, length-holds, length-half, after-weigh}
 use Rattle.decoder.proofs.DecodeRows.{after-split, check-is, after-refusal, after-derive, after-evaluate, after-choose, after-solve, after-blocks}
 use Rattle.code.specs.declared.Stripe.{Stripe}
 use Rattle.code.specs.Stripe.{rootIn, positionCount, blockWords, stripeWords}
+use Rattle.decoder.specs.steps.Decoder.{logsIn}
+use Rattle.decoder.proofs.WeightLogs.{powers-are, length-logs, small-logs, words-logs}
 use Rattle.decoder.proofs.decoding.decode.Statement.{statement}
 use Rattle.decoder.proofs.decoding.decode.Tie as tie
 
@@ -26,6 +29,7 @@ decoding c =
     let st = c .args .st in
     record {
       p = 65537;
+      g = 3;
       w = rootIn st;
       k = st .k;
       l = st .level;
@@ -34,6 +38,7 @@ decoding c =
       marks = c .args .marks .now;
       rows = take (stripeWords st)
           (c .args .part .now);
+      logs = logsIn st (c .args .marks .now);
     }
 
 sound : (c : tie.Start) → Sound (decoding c)
@@ -41,15 +46,15 @@ sound c = record {
   stripe = record { prime = fermat-prime; root = fermat-root _ (omega (arith, c .pre .0 .small)); within = c .pre .0 .within; aligned = c .pre .0 .aligned };
   enough = c .pre .1 .0 .1;
   words = words-take 65537 (lit< tt) (stripeWords (c .args .st)) (c .pre .1 .1 .1 .0);
+  powers = powers-are (c .args .st .k) (c .args .st .level) (c .args .marks .now) (c .pre .0 .within) (c .pre .0 .small);
 }
 
-weights-words : (c : tie.Start) → Words 65537 (weightsOf (decoding c))
-weights-words c =
-    let p = c .pre .1 .1 .1 in
-    rw (p .1) at (words-drop 65537 (lit< tt) (stripeWords (c .args .st)) (p .0))
+-- the logarithms behind the rows: small, and one for each position
+logs-small : (c : tie.Start) → Words 65536 (drop (stripeWords (c .args .st)) (c .args .part .now))
+logs-small c = rw (c .pre .1 .1 .1 .1) (small-logs (c .args .st .level) (c .args .marks .now))
 
-length-weights : (c : tie.Start) → length (weightsOf (decoding c)) ≡ positionCount (c .args .st)
-length-weights c = length-table _ _
+logs-long : (c : tie.Start) → length (logsIn (c .args .st) (c .args .marks .now)) ≡ positionCount (c .args .st)
+logs-long c = length-logs (c .args .st .level) (c .args .marks .now)
 
 -- the words of a half and of both
 abbrev start : tie.After-two-to → tie.Start
@@ -77,8 +82,11 @@ All c f part = AllRows (decoding (start c)) (half c + half c) (f (decoding (star
 abbrev First : tie.After-two-to → List ℕ → (Decoding → List ℕ → List ℕ) → List ℕ → Type 0
 First c before f part = HalfRows (decoding (start c)) (half c) before (f (decoding (start c))) part
 
+abbrev weigh-threes : tie.After-weigh → tie.After-threes
+weigh-threes c = c .before .before .before .before
+
 abbrev weigh-powers : tie.After-weigh → tie.After-powers
-weigh-powers c = c .before .before
+weigh-powers c = weigh-threes c .before
 
 weigh-holds : (c : tie.After-weigh) → All (weigh-powers c .before) weighedOf (c .weigh .last .0)
 weigh-holds c =
@@ -124,6 +132,9 @@ evaluate-derive c = c .before .before .before .before .before
 abbrev evaluate-two : tie.After-evaluate → tie.After-two-to
 evaluate-two c = derive-two (evaluate-derive c)
 
+abbrev evaluate-threes : tie.After-evaluate → tie.After-threes
+evaluate-threes c = weigh-threes (split-weigh (derive-split (evaluate-derive c)))
+
 abbrev evaluate-part : tie.After-evaluate → List ℕ
 evaluate-part c = c .evaluate .last .0 ++ drop (half (evaluate-two c) + half (evaluate-two c)) (derive-part (evaluate-derive c))
 
@@ -131,7 +142,7 @@ evaluate-holds : (c : tie.After-evaluate) → All (evaluate-two c) evaluatedOf (
 evaluate-holds c = after-evaluate (sound (start (evaluate-two c))) (derive-holds (evaluate-derive c)) (c .evaluate .ensures)
 
 abbrev choose-evaluate : tie.After-choose → tie.After-evaluate
-choose-evaluate c = c .before .before .before .before .before
+choose-evaluate c = c .before .before .before .before .before .before
 
 abbrev choose-two : tie.After-choose → tie.After-two-to
 choose-two c = evaluate-two (choose-evaluate c)
@@ -148,7 +159,7 @@ abbrev unmix-two : tie.After-unmix-all → tie.After-two-to
 unmix-two c = choose-two (unmix-choose c)
 
 abbrev choose-powers : tie.After-choose → tie.After-powers
-choose-powers c = split-powers (derive-split (evaluate-derive (choose-evaluate c)))
+choose-powers c = evaluate-threes (choose-evaluate c) .before
 
 abbrev unmix-part : tie.After-unmix-all → List ℕ
 unmix-part c = c .unmix-all .last .0 ++ drop (half (unmix-two c)) (unmix-choose c .choose .last .0)
@@ -161,7 +172,7 @@ unmix-long : (c : tie.After-unmix-all) → length (unmix-part c) ≡ half (unmix
 unmix-long c =
     let two = unmix-two c in
     let g = evaluate-holds (choose-evaluate (unmix-choose c)) in
-    length-half g (unmix-holds c) ∙ length-holds g ∙ ap (λ (n : ℕ). half two + half two + n) (length-weights (start two))
+    length-half g (unmix-holds c) ∙ length-holds g ∙ ap (λ (n : ℕ). half two + half two + n) (logs-long (start two))
 
 two-to-requires : tie.Need-two-to-requires
 two-to-requires c κs = search needs
@@ -175,8 +186,22 @@ add-all c = omega (arith, total c)
 powers-requires : tie.Need-powers-requires
 powers-requires c κs = search needs
 
+threes-requires : tie.Need-threes-requires
+threes-requires c κs = search needs
+
+slice-aggregate-weigh : tie.Need-slice-aggregate-weigh
+slice-aggregate-weigh c = search needs
+
+slice-aggregate-weigh-2 : tie.Need-slice-aggregate-weigh-2
+slice-aggregate-weigh-2 c = search needs
+
 weigh-requires : tie.Need-weigh-requires
-weigh-requires c κs = search needs
+weigh-requires c κs =
+    let threes = c .before .before .before in
+    let s = start (threes .before .before) in (
+      omega arith,
+      (s .pre .1 .0 .0, (s .pre .1 .1 .0, ((threes .before .powers .ensures, threes .threes .ensures), (s .pre .1 .1 .1 .0, logs-small s)))),
+    )
 
 slice-relend-prefix-split : tie.Need-slice-relend-prefix-split
 slice-relend-prefix-split c = fits (weigh-holds (c .before .before))
@@ -250,16 +275,21 @@ evaluate-requires c κs =
     (s .pre .0, (sized h, (split-powers (derive-split at) .powers .ensures, words-lent h (sound s))))
 
 slice-aggregate-choose : tie.Need-slice-aggregate-choose
-slice-aggregate-choose c = search needs
+slice-aggregate-choose c = sym (ap length (evaluate-threes (c .before .before .before .before) .before .powers .ensures) ∙ length-table-of-powers)
+
+slice-aggregate-choose-2 : tie.Need-slice-aggregate-choose-2
+slice-aggregate-choose-2 c = sym (ap length (evaluate-threes (c .before .before .before .before .before) .threes .ensures) ∙ length-powers 65537 3 32)
 
 choose-requires : tie.Need-choose-requires
 choose-requires c κs =
-    let at = c .before .before .before .before in
+    let at = c .before .before .before .before .before in
     let two = evaluate-two at in
     let s = start two in
     let h = evaluate-holds at in
-    let e = split-powers (derive-split (evaluate-derive at)) .powers .ensures in
-    (s .pre .0, (s .pre .1 .0 .0, (length-holds h ∙ ap₂ _+_ (all-is two) (length-weights s), (e, words-part h (sound s) (weights-words s)))))
+    let threes = evaluate-threes at in
+    let long = length-holds h ∙ ap₂ _+_ (all-is two) (logs-long s) in
+    let words = words-part h (sound s) (words-logs (s .args .st .level) (s .args .marks .now)) in
+    (s .pre .0, (s .pre .1 .0 .0, (long, ((threes .before .powers .ensures, threes .threes .ensures), words))))
 
 slice-relend-prefix-unmix-all : tie.Need-slice-relend-prefix-unmix-all
 slice-relend-prefix-unmix-all c = fits (choose-holds (c .before .before))
@@ -302,6 +332,9 @@ decode-spec =
     mul-half
     add-all
     powers-requires
+    threes-requires
+    slice-aggregate-weigh
+    slice-aggregate-weigh-2
     weigh-requires
     slice-relend-prefix-split
     slice-aggregate-split
@@ -322,6 +355,7 @@ decode-spec =
     slice-aggregate-evaluate-2
     evaluate-requires
     slice-aggregate-choose
+    slice-aggregate-choose-2
     choose-requires
     slice-relend-prefix-unmix-all
     slice-aggregate-unmix-all

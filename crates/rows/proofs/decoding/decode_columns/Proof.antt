@@ -5,10 +5,10 @@ use Prim.Native.Nat.{ℕ}
 use native.Mathlib.Omega.{arith}
 use borrow.Author.Needs.{needs}
 use Rattle.decoder.specs.Decoding.{isConsistent}
-use Rattle.decoder.specs.steps.Decoder.{leftOf, weightsIn}
+use Rattle.decoder.specs.steps.Decoder.{leftOf, logsIn}
 use Rattle.image.specs.steps.Loading.{rowsIn}
 use Rattle.rows.specs.steps.Ready.{narrow}
-use Rattle.rows.proofs.RowParts.{columns, narrow-numbers, loaded-front, loaded-weights, loaded-long, loaded-words}
+use Rattle.rows.proofs.RowParts.{columns, narrow-numbers, loaded-front, loaded-logs, loaded-long, loaded-words}
 use Rattle.rows.proofs.decoding.decode_columns.Statement.{statement}
 use Rattle.rows.proofs.decoding.decode_columns.Tie as tie
 
@@ -28,7 +28,7 @@ load-requires c κs =
 
 -- the part once the words are loaded
 loaded : (c : tie.After-load) → let a = c .before .before .before .before .before .args in
-    c .load .last .0 ≡ columns (a .st) (a .marks .now) (rowsIn (a .st) (a .marks .now) (a .bytes .now)) (a .from) (a .cols) ++ weightsIn (a .st) (a .marks .now)
+    c .load .last .0 ≡ columns (a .st) (a .marks .now) (rowsIn (a .st) (a .marks .now) (a .bytes .now)) (a .from) (a .cols) ++ logsIn (a .st) (a .marks .now)
 loaded c = let s = c .before .before .before .before .before in let a = s .args in
     c .load .ensures ∙ ap (λ (y : List ℕ). columns (a .st) (a .marks .now) (rowsIn (a .st) (a .marks .now) (a .bytes .now)) (a .from) (a .cols) ++ y)
     (s .pre .1 .1 .1)
@@ -44,7 +44,7 @@ decode-requires c κs =
         (s .pre .0 .long, s .pre .0 .enough),
         (
           loaded-long (a .st) (a .marks .now) r (a .from) (a .cols) L,
-          (loaded-words (a .st) (a .marks .now) r (a .from) (a .cols) L (s .pre .0 .below), loaded-weights (a .st) (a .marks .now) r (a .from) (a .cols) L),
+          (loaded-words (a .st) (a .marks .now) r (a .from) (a .cols) L (s .pre .0 .below), loaded-logs (a .st) (a .marks .now) r (a .from) (a .cols) L),
         ),
       ),
     )
@@ -59,7 +59,7 @@ returns c =
     (loaded (c .before .before .before .before .before .before)) in
     let d = c .before .before .decode .ensures in (
       d .0 ∙ ap (isConsistent (narrow (a .st) (a .cols)) (a .marks .now)) e,
-      d .1 ∙ ap (λ (x : List ℕ). leftOf (narrow (a .st) (a .cols)) (a .marks .now) x ++ weightsIn (a .st) (a .marks .now)) e,
+      d .1 ∙ ap (λ (x : List ℕ). leftOf (narrow (a .st) (a .cols)) (a .marks .now) x ++ logsIn (a .st) (a .marks .now)) e,
     )
 
 pub decode-columns-spec : {M : Type 1} → statement M

@@ -16,7 +16,7 @@ use Rattle.code.specs.Stripe.{blockCount, positionCount, blockWords, stripeWord
 use Rattle.decoder.specs.Decoding.{isConsistent, blocksIn}
 use Rattle.decoder.specs.steps.Decoder.{leftOf}
 use Rattle.rows.specs.Decoding.{Decoded, areRecords, decodedNumber, decodedWords}
-use Rattle.rows.proofs.RowParts.{twice, part-words, weights-cleared, left-zeros, left-blocks, left-front, length-cleared}
+use Rattle.rows.proofs.RowParts.{twice, part-words, logs-cleared, left-zeros, left-blocks, left-front, length-cleared}
 use Rattle.rows.proofs.StripeNumbers.{solved-nine, solved-ten, solved-blocks}
 use Rattle.rows.proofs.decoding.solve.Statement.{statement}
 use Rattle.rows.proofs.decoding.solve.Tie as tie
@@ -78,7 +78,7 @@ decode-requires c κs =
       ),
     )
 
--- the part once it is decoded, and once the weights are cleared
+-- the part once it is decoded, and once the logarithms are cleared
 long : (c : tie.After-decode) → let st = stripe (decode-two c) in length (c .decode .last .0) ≡ stripeWords st + positionCount st
 long c = c .decode .kept .0 ∙ start (decode-two c) .pre .1 .0
 
@@ -89,7 +89,7 @@ left c =
     putMid n (length l - n) l (c .clear .last .0)
 
 cleared : (c : tie.After-clear) → let t = decode-two (to-decode c) in left c ≡ leftOf (stripe t) (marks t) (rows t) ++ replicate (positionCount (stripe t)) 0
-cleared c = let t = decode-two (to-decode c) in weights-cleared (stripe t) (marks t) (rows t) (to-decode c .decode .ensures .1) (all t) (c .clear .ensures)
+cleared c = let t = decode-two (to-decode c) in logs-cleared (stripe t) (marks t) (rows t) (to-decode c .decode .ensures .1) (all t) (c .clear .ensures)
 
 half-in : (c : tie.After-clear) → half (decode-two (to-decode c)) ≤ length (left c)
 half-in c = let t = decode-two (to-decode c) in omega (arith, ap length (cleared c) ∙ length-cleared (stripe t) (marks t) (rows t), all t)
