@@ -1,7 +1,8 @@
-//! Decoding a range of columns of a stripe of eight blocks or more, in place. The words come out of the image as they are unmixed; the end of unmixing, deriving
-//! and the beginning of mixing are one pass, and so are the end of mixing, the exchange of erased words and the beginning of the last unmixing.
+//! Decoding a range of columns of a stripe of eight blocks or more, in place. Words are loaded, weighed, tested and unmixed by two levels in one pass; the end
+//! of unmixing, deriving and the beginning of mixing are one pass, and so are the end of mixing, the exchange of erased words and the beginning of the last
+//! unmixing.
 use super::lanes::*;
-use super::passes::{each_four, mix, mixed, numbers, per, unmix, unmixed, Factors, Step, Unmix};
+use super::passes::{each_four, mixed, numbers, per, unmixed, Factors, Passes, Step, Unmix};
 use super::tables::{centred, factor, Tables};
 use super::weights::Weights;
 
@@ -18,12 +19,11 @@ pub struct Range<'a> {
     pub erased: usize,
 }
 
-/// What becomes of a range.
-#[derive(PartialEq)]
+/// What becomes of a range, by the numbers of the table of refusals.
 pub enum Outcome {
-    Decoded,
-    Stray,
-    Discord,
+    Decoded = 0,
+    OutOfField = 8,
+    Inconsistent = 9,
 }
 
 /// The steps below are of one word's four rows; with an odd number of levels the last one is by pairs.
@@ -34,6 +34,15 @@ fn end_unmixing(odd: bool, v: [Lanes; 4]) -> [Lanes; 4] {
         [add(a, b), sub(a, b), add(c, d), sub(c, d)]
     } else {
         unmixed(v)
+    }
+}
+
+/// The factors of Y's rows at the end of unmixing, which are left to the product that follows.
+fn ends(odd: bool) -> [i64; 4] {
+    if odd {
+        [1, 256, 1, 256]
+    } else {
+        [1, 256, -16, -4096]
     }
 }
 
@@ -119,52 +128,45 @@ impl Range<'_> {
     }
 
     /// Whether the coefficients above those that P times the erased points' polynomial can have are zeros: S and D are equal there.
+    ///
+    /// # Safety
+    /// X and Y have M rows of this range each.
     unsafe fn is_low(&self, x: *const i32, y: *const i32, tables: &Tables) -> bool {
-        let rows = 1 << self.level;
-        let ends = if self.odd() {
-            [1, 256, 1, 256]
-        } else {
-            [1, 256, -16, -4096]
-        };
-        let one = splat(known(1));
-        for block in 0..rows / 4 {
-            for j in 0..self.cols {
-                let get = |at: *const i32| {
-                    [0, 1, 2, 3].map(|i| splat(*at.add((4 * block + i) * self.cols + j)))
+        let (odd, cols) = (self.odd(), self.cols);
+        let (one, ends) = (splat(known(1)), ends(odd).map(|end| splat(known(end))));
+        for block in 0..1 << self.level >> 2 {
+            let mut differ = [zero(); 4];
+            for j in (0..cols).step_by(4) {
+                let row = |at: *const i32, i: usize| match cols - j {
+                    rest @ 1..4 => load_some(at.add((4 * block + i) * cols + j), rest),
+                    _ => load(at.add((4 * block + i) * cols + j)),
                 };
-                let (s, d) = (
-                    end_unmixing(self.odd(), get(x)),
-                    end_unmixing(self.odd(), get(y)),
-                );
+                let four = |at| end_unmixing(odd, [0, 1, 2, 3].map(|i| row(at, i)));
+                let (s, d) = (four(x), four(y));
                 for i in 0..4 {
-                    let differ = sub(product(s[i], one), product(d[i], splat(known(ends[i]))));
-                    let zero = any_top(sub(settle(differ), splat(1)));
-                    if !zero
-                        && usize::from(tables.reversed[4 * block + i] >> (10 - self.level))
-                            >= self.erased
-                    {
-                        return false;
-                    }
+                    let difference = sub(product(s[i], one), product(d[i], ends[i]));
+                    differ[i] = or(differ[i], sub(zero(), settle(difference)));
+                }
+            }
+            for (i, &differ) in differ.iter().enumerate() {
+                let e = usize::from(tables.reversed[4 * block + i] >> (10 - self.level));
+                if e >= self.erased && any_top(differ) {
+                    return false;
                 }
             }
         }
         true
     }
 
-    /// Ends unmixing of both halves, derives, and begins mixing: the result is in X. With S and D unmixed this is rev(j) * S + M / 2 * (S - D), or twice that if
-    /// the number of levels is even: then each factor of D is an even power of 2 up to its sign, and so it is otherwise.
+    /// Ends unmixing of both halves, derives, and begins mixing: the result is in X. With S and D unmixed, rev(j) * S + M / 2 * (S - D) is derived, or twice
+    /// that if the number of levels is even. So all factors of D are even powers of 2 up to their signs: 32768, which has no factor, is an odd one.
     ///
     /// # Safety
     /// X and Y have M rows of this range each.
     unsafe fn turn_round<const W: usize>(&self, x: *mut i32, y: *const i32, tables: &Tables) {
         let (m, odd) = (1_i64 << self.level, self.odd());
         let scale = if odd { 1 } else { 2 };
-        let ends = if odd {
-            [1, 256, 1, 256]
-        } else {
-            [1, 256, -16, -4096]
-        };
-        let of_d = ends.map(|end| splat(known(-scale * m / 2 * end)));
+        let of_d = ends(odd).map(|end| splat(known(-scale * m / 2 * end)));
         // The rows of a block are reversed to these quarters; factors of small numbers add up as the numbers do.
         let of_s = [0, 2, 1, 3].map(|quarter| splat(known(scale * (quarter * m / 4 + m / 2))));
         let cols = if W == 0 { self.cols } else { W };
@@ -241,32 +243,35 @@ impl Range<'_> {
     ) -> Outcome {
         let (level, cols) = (self.level, self.cols);
         let (x, y) = rows.split_at_mut(cols << level);
-        let low = 2 - level % 2;
+        // The highest two levels go with loading and exchanging, and the lowest one or two with turning round and leaving.
+        let passes = |quads| Passes {
+            from: 2 - level % 2,
+            to: level - 2,
+            width: cols,
+            quads,
+        };
         // SAFETY: X and Y have M rows each.
         unsafe {
             let fine = self.enter::<W, N>(x.as_mut_ptr(), 0, tables, weights);
             if !(self.enter::<W, N>(y.as_mut_ptr(), 1, tables, weights) && fine) {
-                return Outcome::Stray;
+                return Outcome::OutOfField;
             }
         }
-        unmix::<W>(x, low, level - 2, cols, &tables.unmix_x, 1);
-        unmix::<W>(y, low, level - 2, cols, &tables.unmix_y, 1);
+        passes(&tables.unmix_x).unmix::<W>(x, 1);
+        passes(&tables.unmix_y).unmix::<W>(y, 1);
         // SAFETY: the same.
         unsafe {
             if self.erased < 1 << level && !self.is_low(x.as_ptr(), y.as_ptr(), tables) {
-                return Outcome::Discord;
+                return Outcome::Inconsistent;
             }
             self.turn_round::<W>(x.as_mut_ptr(), y.as_ptr(), tables);
         }
-        mix::<W>(x, low, level - 2, cols, &tables.mix_x, false);
+        passes(&tables.mix_x).mix::<W>(x, false);
         // SAFETY: the same.
         unsafe { self.exchange::<W, N>(x.as_mut_ptr(), tables, weights) };
-        unmix::<W>(x, low, level - 2, cols, &tables.unmix_x, 1);
-        if self.odd() {
-            each_four::<W>(x, cols, |v| end_unmixing(true, v).map(settle));
-        } else {
-            each_four::<W>(x, cols, |v| end_unmixing(false, v).map(settle));
-        }
+        passes(&tables.unmix_x).unmix::<W>(x, 1);
+        let odd = self.odd();
+        each_four::<W>(x, cols, |v| end_unmixing(odd, v).map(settle));
         Outcome::Decoded
     }
 
@@ -281,7 +286,7 @@ impl Range<'_> {
             self.level >= 3 && 2 << self.level <= N && rows.len() == self.cols << self.level << 1
         );
         assert!(
-            self.stripe.len() == 4 * self.width << self.level << 1
+            self.stripe.len() == (8 * self.width) << self.level
                 && self.from + self.cols <= self.width
         );
         match (self.cols == self.width, self.cols) {

@@ -2,8 +2,11 @@
 //! gives the one from 0 to 65536.
 //!
 //! A factor is a pair of 16-bit numbers, g and -g. With 65536 = -1, a word of low half l (signed) and high half h is l - h, so that one `pmaddwd` makes
-//! g * l + (-g) * h, its product with g. That needs g from -32767 to 32767: the two classes 32768 and -32768 have no factor. The product is below 2^31 for every
-//! word: 32767 * (32768 + 32768) is 2^31 - 65536.
+//! g * l + (-g) * h, its product with g. That needs g from -32767 to 32767: the two classes 32768 and -32768 have no factor, and users of a table that has them
+//! take half of the number and double the product. No product leaves 32 bits: 32767 * (32768 + 32768) is 2^31 - 65536.
+//!
+//! Products are folded, to -32767 .. 98303, and no words but these, those of buffers and sums of few of them go into a transform: its words stay below 2^29
+//! (passes.rs says how).
 use core::arch::x86_64::*;
 
 pub const P: i32 = 65537;

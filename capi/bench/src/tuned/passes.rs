@@ -2,6 +2,11 @@
 //! those of one or two are taken four or two at a time, with the factors of each.
 //!
 //! While words are mixed each has `half` in it, which products ask for: every result has the first word once, and so has it too.
+//!
+//! Bounds, with words below 2^29: a product is at most 32767 * (32768 + 8192), so that it folds to -20480 .. 86015. A pass of mixing adds three of these to a
+//! word, one difference of two times 256: less than 2^25. Mixing begins below 2^28.1, and has four passes after that. A pass of unmixing makes the words of its
+//! first quarter four times as large, and folds them every third time; so it begins with at most 16 times a folded number, and with a difference of two of
+//! these times 256 it stays below 16 * 106495 * 257, less than 2^29.
 use super::lanes::*;
 use super::tables::Quads;
 
@@ -15,7 +20,7 @@ pub const fn per(w: usize) -> usize {
 }
 
 /// Words that stay in the first cache: so many are taken through several passes before the next.
-const NEAR: usize = 8192;
+const NEAR: usize = 8448;
 
 /// The factors of the rows of unit i: one number in all lanes, or one for each row.
 ///
@@ -122,8 +127,9 @@ impl Step for UnmixAndFold {
     }
 }
 
-/// The factors of one pass.
+/// The factors of one pass, with m rows in a quarter.
 pub struct Factors {
+    m: usize,
     factors: [*const i32; 3],
     doubled: [*const i32; 3],
     odd: [usize; 3],
@@ -139,6 +145,7 @@ pub struct Three {
 impl Factors {
     pub fn new<const W: usize>(quads: &Quads, m: usize) -> Factors {
         Factors {
+            m,
             factors: quads.factors(m),
             doubled: quads.doubled(m),
             odd: quads.odd[m.trailing_zeros() as usize].map(|i| i / per(W)),
@@ -176,20 +183,20 @@ impl Three {
     }
 }
 
-/// One pass over a part: in each block of 4m rows, row i of each quarter.
+/// Part of one pass: in each block of 4m rows, the rows of some units of each quarter.
 ///
 /// # Safety
-/// The part is `blocks` such blocks.
+/// The part is `blocks` such blocks, and each quarter of them has these units.
 #[inline(always)]
-unsafe fn pass_near<const W: usize, S: Step>(
+unsafe fn pass_units<const W: usize, S: Step>(
     part: *mut i32,
     blocks: usize,
-    m: usize,
     width: usize,
     factors: &Factors,
+    units: impl Iterator<Item = usize>,
 ) {
-    let (unit, stride) = (per(W) * width, m * width);
-    for i in 0..m / per(W) {
+    let (unit, stride) = (per(W) * width, factors.m * width);
+    for i in units {
         let three = factors.three::<W>(i);
         let odd = factors.is_odd(i);
         for block in 0..blocks {
@@ -206,39 +213,70 @@ unsafe fn pass_near<const W: usize, S: Step>(
     }
 }
 
-/// One pass over rows: narrow ones are all near, and go by factor; of wide ones a block comes after the other.
-pub fn pass<const W: usize, S: Step>(part: &mut [i32], m: usize, width: usize, quads: &Quads) {
+/// One pass over rows: narrow ones go by factor, and of wide ones a block comes after the other.
+fn pass<const W: usize, S: Step>(part: &mut [i32], m: usize, width: usize, quads: &Quads) {
     let width = if W == 0 { width } else { W };
     let factors = Factors::new::<W>(quads, m);
     let blocks = part.len() / (4 * m * width);
-    let at = part.as_mut_ptr();
-    // SAFETY: the part has as many whole blocks of 4m rows, and m is a multiple of the rows in a unit wherever passes are made.
-    unsafe {
-        if W == 0 {
-            for block in 0..blocks {
-                pass_near::<W, S>(at.add(4 * block * m * width), 1, m, width, &factors);
-            }
-        } else {
-            pass_near::<W, S>(at, blocks, m, width, &factors);
+    let together = if W == 0 { 1 } else { blocks };
+    for block in (0..blocks).step_by(together) {
+        // SAFETY: the part has as many whole blocks of 4m rows, and m is a multiple of the rows in a unit wherever passes are made.
+        unsafe {
+            let at = part.as_mut_ptr().add(4 * block * m * width);
+            pass_units::<W, S>(at, together, width, &factors, 0..m / per(W));
         }
     }
 }
 
-/// Mixes from level `from` up to below `to`, an even number of levels; the last pass settles if `settle` is set.
-pub fn mix<const W: usize>(
-    part: &mut [i32],
-    from: usize,
-    to: usize,
-    width: usize,
-    quads: &Quads,
-    settle: bool,
-) {
-    let mut far = to;
-    while far > from && width << far > NEAR {
-        far -= 2;
+/// Two passes over wide rows that are far apart, S with m and T with 4m: the sixteen rows that these take to each other are done with before the next sixteen.
+fn pass_far<S: Step, T: Step>(part: &mut [i32], m: usize, width: usize, quads: &Quads, up: bool) {
+    let (near, far) = (Factors::new::<0>(quads, m), Factors::new::<0>(quads, 4 * m));
+    for block in part.chunks_exact_mut(16 * m * width) {
+        let at = block.as_mut_ptr();
+        for i in 0..m {
+            let units = (i..4 * m).step_by(m);
+            // SAFETY: the block is four blocks of 4m rows, and one of 16m.
+            unsafe {
+                if up {
+                    pass_units::<0, S>(at, 4, width, &near, i..i + 1);
+                    pass_units::<0, T>(at, 1, width, &far, units);
+                } else {
+                    pass_units::<0, T>(at, 1, width, &far, units);
+                    pass_units::<0, S>(at, 4, width, &near, i..i + 1);
+                }
+            }
+        }
     }
-    for near in part.chunks_exact_mut(width << far) {
-        for l in (from..far).step_by(2) {
+}
+
+/// Passes over rows of some width, from level `from` up to below `to`, an even number of levels.
+#[derive(Clone, Copy)]
+pub struct Passes<'a> {
+    pub from: usize,
+    pub to: usize,
+    pub width: usize,
+    pub quads: &'a Quads,
+}
+
+impl Passes<'_> {
+    /// The level from which on passes are over all rows: as many as 2^level of them stay near.
+    pub fn far(&self) -> usize {
+        let mut far = self.to;
+        while far > self.from && self.width << far > NEAR {
+            far -= 2;
+        }
+        far
+    }
+
+    /// Mixes levels up to below `far`, in rows that are near. The last pass settles if `settle` is set.
+    pub fn mix_near<const W: usize>(&self, near: &mut [i32], settle: bool) {
+        let &Passes {
+            from,
+            to,
+            width,
+            quads,
+        } = self;
+        for l in (from..self.far()).step_by(2) {
             if settle && l + 2 == to {
                 pass::<W, MixAndSettle>(near, 1 << l, width, quads);
             } else {
@@ -246,43 +284,67 @@ pub fn mix<const W: usize>(
             }
         }
     }
-    for l in (far..to).step_by(2) {
-        if settle && l + 2 == to {
-            pass::<W, MixAndSettle>(part, 1 << l, width, quads);
-        } else {
-            pass::<W, Mix>(part, 1 << l, width, quads);
-        }
-    }
-}
 
-/// Unmixes from level `to` down to level `from`, an even number of levels. `grown` passes were made since the words were last folded: each lets the first
-/// quarter grow fourfold, and the third one folds it.
-pub fn unmix<const W: usize>(
-    part: &mut [i32],
-    from: usize,
-    to: usize,
-    width: usize,
-    quads: &Quads,
-    grown: usize,
-) {
-    let mut far = to;
-    while far > from && width << far > NEAR {
-        far -= 2;
-    }
-    let one = |part: &mut [i32], l: usize| {
-        // Those before this one, of the levels from `to` down.
-        if (grown + (to - l) / 2) % 3 == 0 {
-            pass::<W, UnmixAndFold>(part, 1 << l, width, quads);
-        } else {
-            pass::<W, Unmix>(part, 1 << l, width, quads);
+    /// Mixes the levels from `far` on.
+    pub fn mix_far<const W: usize>(&self, part: &mut [i32], settle: bool) {
+        let &Passes {
+            to, width, quads, ..
+        } = self;
+        let mut l = self.far();
+        while l < to {
+            let two = W == 0 && l + 4 <= to;
+            let last = settle && l + if two { 4 } else { 2 } == to;
+            match (two, last) {
+                (true, true) => pass_far::<Mix, MixAndSettle>(part, 1 << l, width, quads, true),
+                (true, false) => pass_far::<Mix, Mix>(part, 1 << l, width, quads, true),
+                (false, true) => pass::<W, MixAndSettle>(part, 1 << l, width, quads),
+                (false, false) => pass::<W, Mix>(part, 1 << l, width, quads),
+            }
+            l += if two { 4 } else { 2 };
         }
-    };
-    for l in (far..to).step_by(2).rev() {
-        one(part, l);
     }
-    for near in part.chunks_exact_mut(width << far) {
-        for l in (from..far).step_by(2).rev() {
-            one(near, l);
+
+    pub fn mix<const W: usize>(&self, part: &mut [i32], settle: bool) {
+        for near in part.chunks_exact_mut(self.width << self.far()) {
+            self.mix_near::<W>(near, settle);
+        }
+        self.mix_far::<W>(part, settle);
+    }
+
+    /// Unmixes, the highest level first. `grown` passes were made since the words were last folded: each lets the first quarter grow fourfold, and the third
+    /// one folds it.
+    pub fn unmix<const W: usize>(&self, part: &mut [i32], grown: usize) {
+        let &Passes {
+            from,
+            to,
+            width,
+            quads,
+        } = self;
+        let folds = |l: usize| (grown + (to - l) / 2).is_multiple_of(3);
+        let mut l = to;
+        while l > self.far() {
+            let two = W == 0 && l >= self.far() + 4;
+            l -= if two { 4 } else { 2 };
+            match (two, folds(l), two && folds(l + 2)) {
+                (true, true, _) => {
+                    pass_far::<UnmixAndFold, Unmix>(part, 1 << l, width, quads, false)
+                }
+                (true, _, true) => {
+                    pass_far::<Unmix, UnmixAndFold>(part, 1 << l, width, quads, false)
+                }
+                (true, ..) => pass_far::<Unmix, Unmix>(part, 1 << l, width, quads, false),
+                (_, true, _) => pass::<W, UnmixAndFold>(part, 1 << l, width, quads),
+                _ => pass::<W, Unmix>(part, 1 << l, width, quads),
+            }
+        }
+        for near in part.chunks_exact_mut(width << l) {
+            for l in (from..l).step_by(2).rev() {
+                if folds(l) {
+                    pass::<W, UnmixAndFold>(near, 1 << l, width, quads);
+                } else {
+                    pass::<W, Unmix>(near, 1 << l, width, quads);
+                }
+            }
         }
     }
 }

@@ -1,5 +1,5 @@
 //! Recovery: the erasure list is read once for all stripes; then each stripe is decoded and laid over the records.
-use super::decoding::{Outcome, Range};
+use super::decoding::Range;
 use super::small::Small;
 use super::store::signed;
 use super::tables::{Tables, TABLES};
@@ -22,7 +22,7 @@ fn mark(marks: &mut [u8], erasures: &[u8], size: usize, width: usize) -> bool {
             return false;
         }
         least = end + 1;
-        let (low, high) = (offset * inverse >> 42, (end - 1) * inverse >> 42);
+        let (low, high) = ((offset * inverse) >> 42, ((end - 1) * inverse) >> 42);
         for mark in &mut marks[low as usize..=high as usize] {
             *mark = 1;
         }
@@ -68,6 +68,14 @@ impl<'a> Stripe<'a> {
             turned: u32::from(tables.reversed[first]),
         }
     }
+
+    /// Whether no surviving word is above 65536.
+    fn in_field(&self) -> bool {
+        let rows = self.bytes.chunks_exact(self.bytes.len() / self.marks.len());
+        let word = |bytes: &[u8]| u32::from_le_bytes(bytes.try_into().expect("four bytes"));
+        rows.zip(self.marks)
+            .all(|(row, &mark)| mark == 1 || row.chunks_exact(4).all(|bytes| word(bytes) <= 65536))
+    }
 }
 
 /// What all stripes of a recovery have in common: N is at least the positions of the largest.
@@ -103,24 +111,20 @@ impl<const N: usize> Recovery<'_, N> {
         columns: (usize, usize),
         scratch: &'b mut [i32],
     ) -> (u32, &'b [i32]) {
-        let &Stripe {
-            level,
-            bytes,
-            marks,
-            erased,
-            turned,
-        } = stripe;
-        let width = self.header.width();
+        let &Stripe { level, bytes, .. } = stripe;
+        let (tables, width) = (self.tables, self.header.width());
         let (from, cols) = columns;
         let outcome = if level <= 2 {
+            let turned = stripe.turned;
             let small = Small {
                 level,
                 stripe: bytes,
                 width,
                 turned,
             };
-            small.decode(&mut scratch[..width << level], self.tables, marks)
+            small.decode(&mut scratch[..width << level], tables, stripe.marks)
         } else {
+            let erased = stripe.erased;
             let range = Range {
                 level,
                 stripe: bytes,
@@ -129,18 +133,9 @@ impl<const N: usize> Recovery<'_, N> {
                 cols,
                 erased,
             };
-            range.decode(
-                &mut scratch[..cols << level << 1],
-                self.tables,
-                &self.weights,
-            )
+            range.decode(&mut scratch[..cols << level << 1], tables, &self.weights)
         };
-        let number = match outcome {
-            Outcome::Decoded => 0,
-            Outcome::Stray => 8,
-            Outcome::Discord => 9,
-        };
-        (number, &scratch[..cols << level])
+        (outcome as u32, &scratch[..cols << level])
     }
 
     /// The full stripe: of records of up to three words all columns at once, otherwise in two ranges.
@@ -159,9 +154,15 @@ impl<const N: usize> Recovery<'_, N> {
             let cols = half.min(width - from);
             let (refused, rows) = self.decode(stripe, (from, cols), scratch);
             if refused != 0 {
-                return refused;
+                // A word out of the field counts before, also in columns that are not decoded yet.
+                return if stripe.in_field() { refused } else { 8 };
             }
-            if !lay_full(out, s, rows, from, cols) {
+            let laid = match s {
+                1 => lay_full::<1>(out, s, rows, (from, cols)),
+                3 => lay_full::<3>(out, s, rows, (from, cols)),
+                _ => lay_full::<0>(out, s, rows, (from, cols)),
+            };
+            if !laid {
                 number = 10;
             }
         }
@@ -170,7 +171,7 @@ impl<const N: usize> Recovery<'_, N> {
 
     /// A level, whose blocks are laid over the records; where one is no record, that is seen afterwards, and the output is cleared then.
     fn level(&mut self, stripe: &Stripe, out: &mut [u32], scratch: &mut [i32]) -> u32 {
-        let (n, s, width) = (self.header.n(), self.header.s as usize, self.header.width());
+        let (s, width) = (self.header.s as usize, self.header.width());
         let number = self.weigh(stripe, scratch);
         if number != 0 {
             return number;
@@ -179,27 +180,45 @@ impl<const N: usize> Recovery<'_, N> {
         if refused != 0 {
             return refused;
         }
-        let mut beyond = 0;
-        for row in rows.chunks_exact(width) {
-            let i = row[0] as usize;
-            if i >= n {
-                return 10;
-            }
-            for (to, &x) in out[i * s..(i + 1) * s].iter_mut().zip(&row[1..]) {
-                beyond |= x;
-                *to = x as u32;
-            }
-        }
-        if beyond > 65535 {
-            10
-        } else {
+        let laid = match s {
+            1 => lay_level::<1>(out, s, rows),
+            3 => lay_level::<3>(out, s, rows),
+            _ => lay_level::<0>(out, s, rows),
+        };
+        if laid {
             0
+        } else {
+            10
         }
     }
 }
 
-/// Stores a range of columns of the records; whether numbers are in their places and data words are such.
-fn lay_full(out: &mut [u32], s: usize, rows: &[i32], from: usize, cols: usize) -> bool {
+/// Lays blocks over the records they name; whether all are records. S is s, or 0 for any: where it is known a record is copied without a call.
+fn lay_level<const S: usize>(out: &mut [u32], s: usize, rows: &[i32]) -> bool {
+    let s = if S == 0 { s } else { S };
+    let mut beyond = 0;
+    for row in rows.chunks_exact(s + 1) {
+        let at = row[0] as usize * s;
+        let Some(record) = out.get_mut(at..at + s) else {
+            return false;
+        };
+        for (to, &x) in record.iter_mut().zip(&row[1..]) {
+            beyond |= x;
+            *to = x as u32;
+        }
+    }
+    beyond <= 65535
+}
+
+/// Stores a range of columns of the records; whether numbers are in their places and data words are such. S is as above, where the range is all columns.
+fn lay_full<const S: usize>(
+    out: &mut [u32],
+    s: usize,
+    rows: &[i32],
+    columns: (usize, usize),
+) -> bool {
+    let (from, cols) = if S == 0 { columns } else { (0, S + 1) };
+    let s = if S == 0 { s } else { S };
     let skip = usize::from(from == 0);
     let (mut beyond, mut misplaced) = (0, 0);
     let pairs = out.chunks_exact_mut(s).zip(rows.chunks_exact(cols));
@@ -207,7 +226,8 @@ fn lay_full(out: &mut [u32], s: usize, rows: &[i32], from: usize, cols: usize) -
         if skip == 1 {
             misplaced |= row[0] ^ i as i32;
         }
-        for (to, &x) in record[from + skip - 1..].iter_mut().zip(&row[skip..]) {
+        let to = &mut record[from + skip - 1..from + cols - 1];
+        for (to, &x) in to.iter_mut().zip(&row[skip..]) {
             beyond |= x;
             *to = x as u32;
         }

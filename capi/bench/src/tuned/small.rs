@@ -53,7 +53,7 @@ impl Small<'_> {
 
     /// The logarithm of u^q, for q up to 4M.
     fn log(&self, q: usize) -> u32 {
-        (q * 32768 >> self.level) as u32
+        ((q * 32768) >> self.level) as u32
     }
 
     /// Lagrange's polynomial that is 1 at survivor a of M, and what turns its word, in one: its coefficients.
@@ -150,8 +150,8 @@ impl Small<'_> {
             }
         }
         match (stray, differ) {
-            (true, _) => Outcome::Stray,
-            (_, true) => Outcome::Discord,
+            (true, _) => Outcome::OutOfField,
+            (_, true) => Outcome::Inconsistent,
             _ => Outcome::Decoded,
         }
     }

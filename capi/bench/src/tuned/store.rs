@@ -1,12 +1,13 @@
 //! Opening and writing: the first two levels of mixing come straight out of the records, and a level is rebuilt straight out of those below it.
 use super::lanes::*;
-use super::passes::{mix, mixed, per, Factors};
+use super::passes::{mixed, per, Factors, Passes};
 use super::tables::{factor, Tables, TABLES};
 use super::Header;
 use core::arch::x86_64::*;
+use std::slice;
 
-/// The first one (odd k) or two levels of X and of Y, of four rows. Y's factors, with turning in them, are shifts: -256 for the first level; 4096, and 16 after a
-/// product with -256, for the second.
+/// The first one (odd k) or two levels of X and of Y, of four rows. Y's factors, with turning in them, are shifts: -256 in the first level; in the second 4096,
+/// and 16 for its second row and for what has the -256 of the first. The words of Y reach 65536 * (4096 + 256 + 16 + 1), which is not folded.
 #[inline(always)]
 fn begin<const ODD: bool>(v: [Lanes; 4]) -> [[Lanes; 4]; 2] {
     let [a, b, c, d] = v;
@@ -128,24 +129,41 @@ impl Rows {
         }
     }
 
+    /// The first passes over rows from `first` on, `count` of them.
     #[inline(always)]
-    unsafe fn begin_all<const ODD: bool>(self, reduce: impl Fn(Lanes) -> Lanes) {
+    unsafe fn begin_all<const ODD: bool>(
+        self,
+        first: usize,
+        count: usize,
+        reduce: impl Fn(Lanes) -> Lanes,
+    ) {
+        let end = first + count;
         match self.s {
             1 if self.n >= 8 => {
-                for i in (0..self.n).step_by(8) {
+                for i in (first..end).step_by(8) {
                     self.begin_one(i, begin::<ODD>, &reduce);
                 }
             }
             3 => {
-                for i in (0..self.n).step_by(4) {
+                for i in (first..end).step_by(4) {
                     self.begin_three(i, begin::<ODD>, &reduce);
                 }
             }
             _ => {
-                for i in (0..self.n).step_by(4) {
+                for i in (first..end).step_by(4) {
                     self.begin_any(i, begin::<ODD>, &reduce);
                 }
             }
+        }
+    }
+
+    /// The same for any k, where the records' words may be any or not.
+    unsafe fn begin(self, first: usize, count: usize, any: bool) {
+        match (self.n.trailing_zeros() % 2 == 1, any) {
+            (true, false) => self.begin_all::<true>(first, count, |x| x),
+            (true, true) => self.begin_all::<true>(first, count, fold_unsigned),
+            (false, false) => self.begin_all::<false>(first, count, |x| x),
+            (false, true) => self.begin_all::<false>(first, count, fold_unsigned),
         }
     }
 }
@@ -173,19 +191,47 @@ fn build_two(raw: &[u32], full: &mut [u32], s: usize) {
 /// Words as the lanes take them: the same bits, signed.
 pub fn signed(words: &mut [u32]) -> &mut [i32] {
     // SAFETY: the two types have the same size and alignment, and any bits are a number of either.
-    unsafe { std::slice::from_raw_parts_mut(words.as_mut_ptr().cast(), words.len()) }
+    unsafe { slice::from_raw_parts_mut(words.as_mut_ptr().cast(), words.len()) }
 }
 
-fn mix_half<const W: usize>(full: &mut [i32], k: usize, width: usize, tables: &Tables) {
-    let (x, y) = full.split_at_mut(width << k);
-    let from = 2 - k % 2;
-    mix::<W>(x, from, k, width, &tables.mix_x, true);
-    mix::<W>(y, from, k, width, &tables.mix_y, true);
+/// Codes a full stripe of four records and more: as many rows of X and of Y as stay near are begun and mixed, then the next, and then all together.
+///
+/// # Safety
+/// `raw` has n records of s words, and `full` 2n rows.
+unsafe fn build_by<const W: usize>(rows: Rows, any: bool, tables: &Tables) {
+    let k = rows.n.trailing_zeros() as usize;
+    let width = rows.s + 1;
+    let halves = [(0, &tables.mix_x), (rows.n * width, &tables.mix_y)];
+    let halves = halves.map(|(at, quads)| {
+        let (from, to) = (2 - k % 2, k);
+        (
+            at,
+            Passes {
+                from,
+                to,
+                width,
+                quads,
+            },
+        )
+    });
+    let near = 1 << halves[0].1.far().max(2);
+    for i in (0..rows.n).step_by(near) {
+        rows.begin(i, near, any);
+        for (at, passes) in &halves {
+            let part = rows.full.add(at + i * width);
+            passes.mix_near::<W>(slice::from_raw_parts_mut(part, near * width), true);
+        }
+    }
+    for (at, passes) in &halves {
+        let half = slice::from_raw_parts_mut(rows.full.add(*at), rows.n * width);
+        passes.mix_far::<W>(half, true);
+    }
 }
 
 /// Codes the full stripe. Where `any` is set the records' words may be any, and count modulo p.
 pub fn build(header: Header, raw: &[u32], full: &mut [u32], any: bool) {
     let (k, s) = (header.k as usize, header.s as usize);
+    assert!(raw.len() == s << k && full.len() == (2 * s + 2) << k);
     if k == 1 {
         return build_two(raw, full, s);
     }
@@ -195,27 +241,20 @@ pub fn build(header: Header, raw: &[u32], full: &mut [u32], any: bool) {
         n: 1 << k,
         s,
     };
-    // SAFETY: raw has n records of s words, and full 2n rows of s + 1. There are four records and more: the one of three words that is read with the word
-    // before it is not the first, and the first is followed by others.
+    // SAFETY: the lengths are as asserted. There are four records and more: one of three words that is read with the word before it is not the first, and the
+    // first is followed by others.
     unsafe {
-        match (k % 2 == 1, any) {
-            (true, false) => rows.begin_all::<true>(|x| x),
-            (true, true) => rows.begin_all::<true>(fold_unsigned),
-            (false, false) => rows.begin_all::<false>(|x| x),
-            (false, true) => rows.begin_all::<false>(fold_unsigned),
+        match s {
+            1 => build_by::<2>(rows, any, &TABLES),
+            3 => build_by::<4>(rows, any, &TABLES),
+            _ => build_by::<0>(rows, any, &TABLES),
         }
     }
-    let full = signed(full);
-    match header.width() {
-        // Nothing is left to mix, and a pass settles.
-        _ if k == 2 => {
-            for x in full {
-                *x = (*x - HALF).rem_euclid(P);
-            }
+    if k == 2 {
+        // The first pass was all of it, and did not settle.
+        for x in signed(full) {
+            *x = (*x - HALF).rem_euclid(P);
         }
-        2 => mix_half::<2>(full, k, 2, &TABLES),
-        4 => mix_half::<4>(full, k, 4, &TABLES),
-        width => mix_half::<0>(full, k, width, &TABLES),
     }
 }
 

@@ -18,7 +18,7 @@ pub struct Tables {
     pub unmix_y: Quads,
     /// The ten lowest bits of i, reversed.
     pub reversed: [u16; 1024],
-    /// For each level up to `DIRECT`, the logarithms of u^d - 1 for d = 0 .. 2M - 1, 0 at d = 0; twice, and some of them again for whole vectors.
+    /// For each level up to `DIRECT`, the logarithms of u^d - 1 for d = 0 .. 2M - 1, 0 at d = 0; all of them twice.
     pub logs: Vec<Vec<u16>>,
     /// For the levels above.
     pub spectra: Vec<Spectra>,
@@ -167,52 +167,54 @@ impl Spectra {
     }
 }
 
+/// 3^e.
+fn power(e: usize) -> i64 {
+    (0..e).fold(1, |x, _| x * 3 % i64::from(P))
+}
+
+fn powers() -> [i32; 2048] {
+    let step = power(32);
+    let mut powers = [1; 2048];
+    for i in 1..2048 {
+        powers[i] = centred(i64::from(powers[i - 1]) * step);
+    }
+    powers
+}
+
+/// The logarithms to base 3 of u^d - 1 for level 10, where u is the first power, and 0 at d = 0.
+fn logs(powers: &[i32; 2048]) -> [u32; 2048] {
+    let mut log_of = vec![0; 65537];
+    let mut x = 1;
+    for e in 0..65536 {
+        log_of[x as usize] = e;
+        x = x * 3 % P;
+    }
+    std::array::from_fn(|d| match d {
+        0 => 0,
+        _ => log_of[(powers[d] - 1).rem_euclid(P) as usize],
+    })
+}
+
 impl Tables {
     fn new() -> Tables {
-        let mut log_of = vec![0; 65537];
-        let mut x = 1_i64;
-        for e in 0..65536_u32 {
-            log_of[x as usize] = e;
-            x = x * 3 % i64::from(P);
-        }
-        let power = |e: u32| {
-            let mut x = 1_i64;
-            for _ in 0..e {
-                x = x * 3 % i64::from(P);
-            }
-            x
-        };
-        let step = power(32);
-        let mut powers = [1; 2048];
-        for i in 1..2048 {
-            powers[i] = centred(i64::from(powers[i - 1]) * step);
-        }
-        // The logarithms of u^d - 1 for level 10, 0 at d = 0; those of another level are some of them.
-        let mut logs = [0; 2048];
-        for d in 1..2048 {
-            let x = i64::from(powers[d] - 1).rem_euclid(i64::from(P));
-            logs[d] = log_of[x as usize];
-        }
+        let powers = powers();
+        let logs = logs(&powers);
+        // The u of another level is a power of the u of level 10.
         let of = |level: usize| logs.iter().copied().step_by(1024 >> level);
+        let twice = |level: usize| {
+            let words = of(level).cycle().take(4 << level);
+            words.map(|log| log as u16).collect()
+        };
+        let spectra = |level: usize| Spectra::new(&of(level).collect::<Vec<u32>>(), &powers);
         Tables {
-            small: std::array::from_fn(|r| factor(centred(power(r as u32))).0),
+            small: std::array::from_fn(|r| factor(centred(power(r))).0),
             mix_x: Quads::new(&powers, false, false),
             mix_y: Quads::new(&powers, true, false),
             unmix_x: Quads::new(&powers, false, true),
             unmix_y: Quads::new(&powers, true, true),
             reversed: std::array::from_fn(|i| (i as u16).reverse_bits() >> 6),
-            logs: (0..=DIRECT)
-                .map(|level| {
-                    of(level)
-                        .cycle()
-                        .take((4 << level) + 64)
-                        .map(|l| l as u16)
-                        .collect()
-                })
-                .collect(),
-            spectra: (DIRECT + 1..=10)
-                .map(|level| Spectra::new(&of(level).collect::<Vec<u32>>(), &powers))
-                .collect(),
+            logs: (0..=DIRECT).map(twice).collect(),
+            spectra: (DIRECT + 1..=10).map(spectra).collect(),
             powers,
         }
     }

@@ -8,6 +8,14 @@ fn words(random: &mut Random, count: usize, below: u64) -> Vec<u32> {
     (0..count).map(|_| random.below(below) as u32).collect()
 }
 
+/// One or two of the words, below a number, that let the numbers inside a transform grow most: the same in all places or mixed.
+fn extremes(random: &mut Random, count: usize, below: u32) -> Vec<u32> {
+    let all = [0, 1, 32767, 32768, 32769, 65535, 65536];
+    let all = &all[..all.partition_point(|&word| word < below)];
+    let two = [*random.one(all), *random.one(all)];
+    (0..count).map(|_| *random.one(&two)).collect()
+}
+
 /// Sizes of all kinds: each width with code of its own, each parity of k.
 fn size(random: &mut Random) -> (u32, u32) {
     let most = if random.below(8) == 0 { 10 } else { 7 };
@@ -62,6 +70,9 @@ fn openings_and_writes() {
         let (k, s) = size(&mut random);
         // Mostly data words; sometimes one that is none, in any place.
         let mut library = Buffers::new(&mut random, k, s, 65536);
+        if random.below(4) == 0 {
+            library.raw = extremes(&mut random, sizes::raw(k, s), 65536);
+        }
         if random.below(8) == 0 {
             let at = random.index(library.raw.len());
             library.raw[at] = 65536;
@@ -145,7 +156,7 @@ fn losses(random: &mut Random, k: u32, s: u32) -> Vec<u8> {
 
 /// Alters some words: by little, to a word out of the field, or to any.
 fn alter(random: &mut Random, image: &mut [u8]) {
-    for _ in 0..random.below(3) {
+    for _ in 0..1 + random.below(6) {
         let at = 4 * random.index(image.len() / 4);
         let word = match random.below(4) {
             0 => 65536,
@@ -213,9 +224,14 @@ fn recoveries() {
 #[test]
 fn any_words() {
     let mut random = Random::new(4);
-    for _ in 0..300 {
+    for _ in 0..600 {
         let (k, s) = size(&mut random);
-        let words = words(&mut random, sizes::image(k, s) / 4, 65537);
+        let count = sizes::image(k, s) / 4;
+        let words = if random.below(2) == 0 {
+            extremes(&mut random, count, 65537)
+        } else {
+            words(&mut random, count, 65537)
+        };
         let image: Vec<u8> = words.iter().flat_map(|word| word.to_le_bytes()).collect();
         let header = Plate {
             k,

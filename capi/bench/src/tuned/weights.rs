@@ -2,7 +2,7 @@
 //! have, the logarithm of a position's weight is a sum over the erased positions of the logarithms of u^d - 1, a cyclic convolution of the marks with these.
 //! The common factor falls away, since survivors' words are multiplied by their weights and erased ones by the inverses.
 use super::lanes::*;
-use super::passes::{mix, mixed, unmix, unmixed};
+use super::passes::{mixed, unmixed, Passes};
 use super::tables::{centred, factor, Spectra, Tables, DIRECT};
 use core::arch::x86_64::*;
 
@@ -35,8 +35,8 @@ impl<const N: usize> Weights<N> {
         }
     }
 
-    /// The factors of a stripe of 2^level blocks, 3 and up, whose marks are of X and then of Y; `turned` is the entry of the turning of its first block. At least
-    /// six words of scratch for a block are lent.
+    /// The factors of a stripe of level 3 and up, whose marks are of X and then of Y; `turned` is the entry of the turning of its first block. Six words of
+    /// scratch are lent for each block, or more.
     pub fn set(
         &mut self,
         tables: &Tables,
@@ -81,7 +81,7 @@ impl<const N: usize> Weights<N> {
         logs: &Logs,
     ) -> bool {
         let m = 1 << level;
-        assert!(m % 4 == 0 && 2 * m <= N && marks.len() == 2 * m && sums.len() == 2 * m);
+        assert!(level >= 2 && 2 * m <= N && marks.len() == 2 * m && sums.len() == 2 * m);
         let (inverse, _) = factor(centred(-(65536 >> level)));
         let inverse = splat(inverse);
         let mut none = zero();
@@ -212,16 +212,22 @@ fn convolve(
         pair[0] = i32::from(x);
         pair[1] = i32::from(y);
     }
-    let odd = level % 2 == 0;
+    let odd = level.is_multiple_of(2);
     if odd {
         unmix_top(column, &spectra.top_inverse);
     }
     let levels = level + usize::from(!odd);
-    unmix::<1>(column, 2, levels, 1, &tables.unmix_x, 0);
+    let passes = |quads| Passes {
+        from: 2,
+        to: levels,
+        width: 1,
+        quads,
+    };
+    passes(&tables.unmix_x).unmix::<1>(column, 0);
     sums.fill(0);
     for (low, factors) in &spectra.digits {
         multiply(column, factors, digit);
-        mix::<1>(digit, 2, levels, 1, &tables.mix_x, !odd);
+        passes(&tables.mix_x).mix::<1>(digit, !odd);
         if odd {
             join_top(digit, *low, spectra, sums);
         } else {
@@ -234,8 +240,9 @@ fn convolve(
 
 /// Ends unmixing, multiplies by the factors of a digit, and begins its mixing.
 fn multiply(column: &[i32], factors: &[i32], digit: &mut [i32]) {
-    assert!(column.len() % 16 == 0 && factors.len() == column.len() && digit.len() == column.len());
-    for at in (0..column.len()).step_by(16) {
+    let length = column.len();
+    assert!(length.is_multiple_of(16) && factors.len() == length && digit.len() == length);
+    for at in (0..length).step_by(16) {
         // SAFETY: all have sixteen words from there on.
         unsafe {
             let four = |from: &[i32]| [0, 4, 8, 12].map(|j| load(from.as_ptr().add(at + j)));
@@ -255,7 +262,10 @@ fn multiply(column: &[i32], factors: &[i32], digit: &mut [i32]) {
 fn join_top(digit: &[i32], below: u32, spectra: &Spectra, sums: &mut [i32]) {
     let m = spectra.top.len();
     assert!(
-        m % 4 == 0 && spectra.top_doubled.len() == m && digit.len() == 2 * m && sums.len() == 2 * m
+        m.is_multiple_of(4)
+            && spectra.top_doubled.len() == m
+            && digit.len() == 2 * m
+            && sums.len() == 2 * m
     );
     for i in (0..m).step_by(4) {
         // SAFETY: m factors, and 2m words of the digit and of the sums, are there.
