@@ -100,7 +100,6 @@ impl Range<'_> {
         let unit = per(W) * self.cols;
         let mut stray = zero();
         for i in 0..m / per(W) {
-            let three = factors.three::<W>(i);
             let quarters = [0, 1, 2, 3].map(|quarter| (half << self.level) + quarter * m);
             let loads = quarters.map(|at| numbers::<W>(weights.load.as_ptr().add(at), i));
             let lost = quarters.map(|at| numbers::<W>(weights.lost.as_ptr().add(at), i));
@@ -115,12 +114,14 @@ impl Range<'_> {
                 out
             };
             if factors.is_odd(i) {
+                let three = factors.doubled::<W>(i);
                 each_from::<W>(from, to, unit, |v| {
-                    Unmix::apply(weigh(v), |x, kind| three.doubled(x, kind))
+                    Unmix::apply(weigh(v), |x, kind| three.times(x, kind))
                 });
             } else {
+                let three = factors.three::<W>(i);
                 each_from::<W>(from, to, unit, |v| {
-                    Unmix::apply(weigh(v), |x, kind| three.plain(x, kind))
+                    Unmix::apply(weigh(v), |x, kind| three.times(x, kind))
                 });
             }
         }
@@ -209,7 +210,6 @@ impl Range<'_> {
         let back = Factors::new::<W>(&tables.unmix_x, m);
         let unit = per(W) * self.cols;
         for i in 0..m / per(W) {
-            let (up, down) = (ahead.three::<W>(i), back.three::<W>(i));
             let quarters = [0, 1, 2, 3].map(|quarter| quarter * m);
             let scale = quarters.map(|at| numbers::<W>(weights.exchange.as_ptr().add(at), i));
             let lost = quarters.map(|at| numbers::<W>(weights.lost.as_ptr().add(at), i));
@@ -222,14 +222,16 @@ impl Range<'_> {
                 })
             };
             if ahead.is_odd(i) | back.is_odd(i) {
+                let (up, down) = (ahead.doubled::<W>(i), back.doubled::<W>(i));
                 each_with::<W>(from, to, unit, |v, words| {
-                    let v = mixed(v, |x, kind| up.doubled(x, kind));
-                    Unmix::apply(pick(v, words), |x, kind| down.doubled(x, kind))
+                    let v = mixed(v, |x, kind| up.times(x, kind));
+                    Unmix::apply(pick(v, words), |x, kind| down.times(x, kind))
                 });
             } else {
+                let (up, down) = (ahead.three::<W>(i), back.three::<W>(i));
                 each_with::<W>(from, to, unit, |v, words| {
-                    let v = mixed(v, |x, kind| up.plain(x, kind));
-                    Unmix::apply(pick(v, words), |x, kind| down.plain(x, kind))
+                    let v = mixed(v, |x, kind| up.times(x, kind));
+                    Unmix::apply(pick(v, words), |x, kind| down.times(x, kind))
                 });
             }
         }

@@ -82,16 +82,16 @@ pub fn fold(x: Lanes) -> Lanes {
     sub(and(x, splat(0xffff)), sse2!(_mm_srai_epi32::<16>(x)))
 }
 
-/// The product of a word without `half`.
-#[inline(always)]
-pub fn product(x: Lanes, factor: Lanes) -> Lanes {
-    fold(times(add(x, half()), factor))
-}
-
 /// The same for words that are unsigned numbers of 32 bits: from -65535 to 65535.
 #[inline(always)]
 pub fn fold_unsigned(x: Lanes) -> Lanes {
     sub(and(x, splat(0xffff)), sse2!(_mm_srli_epi32::<16>(x)))
+}
+
+/// The product of a word without `half`.
+#[inline(always)]
+pub fn product(x: Lanes, factor: Lanes) -> Lanes {
+    fold(times(add(x, half()), factor))
 }
 
 /// A multiple of p above every word that is settled: those are below 2^29.

@@ -135,11 +135,17 @@ pub struct Factors {
     odd: [usize; 3],
 }
 
-/// The factors of a unit, and what of their products is doubled.
+/// The factors of a unit.
 #[derive(Clone, Copy)]
 pub struct Three {
-    pub factors: [Lanes; 3],
-    pub doubled: [Lanes; 3],
+    factors: [Lanes; 3],
+}
+
+/// The same where some products are doubled.
+#[derive(Clone, Copy)]
+pub struct Doubled {
+    three: Three,
+    masks: [Lanes; 3],
 }
 
 impl Factors {
@@ -162,24 +168,33 @@ impl Factors {
     /// i is below m over the rows of a unit.
     #[inline(always)]
     pub unsafe fn three<const W: usize>(&self, i: usize) -> Three {
-        Three {
-            factors: self.factors.map(|at| numbers::<W>(at, i)),
-            doubled: self.doubled.map(|at| numbers::<W>(at, i)),
-        }
+        let factors = self.factors.map(|at| numbers::<W>(at, i));
+        Three { factors }
+    }
+
+    /// # Safety
+    /// The same.
+    #[inline(always)]
+    pub unsafe fn doubled<const W: usize>(&self, i: usize) -> Doubled {
+        let masks = self.doubled.map(|at| numbers::<W>(at, i));
+        let three = self.three::<W>(i);
+        Doubled { three, masks }
     }
 }
 
 impl Three {
     #[inline(always)]
-    pub fn plain(&self, x: Lanes, kind: usize) -> Lanes {
+    pub fn times(&self, x: Lanes, kind: usize) -> Lanes {
         fold(times(x, self.factors[kind]))
     }
+}
 
+impl Doubled {
     /// The product with the factor is at most 2^14 * 2^16, so that twice that is no more than any other.
     #[inline(always)]
-    pub fn doubled(&self, x: Lanes, kind: usize) -> Lanes {
-        let x = times(x, self.factors[kind]);
-        fold(add(x, and(x, self.doubled[kind])))
+    pub fn times(&self, x: Lanes, kind: usize) -> Lanes {
+        let x = times(x, self.three.factors[kind]);
+        fold(add(x, and(x, self.masks[kind])))
     }
 }
 
@@ -197,17 +212,23 @@ unsafe fn pass_units<const W: usize, S: Step>(
 ) {
     let (unit, stride) = (per(W) * width, factors.m * width);
     for i in units {
-        let three = factors.three::<W>(i);
-        let odd = factors.is_odd(i);
-        for block in 0..blocks {
+        let rows = |block: usize| {
             let at = part.add(4 * block * stride + i * unit);
-            let rows = [0, 1, 2, 3].map(|quarter| at.add(quarter * stride));
-            if odd {
-                each::<W>(rows, unit, |v| {
-                    S::apply(v, |x, kind| three.doubled(x, kind))
+            [0, 1, 2, 3].map(|quarter| at.add(quarter * stride))
+        };
+        if factors.is_odd(i) {
+            let three = factors.doubled::<W>(i);
+            for block in 0..blocks {
+                each::<W>(rows(block), unit, |v| {
+                    S::apply(v, |x, kind| three.times(x, kind))
                 });
-            } else {
-                each::<W>(rows, unit, |v| S::apply(v, |x, kind| three.plain(x, kind)));
+            }
+        } else {
+            let three = factors.three::<W>(i);
+            for block in 0..blocks {
+                each::<W>(rows(block), unit, |v| {
+                    S::apply(v, |x, kind| three.times(x, kind))
+                });
             }
         }
     }

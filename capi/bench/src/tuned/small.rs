@@ -51,7 +51,7 @@ impl Small<'_> {
         }
     }
 
-    /// The logarithm of u^q, for q up to 4M.
+    /// The logarithm of u^q.
     fn log(&self, q: usize) -> u32 {
         ((q * 32768) >> self.level) as u32
     }

@@ -29,7 +29,8 @@ fn begin<const ODD: bool>(v: [Lanes; 4]) -> [[Lanes; 4]; 2] {
     ]
 }
 
-/// Where the rows of a full stripe begin, and its records.
+/// Where the rows of a full stripe begin, and its records. What is unsafe below asks that there are n records of s words, four of them or more, and 2n rows,
+/// and that rows i and on, as many as a step takes, are below n.
 #[derive(Clone, Copy)]
 struct Rows {
     raw: *const i32,
@@ -258,7 +259,8 @@ pub fn build(header: Header, raw: &[u32], full: &mut [u32], any: bool) {
     }
 }
 
-/// The halves that a level is rebuilt from and to: X's if `half` is 0, and Y's if it is 1.
+/// The halves that a level is rebuilt from and to: X's if `half` is 0, and Y's if it is 1. What is unsafe below asks that the log has all rows of this level
+/// and of those below.
 #[derive(Clone, Copy)]
 struct Halves {
     log: *mut i32,
@@ -333,14 +335,15 @@ impl Halves {
         let (near, older) = (self.row(q, 0), self.row(q + 1, 0));
         let to = self.row(self.level, (1 << self.level) - 4 * m);
         for i in 0..m / per(W) {
-            let three = factors.three::<W>(i);
             let at = i * unit;
             let rows = [0, 1, 2, 3].map(|quarter| to.add(at + quarter * m * self.width));
             let from = [near.add(at), older.add(at), older.add(at + m * self.width)];
             if factors.is_odd(i) {
-                fold_rows::<W>(from, rows, unit, |x, kind| three.doubled(x, kind), &end);
+                let three = factors.doubled::<W>(i);
+                fold_rows::<W>(from, rows, unit, |x, kind| three.times(x, kind), &end);
             } else {
-                fold_rows::<W>(from, rows, unit, |x, kind| three.plain(x, kind), &end);
+                let three = factors.three::<W>(i);
+                fold_rows::<W>(from, rows, unit, |x, kind| three.times(x, kind), &end);
             }
         }
     }
