@@ -210,9 +210,12 @@ fn recoveries() {
             let at = random.index(list.len());
             list[at] = list[at].wrapping_add(1);
         }
+        if random.below(32) == 0 {
+            image.pop();
+        }
         answers[recover_both(header, &image, &list, &mut random) as usize] += 1;
     }
-    for number in [0, 1, 3, 7, 8, 9, 10] {
+    for number in [0, 1, 2, 3, 7, 8, 9, 10] {
         assert!(
             answers[number] > 0,
             "no recovery gave {number}: {answers:?}"
