@@ -1,5 +1,5 @@
-//! The same vault in three implementations, and the jobs that are timed: opening, a round of writes, recovery; and explaining, by the library alone.
-use crate::plain;
+//! The same vault in four implementations, and the jobs that are timed: opening, a round of writes, recovery; and explaining, by the library alone.
+use crate::{plain, tuned};
 use random::Random;
 use reference::{opening, recovery, writing};
 use vault_library::{calls, erasures, sizes, stripes, Header};
@@ -8,6 +8,7 @@ use vault_library::{calls, erasures, sizes, stripes, Header};
 pub enum By {
     Library,
     Plain,
+    Tuned,
     Reference,
 }
 
@@ -67,21 +68,25 @@ impl Job {
 
     /// Tests that the implementations leave the same words after each write and give the same records. The reference recovers only where it is fast.
     pub fn check(&self) {
-        let [mut library, mut plain, mut reference] = [(); 3].map(|()| Vault::new(self));
+        let [mut library, mut plain, mut tuned, mut reference] = [(); 4].map(|()| Vault::new(self));
         library.open(By::Library);
         plain.open(By::Plain);
+        tuned.open(By::Tuned);
         reference.open(By::Reference);
         for write in &self.writes {
             let write = std::slice::from_ref(write);
             library.write(By::Library, write);
             plain.write(By::Plain, write);
+            tuned.write(By::Tuned, write);
             reference.write(By::Reference, write);
-            let equal = library == plain && library == reference;
+            let equal = library == plain && library == tuned && library == reference;
             assert!(equal, "buffers differ after a write");
         }
         library.recover(By::Library, self);
         plain.recover(By::Plain, self);
-        assert!(library == plain, "recovered records differ");
+        tuned.recover(By::Tuned, self);
+        let equal = library == plain && library == tuned;
+        assert!(equal, "recovered records differ");
         if self.k <= 6 {
             reference.recover(By::Reference, self);
             assert!(library == reference, "recovered records differ");
@@ -149,6 +154,7 @@ impl Vault {
         let taken = match by {
             By::Library => calls::open(k, s, raw, full, log).is_ok(),
             By::Plain => plain::open(k, s, raw, full, log) == 0,
+            By::Tuned => tuned::open(k, s, raw, full, log) == 0,
             By::Reference => opening::open(k, s, raw, full, log).0 == 0,
         };
         assert!(taken);
@@ -164,6 +170,12 @@ impl Vault {
                 By::Plain => {
                     let before = plain::Header { k, s, c };
                     let (number, c) = plain::write(before, raw, full, log, *record, block);
+                    header.c = c;
+                    number == 0
+                }
+                By::Tuned => {
+                    let before = tuned::Header { k, s, c };
+                    let (number, c) = tuned::write(before, raw, full, log, *record, block);
                     header.c = c;
                     number == 0
                 }
@@ -197,6 +209,10 @@ impl Vault {
             By::Plain => {
                 let header = plain::Header { k, s, c };
                 plain::recover(header, image, erasures, out, scratch) == (0, None)
+            }
+            By::Tuned => {
+                let header = tuned::Header { k, s, c };
+                tuned::recover(header, image, erasures, out, scratch) == (0, None)
             }
             By::Reference => {
                 let header = reference::header::Header { k, s, c };
