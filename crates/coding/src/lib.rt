@@ -21,7 +21,7 @@ pub fn mix_all(half: &mut [u32], st: Stripe, powers: &[u32])
     ensures { λ _. ⌜ now (half .exit) ≡
         lifted (st .width) (blockCount st) (blockCount st) (transform (modulusOf st) (rootIn st) (st .k) (st .level)) (now (half .entry)) ⌝ }
 {
-    transform::mixing::mix_all(half, st.level, st.width, powers);
+    transform::mix_all(half, st.level, st.width, powers);
 }
 
 // The inverse of all mixing of a half of a stripe, but for the factor 2^level.
@@ -34,7 +34,7 @@ pub fn unmix_all(half: &mut [u32], st: Stripe, powers: &[u32])
         lifted (st .width) (blockCount st) (blockCount st)
         (untransform (modulusOf st) (inverse (modulusOf st) (rootIn st)) (st .k) (st .level)) (now (half .entry)) ⌝ }
 {
-    transform::unmixing::unmix_all(half, st.level, st.width, powers);
+    transform::unmix_all(half, st.level, st.width, powers);
 }
 
 // Multiplies `width` words from index `at` by `g`.

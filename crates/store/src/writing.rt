@@ -104,7 +104,7 @@ fn fold(half: &mut [u32], level: usize, width: usize, powers: &[u32], top: usize
     let mut from = half.len() - width;
     for l in 0..level {
         from = from - m * width;
-        transform::mixing::mix(&mut half[from..], m, width, powers, step);
+        mixing::rows::mix(&mut half[from..], m, width, powers, step);
         step = step / 2;
         m = m * 2;
     }

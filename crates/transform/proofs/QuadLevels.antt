@@ -7,8 +7,7 @@ use native.Mathlib.Nat.{mod-lt, div-add-mod, add-mul-mod-self-left, mul-assoc, m
 use native.Mathlib.Numerals.{add-one}
 use native.Mathlib.Decide.{decLt}
 use native.Mathlib.Omega.{arith}
-use lib.Dec.{lit<}
-use lib.Pow.{pow-pos, pow-mono, pow-add}
+use lib.Pow.{pow-pos, pow-mono}
 use lib.ListN.{length, getD, take, drop, length-append, length-drop}
 use lib.Seq.{length-take-le}
 use Rattle.field.specs.Residue.{times}
@@ -24,11 +23,11 @@ use Rattle.code.proofs.Shapes.{length-two, length-unmixed}
 use Rattle.code.proofs.Lifting.{row-in}
 use Rattle.code.specs.steps.Mixing.{sumRow, eachBlock}
 use Rattle.code.proofs.Blocks.{OnBlock, eachRows, both, rows-double, rows-then, mixing-block, unmixing-block, pow-down}
-use Rattle.transform.specs.steps.Quads.{EntryFactors, QuadFactors, mixedTwice, unmixedTwice}
-use Rattle.transform.proofs.TwoLevels.{length-mixed-halves}
+use Rattle.quads.specs.steps.Quads.{EntryFactors, QuadFactors, mixedTwice, unmixedTwice}
+use Rattle.quads.proofs.TwoLevels.{length-mixed-halves}
 use Rattle.transform.proofs.MixLevels.{MixLoop, level-in, mix-turn}
 use Rattle.transform.proofs.UnmixLevels.{UnmixLoop, left-in, unmix-turn, unmix-done}
-use Rattle.transform.proofs.SumRows.{unmixing-sums, sums-level}
+use Rattle.mixing.proofs.SumRows.{unmixing-sums, sums-level}
 
 -- an odd number is not twice another
 not-twice : (x y : ℕ) → 1 + 2 * x ≡ 0 + 2 * y → ⊥

@@ -8,8 +8,9 @@ use lib.ListN.{length, length-replicate}
 use Rattle.field.specs.Field.{fermat, rootOf}
 use Rattle.code.proofs.Blocks.{Level}
 use Rattle.code.proofs.Factors.{LevelFactors, mixing-factors}
-use Rattle.transform.proofs.Crossing.{mixing-crosses}
-use Rattle.transform.proofs.MixLevels.{MixLoop, mix-start, level-in, mix-turn, mix-done, step-down, repeated-is, repeated-short, words-level}
+use Rattle.mixing.proofs.Crossing.{mixing-crosses}
+use Rattle.mixing.proofs.WordRows.{repeated-is, repeated-short, words-level}
+use Rattle.transform.proofs.MixLevels.{MixLoop, mix-start, level-in, mix-turn, mix-done, step-down}
 use Rattle.transform.proofs.narrow.mix_narrow.Statement.{statement}
 use Rattle.transform.proofs.narrow.mix_narrow.Tie as tie
 

@@ -1,7 +1,7 @@
 -- `transform::narrow::unmix_narrow` meets its contract, by the laws of the loop over levels of proofs/UnmixLevels. Assumes nothing.
 use mathlib.Core.Path.{_≡_, sym, ap, _∙_}
 use mathlib.Core.List.{List}
-use Prim.Native.Nat.{ℕ, _-_, _*_, _/_, _^_, _≤_}
+use Prim.Native.Nat.{ℕ, _-_, _*_, _/_, _≤_}
 use native.Mathlib.Nat.{add-mul, div-le-self}
 use native.Mathlib.Omega.{arith}
 use lib.Pow.{pow-pos}
@@ -11,8 +11,8 @@ use Rattle.field.specs.Field.{fermat, rootOf}
 use Rattle.field.proofs.Unity.{two-div}
 use Rattle.code.proofs.Blocks.{Level}
 use Rattle.code.proofs.Factors.{LevelFactors, unmixing-factors}
-use Rattle.transform.proofs.Crossing.{unmixing-crosses}
-use Rattle.transform.proofs.MixLevels.{repeated-is, repeated-short, words-level}
+use Rattle.mixing.proofs.Crossing.{unmixing-crosses}
+use Rattle.mixing.proofs.WordRows.{repeated-is, repeated-short, words-level}
 use Rattle.transform.proofs.UnmixLevels.{UnmixLoop, unmix-start, left-in, unmix-turn, unmix-done}
 use Rattle.transform.proofs.narrow.unmix_narrow.Statement.{statement}
 use Rattle.transform.proofs.narrow.unmix_narrow.Tie as tie

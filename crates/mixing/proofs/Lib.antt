@@ -1,0 +1,3 @@
+pub mod Crossing
+pub mod SumRows
+pub mod WordRows

@@ -1,0 +1,3 @@
+pub mod FourRows
+pub mod QuadRows
+pub mod TwoLevels

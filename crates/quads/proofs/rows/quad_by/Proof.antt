@@ -1,0 +1,64 @@
+-- `quads::rows::quad_by` meets its contract: entry 0 is 1, under which rows have no product. Assumes nothing.
+use mathlib.Core.Path.{_≡_, refl, _∙_}
+use mathlib.Core.List.{List}
+use Prim.Native.Nat.{ℕ, _*_, _%_}
+use native.Mathlib.Omega.{arith}
+use borrow.Author.Needs.{needs}
+use lib.ListN.{getD}
+use Rattle.quads.specs.steps.Quads.{mixingFour, quadRow}
+use Rattle.quads.proofs.rows.quad_by.Statement.{statement}
+use Rattle.quads.proofs.rows.quad_by.Tie as tie
+
+-- where e is 0 both factors are entry 0
+at-zero : (powers part : List ℕ) (e far width at : ℕ) → getD powers 0 0 ≡ 1 → e ≡ 0
+    → quadRow (mixingFour 65537 65281) 1 1 far width at part
+    ≡ quadRow (mixingFour 65537 65281) (getD powers (2 * e % 2048) 0) (getD powers (e % 2048) 0) far width at part
+at-zero powers part e far width at one z = rw (z, one) refl
+
+-- the factors
+abbrev start-at-third : tie.After-shared-slice-known4 → tie.Start
+start-at-third c = c .before .before .before .before .before .before
+
+read-t1 : tie.Need-shared-slice-read-t1
+read-t1 c = c .before .before .before .before .pre .1 .0 .within _
+
+read-t2 : tie.Need-shared-slice-read-t2
+read-t2 c = c .before .before .before .before .before .pre .1 .0 .within _
+
+read-t3 : tie.Need-shared-slice-read-t3
+read-t3 c = c .before .before .before .before .before .before .pre .1 .0 .within _
+
+quad-row-requires : tie.Need-quad-row-requires
+quad-row-requires c κs =
+    let p = start-at-third (c .before) .pre in
+    (p .0, (p .1 .0 .short, (p .1 .0 .third, p .1 .1)))
+
+returns : tie.Need-returns
+returns c =
+    let at-row = c .before .before in
+    let at-if = at-row .before .before in
+    let s = at-if .before .before .before in
+    at-row .quad-first-row .ensures
+    ∙ at-zero (s .args .powers .now) (s .args .part .now) (s .args .e) (s .args .far) (s .args .width) (s .args .at) (s .pre .1 .0 .one) (at-if .if1 .taken)
+
+room : tie.Need-mul-t1
+room c = omega (arith, c .before .before .before .pre .1 .0 .room)
+
+pub quad-by-spec : {M : Type 1} → statement M
+quad-by-spec =
+    tie.close
+    (tie.spec
+    (λ c κs. search needs)
+    room
+    (λ c. search needs)
+    read-t1
+    (λ c. search needs)
+    read-t2
+    (λ c. omega (arith, c .before .before .before .before .before .pre .1 .0 .room))
+    (λ c. search needs)
+    read-t3
+    quad-row-requires
+    (λ c. search needs)
+    returns
+    (λ c. search needs)
+    (λ c. search needs))
