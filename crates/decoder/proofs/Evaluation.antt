@@ -24,6 +24,8 @@ use Rattle.code.specs.Rows.{Column}
 use Rattle.code.proofs.Shapes.{length-transform, length-untransform, length-scaled, length-turned, length-bitReversed, bitReversed-at, coded-low, coded-high}
 use Rattle.code.proofs.Shapes.{scaled-at, reversed-lt, words-untransform, column-reversed, column-turned}
 use Rattle.code.proofs.BitReversal.{bitReversed-twice}
+use Rattle.code.proofs.Values.{values-at}
+use Rattle.decoder.proofs.Points.{point-low}
 use Rattle.decoder.proofs.Values.{valuesX, valuesY}
 use Rattle.decoder.proofs.Inverse.{untransforms, transforms}
 
@@ -76,8 +78,7 @@ module _ (p w k l t : ℕ) (stripe : Parameters p w k l t) where
     transform-values =
         is-table (transform p w k l (bitReversed l cs)) (2 ^ l) (λ i. horner p cs (pointAt p w k l i))
         (length-transform p w k l (bitReversed l cs) (length-bitReversed l cs))
-        (λ i b. sym (coded-low p w k l t (bitReversed l cs) (length-bitReversed l cs) i b) ∙ valuesX p w k l t (bitReversed l cs) i stripe reversed-column b
-        ∙ ap (λ ds. horner p ds (pointAt p w k l i)) (bitReversed-twice l cs (column .long)))
+        (λ i b. values-at p w k (stripe .root) l cs (stripe .within) column i b ∙ ap (horner p cs) (sym (point-low p w k l i b)))
 
     transform-turned-values : transform p w k l (turned p w k t (bitReversed l cs)) ≡ table (2 ^ l)
         (λ i. times p (power p w (reversed k t)) (horner p cs (pointAt p w k l (2 ^ l + i))))

@@ -117,7 +117,8 @@ module _ (p k g : ℕ) (R : Root p k g) (all : 2 ^ suc k ≡ p - 1) where
       let first = first-true (eqb e 0) (raised p g u (times p u 1) es) t in
       let rest = second-true (eqb e 0) (raised p g u (times p u 1) es) t in
       ap₂ _∷_ (eqb-true e 0 first ∙ sym (logarithm-first u))
-      (raised-rule u (times p u 1) (λ d. power p u (suc d)) es (power-suc p big u 0 ∙ ap (times p u) (power-zero p big u)) (λ d. power-suc p big u (suc d)) rest)
+      (raised-rule u (times p u 1) (λ d. power p u (suc d)) es (power-suc p big u 0 ∙ ap (times p u) (power-zero p big u)) (λ d. power-suc p big u (suc d))
+      rest)
 
 -- A TABLE OF LOGARITHMS, an entry at a time
 pub length-logs-of : (p g u n : ℕ) → length (logsOf p g u n) ≡ n
@@ -164,7 +165,7 @@ log-entry d l b =
     ap (power 65537 3) (logs-at 65537 3 (power 65537 3 32) 2048 d b ∙ ap (λ (u : ℕ). logarithm 65537 3 (minus 65537 (power 65537 u d) 1)) base-root)
     ∙ power-of-logarithm 65537 15 3 three-root refl y (omega arith) (minus-lt 65537 h′ (power 65537 u d) 1)
 
--- an entry of a table of powers, or what is read behind it
+-- each entry of a table of powers is below p, and so is the 0 that stands for what is behind its end
 pub powers-lt : (p x n i : ℕ) {l : List ℕ} → 1 < p → l ≡ powersOf p x n → getD l i 0 < p
 unfolding powersOf
 powers-lt p x n i h e = rw e (words-table p (omega arith) n (power p x) (λ k b. power-lt p h x k) .word i)

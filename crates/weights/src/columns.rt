@@ -38,6 +38,7 @@ fn load_digits(column: &mut [u32], level: usize, unit: u32, table: &[u32])
     }
 }
 
+// All mixing of a column: rows of one word.
 pub fn mix(column: &mut [u32], level: usize, powers: &[u32])
     requires { ⌜ level ≤ 10 ⌝ }
     requires { ⌜ length (now column) ≡ 2 ^ suc level ⌝ }
@@ -48,6 +49,7 @@ pub fn mix(column: &mut [u32], level: usize, powers: &[u32])
     transform::narrow::mix_narrow(column, level + 1, 1, powers);
 }
 
+// Its inverse, but for a factor 2^(level + 1).
 fn unmix(column: &mut [u32], level: usize, powers: &[u32])
     requires { ⌜ level ≤ 10 ⌝ }
     requires { ⌜ length (now column) ≡ 2 ^ suc level ⌝ }
@@ -58,7 +60,7 @@ fn unmix(column: &mut [u32], level: usize, powers: &[u32])
     transform::unmixing::unmix_all(column, level + 1, 1, powers);
 }
 
-// Multiplies the last words by the first ones.
+// Multiplies the last `count` words by the first ones, each by its own.
 fn multiply(part: &mut [u32], count: usize)
     requires { ⌜ length (now part) ≡ count + count ⌝ }
     requires { ⌜ Words (fermat .modulus) (now part) ⌝ }

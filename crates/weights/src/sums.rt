@@ -10,7 +10,7 @@ ghost use Rattle.code.specs.steps.Storing.{stored, always};
 ghost use Rattle.logarithms.specs.Logarithms.{logTable};
 ghost use Rattle.weights.specs.steps.Digits.{Holds, mixedFlags, powersTo, addedAt, withSums};
 
-// The sum of the logarithms of the erased points.
+// The sum of the logarithms of the erased points: at most 2,048 numbers of 16 bits.
 fn powers_sum(marks: &[bool], level: usize) -> u32
     requires { ⌜ level ≤ 10 ⌝ }
     requires { ⌜ 2 ^ suc level ≤ length (now marks) ⌝ }
@@ -25,7 +25,7 @@ fn powers_sum(marks: &[bool], level: usize) -> u32
     sum
 }
 
-// Stores x at each of the last `count` words, from index `base` on.
+// Stores x at `count` words from index `base` on.
 fn fill(part: &mut [u32], base: usize, count: usize, x: u32)
     requires { ⌜ base + count ≤ length (now part) ⌝ }
     ensures { λ _. ⌜ now (part .exit) ≡ stored base (always x) count (now (part .entry)) ⌝ }
