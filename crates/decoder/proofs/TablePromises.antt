@@ -1,16 +1,15 @@
 -- The promises of specs/Promises about the table of powers, each proved. Assumes nothing.
 use mathlib.Core.Path.{_≡_, refl, sym, ap, _∙_}
-use Prim.Native.Nat.{ℕ, suc, _+_, _*_, _-_, _/_, _^_, _≤_, _<_}
+use Prim.Native.Nat.{ℕ, suc, _*_, _-_, _/_, _^_, _<_}
 use native.Mathlib.Nat.{mul-pos}
 use native.Mathlib.Omega.{arith}
-use lib.Pow.{pow-pos, pow-add, pow-mono}
+use lib.Pow.{pow-pos, pow-mono}
 use lib.ListN.{getD}
 use Rattle.field.specs.Power.{power, inverse}
 use Rattle.field.specs.Field.{fermat, rootOf, powerTable}
 use Rattle.field.proofs.Unity.{two-div}
-use Rattle.field.proofs.PowerTables.{length-table-of-powers, powers-at, table-step, table-root, table-inverse, inverse-power, level-root, level-inverse}
+use Rattle.field.proofs.PowerTables.{length-table-of-powers, powers-at, table-step, entry-lt, table-root, table-inverse, inverse-power, level-root, level-inverse}
 use Rattle.code.proofs.Factors.{turning-entry}
-use Rattle.code.proofs.Lifting.{row-in}
 use Rattle.decoder.specs.Promises.{TableRule, RootInTable, PowersInTable, InversesInTable, MixingInTable, UnmixingInTable, TurningInTable, PointsInTable}
 use Rattle.decoder.proofs.Points.{point-low, point-high}
 
@@ -20,24 +19,17 @@ tableRule = (length-table-of-powers, λ i b. powers-at 65537 (power 65537 3 32) 
 pub rootInTable : RootInTable
 rootInTable k b = ap (λ (e : ℕ). getD powerTable e 0) (two-div 10 k b) ∙ table-root k b
 
--- 2n entries of step 1024 / n make the table
-within : (k j : ℕ) → k ≤ 10 → j < 2 ^ suc k → j * 2 ^ (10 - k) < 2048
-within k j b h =
-    let e : 2 ^ suc k * 2 ^ (10 - k) ≡ 2048 =
-    sym (pow-add 2 (suc k) (10 - k)) ∙ ap (λ (n : ℕ). 2 ^ n) {x = suc k + (10 - k)} {y = 11} (omega arith) in
-    omega (arith, row-in (2 ^ (10 - k)) h, pow-pos (10 - k))
-
 pub powersInTable : PowersInTable
 powersInTable k j b h =
     let s : 2 ^ (10 - k) < 2048 = omega (arith, pow-mono {i = 10 - k} {j = 10} (omega arith)) in
-    ap (λ (e : ℕ). getD powerTable (j * e) 0) (two-div 10 k b) ∙ table-step (2 ^ (10 - k)) j s (within k j b h)
+    ap (λ (e : ℕ). getD powerTable (j * e) 0) (two-div 10 k b) ∙ table-step (2 ^ (10 - k)) j s (entry-lt k j b h)
     ∙ ap (λ (w : ℕ). power 65537 w j) (table-root k b)
 
 pub inversesInTable : InversesInTable
 inversesInTable k j b z h =
     let e = j * (1024 / 2 ^ k) in
     let s : 1024 / 2 ^ k ≡ 2 ^ (10 - k) = two-div 10 k b in
-    let i : e < 2048 = rw s (within k j b h) in
+    let i : e < 2048 = rw s (entry-lt k j b h) in
     let o : 0 < e = rw s (mul-pos z (pow-pos (10 - k))) in
     table-inverse e o i ∙ ap (inverse 65537) (powersInTable k j b h) ∙ sym (inverse-power 65537 (omega arith) (rootOf fermat k) j)
 

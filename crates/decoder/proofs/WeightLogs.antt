@@ -6,12 +6,11 @@ use mathlib.Core.Bool.{Bool, true, false}
 use mathlib.Core.List.{List}
 use Prim.Native.Nat.{ℕ, zero, suc, _+_, _*_, _-_, _/_, _%_, _^_, _≤_, _<_}
 use native.Mathlib.Nat.{mul-comm, mul-pos, zero-mul, zero-mod, mod-lt, mod-self, add-mul-mod-self-left}
-use native.Mathlib.Decide.{decLt}
 use native.Mathlib.Omega.{arith, ne-cases}
-use borrow.Author.Tests.{eq-eqb, ne-eqb, lt-ltb, le-ltb}
+use borrow.Author.Tests.{eq-eqb, ne-eqb}
 use lib.Dec.{ltb, lit<}
 use lib.ListN.{length, getD}
-use lib.Pow.{pow-pos, pow-add}
+use lib.Pow.{pow-pos}
 use Rattle.field.specs.Residue.{minus, times}
 use Rattle.field.specs.Power.{power, inverse}
 use Rattle.field.specs.Field.{Root, fermat, rootOf}
@@ -19,15 +18,15 @@ use Rattle.field.specs.Words.{Words}
 use Rattle.field.proofs.Booleans.{either}
 use Rattle.field.proofs.Congruence.{of-eq}
 use Rattle.field.proofs.Laws.{times-comm, times-assoc, times-one}
-use Rattle.field.proofs.PowerTables.{level-root, turns}
+use Rattle.field.proofs.PowerTables.{level-root, turns, entry-lt}
 use Rattle.field.proofs.Powers.{power-lt, power-zero, power-add, power-mul}
 use Rattle.field.proofs.Primes.{fermat-prime, fermat-root}
 use Rattle.field.proofs.Ring.{v, _⊖_, _⊗_, lin}
 use Rattle.field.proofs.Unity.{two-div, root-full}
 use Rattle.field.proofs.WordLists.{words-table, length-table, getD-table, same-table}
-use Rattle.code.proofs.Lifting.{row-in}
 use Rattle.logarithms.specs.Logarithms.{logTable}
 use Rattle.logarithms.specs.Weights.{exponentAt, logOfPower, logOfLess, logTo, logAt, logs}
+use Rattle.logarithms.proofs.Weights.{exponent-lt}
 use Rattle.logarithms.proofs.Logarithms.{three-root, base-root, log-zero, log-entry}
 use Rattle.decoder.specs.Decoding.{pointAt}
 use Rattle.decoder.specs.Promises.{Parameters}
@@ -74,19 +73,13 @@ module _ (l : ℕ) (b : l ≤ 10) where
       power-mul 65537 h 3 (32 * step) e
       ∙ ap (λ (x : ℕ). power 65537 x e) (power-mul 65537 h 3 32 step ∙ ap (λ (x : ℕ). power 65537 x step) base-root ∙ step-root)
 
-  less-entry : (d : ℕ) → d % 2 ^ suc l * step < 2048
-  less-entry d =
-      let s : step ≡ 2 ^ (10 - l) = two-div 10 l b in
-      let e : 2 ^ suc l * 2 ^ (10 - l) ≡ 2048 =
-      sym (pow-add 2 (suc l) (10 - l)) ∙ ap (λ (n : ℕ). 2 ^ n) {x = suc l + (10 - l)} {y = 11} (omega arith) in
-      rw s (omega (arith, row-in (2 ^ (10 - l)) (mod-lt d (pow-pos (suc l))), pow-pos (10 - l)))
-
   less-of : (d : ℕ) → d % 2 ^ suc l ≢ 0 → power 65537 3 (logOfLess l d) ≡ minus 65537 (power 65537 u d) 1
   unfolding logOfLess
   less-of d n =
       let r = d % 2 ^ suc l in
       let s : 0 < step = rw (two-div 10 l b) (pow-pos (10 - l)) in
-      log-entry (r * step) (mul-pos (omega arith) s) (less-entry d)
+      let m : r * step < 2048 = rw (two-div 10 l b) (entry-lt l r b (mod-lt d (pow-pos (suc l)))) in
+      log-entry (r * step) (mul-pos (omega arith) s) m
       ∙ ap (λ (x : ℕ). minus 65537 x 1)
       (ap (power 65537 (rootOf fermat 10)) (mul-comm r step) ∙ power-mul 65537 h (rootOf fermat 10) step r ∙ ap (λ (x : ℕ). power 65537 x r) step-root
       ∙ turns 65537 l u fermat-prime (fermat-root l (omega arith)) d)
@@ -120,14 +113,6 @@ module _ (k l : ℕ) (within : l ≤ k) (small : k ≤ 10) where
       raised true r a b = refl
       raised false r a b = refl
 
-  exponent-lt : (i : ℕ) → i < 2 ^ suc l → e i < 2 ^ suc l
-  unfolding exponentAt
-  exponent-lt i b = at (decLt i (2 ^ l))
-    where
-      at : Dec (i < 2 ^ l) → elim (ltb i (2 ^ l)) [ true ↦ 2 * i | false ↦ 2 * (i - 2 ^ l) + 1 ] < 2 ^ suc l
-      at (yes c) = rw (lt-ltb i (2 ^ l) c) (omega arith)
-      at (no c) = rw (le-ltb i (2 ^ l) (omega arith)) (omega arith)
-
   root : Root 65537 l (u l low)
   root = fermat-root l (omega arith)
 
@@ -139,7 +124,7 @@ module _ (k l : ℕ) (within : l ≤ k) (small : k ≤ 10) where
     across : times 65537 (x j) (power 65537 (u l low) d) ≡ x i
     across =
         ap (λ (t : ℕ). times 65537 t (power 65537 (u l low) d)) (point-is j) ∙ sym (power-add 65537 h (u l low) (e j) d)
-        ∙ ap (power 65537 (u l low)) {x = e j + d} {y = e i + 2 ^ suc l} (omega (arith, exponent-lt j n)) ∙ power-add 65537 h (u l low) (e i) (2 ^ suc l)
+        ∙ ap (power 65537 (u l low)) {x = e j + d} {y = e i + 2 ^ suc l} (omega (arith, exponent-lt l j n)) ∙ power-add 65537 h (u l low) (e i) (2 ^ suc l)
         ∙ ap (times 65537 (power 65537 (u l low) (e i))) (root-full 65537 l (u l low) root)
         ∙ times-one 65537 z (power 65537 (u l low) (e i)) (power-lt 65537 h (u l low) (e i)) ∙ sym (point-is i)
 
@@ -167,7 +152,7 @@ module _ (k l : ℕ) (within : l ≤ k) (small : k ≤ 10) where
 
   term-own : (i : ℕ) (m : i < 2 ^ suc l) → power 65537 3 (logOfPower l (e i) + logOfLess l (d i i m m)) ≡ x i
   term-own i m =
-      let s : e i + (2 ^ suc l - e i) ≡ 2 ^ suc l = omega (arith, exponent-lt i m) in
+      let s : e i + (2 ^ suc l - e i) ≡ 2 ^ suc l = omega (arith, exponent-lt l i m) in
       term i i m m ∙ ap (times 65537 (x i)) (less-none l low (e i + (2 ^ suc l - e i)) (ap (λ (n : ℕ). n % 2 ^ suc l) s ∙ mod-self (2 ^ suc l)))
       ∙ times-one 65537 z (x i) (point-lt 65537 w k l h i)
 

@@ -4,7 +4,7 @@ use mathlib.Core.Path.{_≡_, refl, sym, ap, ap₂, _∙_}
 use mathlib.Core.Bool.{Bool, true, false}
 use mathlib.Core.List.{List, [], _∷_}
 use Prim.Native.Nat.{ℕ, suc, _+_, _*_, _-_, _/_, _%_, _^_, _≤_, _<_}
-use native.Mathlib.Nat.{mul-comm, mul-assoc, mul-div-cancel, mod-lt, mod-eq-of-lt, div-add-mod}
+use native.Mathlib.Nat.{mul-comm, mul-assoc, mul-le-mul-left, mul-div-cancel, mod-lt, mod-eq-of-lt, div-add-mod}
 use native.Mathlib.Omega.{arith}
 use lib.Dec.{T, eqb, eqb→eq}
 use lib.Pow.{pow-pos, pow-add, pow-mono}
@@ -140,6 +140,13 @@ pub table-step : (s i : ℕ) → s < 2048 → i * s < 2048 → getD powerTable (
 table-step s i b h = ap (λ (e : ℕ). getD powerTable e 0) (sym (mod-eq-of-lt h)) ∙ table-power s i b
 
 -- the root of 2 ^ k records is entry 1024 / n
+-- 2n exponents of step 1024 / n make the table
+pub entry-lt : (k e : ℕ) → k ≤ 10 → e < 2 ^ suc k → e * 2 ^ (10 - k) < 2048
+entry-lt k e b h =
+    let whole : 2 ^ suc k * 2 ^ (10 - k) ≡ 2048 =
+    sym (pow-add 2 (suc k) (10 - k)) ∙ ap (λ (n : ℕ). 2 ^ n) {x = suc k + (10 - k)} {y = 11} (omega arith) in
+    omega (arith, mul-le-mul-left (2 ^ (10 - k)) h, pow-pos (10 - k))
+
 pub table-root : (k : ℕ) → k ≤ 10 → getD powerTable (2 ^ (10 - k)) 0 ≡ rootOf fermat k
 table-root k b =
     rw table-is (powers-at 65537 (rootOf fermat 10) 2048 (2 ^ (10 - k)) (omega (arith, pow-mono {i = 10 - k} {j = 10} (omega arith)))

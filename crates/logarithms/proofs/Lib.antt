@@ -1,1 +1,2 @@
 pub mod Logarithms
+pub mod Weights

@@ -24,7 +24,8 @@ use Rattle.code.proofs.Convolution.{convolution-exact}
 use Rattle.logarithms.specs.Weights.{erasedTo, exponentAt, logOfPower, logOfLess, logTo, logAt, logs}
 use Rattle.weights.specs.steps.Digits.{positionAt, flag, flagAt, flags, digitAt, digits, mixedColumn, unmixedColumn, mixedFlags}
 use Rattle.weights.specs.steps.Digits.{sumRows, sumAt, withSum, withSums, powersTo}
-use Rattle.weights.proofs.ExponentLaws.{exponent-low, exponent-high, exponent-lt, position-even-is, position-odd-is, log-of-less-lt}
+use Rattle.logarithms.proofs.Weights.{exponent-low, exponent-high, exponent-lt}
+use Rattle.weights.proofs.ExponentLaws.{position-even-is, position-odd-is, log-of-less-lt}
 use Rattle.weights.proofs.ColumnLaws.{digit-le, flags-column, digits-column}
 use Rattle.weights.proofs.SumLaws.{total, total-same, total-exponents, total-plus, total-times, total-le}
 

@@ -3,7 +3,7 @@ use mathlib.Core.Path.{_≡_, refl, sym, ap, ap₂, _∙_}
 use Prim.Native.Nat.{ℕ, zero, suc, _+_, _*_, _^_, _≤_, _<_}
 use native.Mathlib.Omega.{arith}
 use Rattle.logarithms.specs.Weights.{exponentAt}
-use Rattle.weights.proofs.ExponentLaws.{exponent-low, exponent-high}
+use Rattle.logarithms.proofs.Weights.{exponent-low, exponent-high}
 
 -- f 0 + f 1 + .., n of them
 unfoldable pub total : (n : ℕ) → (f : ℕ → ℕ) → ℕ

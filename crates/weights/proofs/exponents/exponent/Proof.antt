@@ -4,7 +4,7 @@ use Prim.Native.Nat.{ℕ, _+_, _*_, _-_}
 use native.Mathlib.Omega.{arith}
 use borrow.Author.Needs.{needs}
 use lib.Pow.{pow-mono}
-use Rattle.weights.proofs.ExponentLaws.{exponent-low, exponent-high}
+use Rattle.logarithms.proofs.Weights.{exponent-low, exponent-high}
 use Rattle.weights.proofs.exponents.exponent.Statement.{statement}
 use Rattle.weights.proofs.exponents.exponent.Tie as tie
 

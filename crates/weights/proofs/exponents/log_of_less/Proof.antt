@@ -6,7 +6,7 @@ use native.Mathlib.Omega.{arith}
 use borrow.Author.Needs.{needs}
 use lib.ListN.{length, getD}
 use Rattle.logarithms.proofs.Logarithms.{length-logs}
-use Rattle.weights.proofs.ExponentLaws.{entry-lt, log-of-less-is}
+use Rattle.weights.proofs.ExponentLaws.{entry-in, log-of-less-is}
 use Rattle.weights.proofs.exponents.log_of_less.Statement.{statement}
 use Rattle.weights.proofs.exponents.log_of_less.Tie as tie
 
@@ -19,7 +19,7 @@ inside c =
     omega (
       arith,
       ap (λ (n : ℕ). s .args .d * (1024 / n)) (c .two-to .ensures),
-      entry-lt (s .args .level) (s .args .d) (s .pre .0 .0) (s .pre .0 .1),
+      entry-in (s .args .level) (s .args .d) (s .pre .0 .0) (s .pre .0 .1),
     )
 
 mul-at : tie.Need-mul-at

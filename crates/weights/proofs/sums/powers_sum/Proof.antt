@@ -10,7 +10,8 @@ use lib.Pow.{pow-mono}
 use lib.ListN.{getD}
 use Rattle.logarithms.specs.Weights.{exponentAt, logOfPower}
 use Rattle.weights.specs.steps.Digits.{flag, powersTo}
-use Rattle.weights.proofs.ExponentLaws.{exponent-lt, log-of-power-lt, flag-times-le}
+use Rattle.logarithms.proofs.Weights.{exponent-lt}
+use Rattle.weights.proofs.ExponentLaws.{log-of-power-lt, flag-times-le}
 use Rattle.weights.proofs.sums.powers_sum.Statement.{statement}
 use Rattle.weights.proofs.sums.powers_sum.Tie as tie
 
