@@ -1,7 +1,7 @@
 -- What turning over the second half and turning back in place share: the factors of the rows, and that all rows scaled by them are turned. Assumes nothing.
 use mathlib.Core.Path.{_≡_, sym, ap, _∙_}
 use mathlib.Core.List.{List}
-use Prim.Native.Nat.{ℕ, _+_, _*_, _-_, _%_, _^_, _<_}
+use Prim.Native.Nat.{ℕ, _+_, _*_, _%_, _^_, _<_}
 use native.Mathlib.Omega.{arith}
 use lib.Arith.{digits-div, digits-lt}
 use lib.Dec.{lit<}
@@ -10,7 +10,7 @@ use lib.Pow.{pow-mono}
 use lib.Seq.{getD-take}
 use Rattle.field.specs.Residue.{times}
 use Rattle.field.specs.Power.{power, inverse}
-use Rattle.field.specs.Field.{powerTable}
+use Rattle.field.specs.Field.{Root, powerTable}
 use Rattle.field.specs.Words.{table}
 use Rattle.field.proofs.Primes.{fermat-prime, fermat-root}
 use Rattle.field.proofs.Unity.{root-back}
@@ -27,6 +27,15 @@ use Rattle.code.proofs.Factors.{power-entry, turning-power, turning-back, turni
 unfoldable pub factor : (w k first i : ℕ) → ℕ
 factor w k t i = power 65537 w (reversed k (t + i))
 
+-- x is that factor, and not -1
+pub record Factor (w k first i x : ℕ) : Type 0 where
+  pub is : x ≡ factor w k first i
+  pub short : x < 65536
+
+is-factor : (w k first i : ℕ) {x : ℕ} → Root 65537 k w → x ≡ factor w k first i → Factor w k first i x
+unfolding factor
+is-factor w k t i R e = record { is = e; short = rw e (turning-factor 65537 k w (t + i) R) }
+
 module _ {st : Stripe} {rows j : ℕ} (h : Numbers st) (e : rows ≡ 2 ^ st .level) (b : j < rows) where
   -- the row's write is one of n
   write-in : st .first + j < 2 ^ st .k
@@ -35,29 +44,23 @@ module _ {st : Stripe} {rows j : ℕ} (h : Numbers st) (e : rows ≡ 2 ^ st .lev
   pub write-small : st .first + j < 1024
   write-small = omega (arith, write-in, pow-mono {i = st .k} {j = 10} (h .small))
 
+  root : Root 65537 (st .k) (rootIn st)
+  root = fermat-root (st .k) (omega (arith, h .small))
+
   -- the entry at its ten bits reversed
   pub over-entry : {powers : List ℕ} {r : ℕ} → powers ≡ powerTable → r ≡ reversed 10 (st .first + j)
-      → getD powers r 0 ≡ factor (rootIn st) (st .k) (st .first) j
+      → Factor (rootIn st) (st .k) (st .first) j (getD powers r 0)
   unfolding factor
-  over-entry is q = rw is (turning-entry (h .small) write-in q)
+  over-entry is q = is-factor _ _ _ _ root (rw is (turning-entry (h .small) write-in q))
 
   -- and the inverse of that entry
   pub back-entry : {powers : List ℕ} {r : ℕ} → powers ≡ powerTable → r ≡ reversed 10 (st .first + j)
-      → getD powers (r * 2047 % 2048) 0 ≡ factor (inverse 65537 (rootIn st)) (st .k) (st .first) j
+      → Factor (inverse 65537 (rootIn st)) (st .k) (st .first) j (getD powers (r * 2047 % 2048) 0)
   unfolding factor
   back-entry {powers} is q =
-      power-entry is (lit< tt) q ∙ turning-power (getD powers 2047 0) (st .k) (st .first + j) (h .small) write-in
-      ∙ ap (λ (w : ℕ). power 65537 w (reversed (st .k) (st .first + j))) (turning-back is (h .small))
-
--- none of them is -1
-module _ {st : Stripe} (h : Numbers st) (i : ℕ) where
-  pub over-short : factor (rootIn st) (st .k) (st .first) i < 65536
-  unfolding factor
-  over-short = turning-factor 65537 _ _ _ (fermat-root _ (omega (arith, h .small)))
-
-  pub back-short : factor (inverse 65537 (rootIn st)) (st .k) (st .first) i < 65536
-  unfolding factor
-  back-short = turning-factor 65537 _ _ _ (root-back 65537 _ _ fermat-prime (fermat-root _ (omega (arith, h .small))))
+      is-factor _ _ _ _ (root-back 65537 _ _ fermat-prime root)
+      (power-entry is (lit< tt) q ∙ turning-power (getD powers 2047 0) (st .k) (st .first + j) (h .small) write-in
+      ∙ ap (λ (w : ℕ). power 65537 w (reversed (st .k) (st .first + j))) (turning-back is (h .small)))
 
 -- all rows turned
 pub turned-rows : (rows first k width w : ℕ) (l : List ℕ)

@@ -85,7 +85,8 @@ fn turn_over(part: &mut [u32], st: Stripe, powers: &[u32])
     requires { ⌜ now powers ≡ powerTable ⌝ }
     requires { ⌜ Words (modulusOf st) (take (blockWords st) (now part)) ⌝ }
     ensures { λ _. ⌜ now (part .exit) ≡ take (blockWords st) (now (part .entry)) ++
-        lifted (st .width) (blockCount st) (blockCount st) (turned (modulusOf st) (rootIn st) (st .k) (st .first)) (take (blockWords st) (now (part .entry))) ⌝ }
+        lifted (st .width) (blockCount st) (blockCount st)
+        (turned (modulusOf st) (rootIn st) (st .k) (st .first)) (take (blockWords st) (now (part .entry))) ⌝ }
 {
     // locals of their own, since the loop's invariant speaks of them
     let first = st.first;
@@ -123,7 +124,8 @@ pub fn turn_back(part: &mut [u32], st: Stripe, powers: &[u32])
     }
 }
 
-// Codes the blocks in the first half of the rows: X where they stand, and Y behind it, which begins as the blocks turned. What stands in the second half does not matter.
+// Codes the blocks in the first half of the rows: X where they stand, and Y behind it. Y is turned first, while the blocks stand. What stands in the second
+// half does not matter.
 pub fn code(part: &mut [u32], st: Stripe)
     requires { ⌜ Numbers st ⌝ }
     requires { ⌜ length (now part) ≡ blockWords st + blockWords st ⌝ }

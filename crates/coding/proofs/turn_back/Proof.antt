@@ -1,12 +1,11 @@
 -- `coding::turn_back` meets its contract. The invariant: the first j rows are turned back. Assumes nothing.
 use mathlib.Core.Path.{_≡_, sym, ap, _∙_}
-use mathlib.Core.List.{List}
-use Prim.Native.Nat.{ℕ, _+_, _*_, _-_, _%_, _^_, _≤_, _<_}
+use Prim.Native.Nat.{ℕ, _+_, _*_, _-_, _%_, _≤_}
 use native.Mathlib.Nat.{zero-add, mod-lt}
 use native.Mathlib.Omega.{arith}
 use borrow.Author.Needs.{needs}
 use lib.Dec.{lit<}
-use lib.ListN.{length, getD, take}
+use lib.ListN.{length, getD}
 use lib.Seq.{take-all}
 use Rattle.field.specs.Power.{inverse}
 use Rattle.field.specs.Field.{fermat, rootOf}
@@ -16,16 +15,13 @@ use Rattle.code.specs.Transform.{turned}
 use Rattle.code.proofs.Shapes.{reversed-lt}
 use Rattle.code.proofs.RowLaws.{stored-last, StoringRows, storing-rows-start, storing-rows-room, storing-rows-done, scaledRowsWord, scaling-words}
 use Rattle.code.proofs.RowLaws.{scaling-turn}
-use Rattle.coding.proofs.Turning.{factor, write-small, back-entry, back-short, turned-rows}
+use Rattle.coding.proofs.Turning.{factor, Factor, write-small, back-entry, turned-rows}
 use Rattle.coding.proofs.turn_back.Statement.{statement}
 use Rattle.coding.proofs.turn_back.Tie as tie
 
--- the factor of row i
-abbrev back : (k first i : ℕ) → ℕ
-back k t i = factor (inverse 65537 (rootOf fermat k)) k t i
-
 abbrev Inv-loop : tie.InvT-loop
-Inv-loop part₀ powers first k width rows at₀ j₀ part at j = StoringRows 0 (scaledRowsWord 65537 width (back k first) part₀) rows width part₀ part at j
+Inv-loop part₀ powers first k width rows at₀ j₀ part at j =
+    StoringRows 0 (scaledRowsWord 65537 width (factor (inverse 65537 (rootOf fermat k)) k first) part₀) rows width part₀ part at j
 
 abbrev μ-loop : tie.MeasureT-loop
 μ-loop part₀ powers first k width rows at₀ j₀ part at j = rows - j
@@ -67,7 +63,8 @@ read-turn-row c = rw (ap length (start (two (c .before .before .before)) .pre .1
 -- the entry taken is the factor of row j
 entry-is : (c : tie.After-shared-slice-known2 Inv-loop μ-loop) → let at-test = c .before .before .before in
     let a = start (two at-test) .args in
-    getD (a .powers .now) (c .before .before .reversed .result * 2047 % 2048) 0 ≡ back (a .st .k) (a .st .first) (at-test .before .loop .j)
+    Factor (inverse 65537 (rootOf fermat (a .st .k))) (a .st .k) (a .st .first) (at-test .before .loop .j)
+    (getD (a .powers .now) (c .before .before .reversed .result * 2047 % 2048) 0)
 entry-is c =
     let at-test = c .before .before .before in
     let s = start (two at-test) in
@@ -81,7 +78,7 @@ turn-row-requires : tie.Need-turn-row-requires Inv-loop μ-loop
 turn-row-requires c κs =
     let at-test = c .before .before .before in
     let s = start (two at-test) in
-    (room at-test, (rw (entry-is c) (back-short (s .pre .0) _), scaling-words 65537 _ _ (at-test .before .loop .inv) (lit< tt) (s .pre .1 .1 .1)))
+    (room at-test, (entry-is c .short, scaling-words 65537 _ _ (at-test .before .loop .inv) (lit< tt) (s .pre .1 .1 .1)))
 
 add-at : tie.Need-add-at Inv-loop μ-loop
 add-at c = omega (arith, room (c .before .before .before .before .before .before))
@@ -96,7 +93,7 @@ loop-again : tie.Need-loop-again Inv-loop μ-loop
 loop-again c =
     let at-row = c .before .before in
     let at-test = at-row .before .before .before .before in
-    scaling-turn 65537 _ _ (at-test .before .loop .inv) (at-test .loop-test .taken) (entry-is (at-row .before)) (at-row .turn-row .ensures)
+    scaling-turn 65537 _ _ (at-test .before .loop .inv) (at-test .loop-test .taken) (entry-is (at-row .before) .is) (at-row .turn-row .ensures)
 
 same-length : tie.Need-same-length Inv-loop μ-loop
 same-length c = c .before .loop .inv .same

@@ -1,5 +1,5 @@
 -- `coding::turn_over` meets its contract. The invariant: the first j rows stand turned in the second half. Assumes nothing.
-use mathlib.Core.Path.{_≡_, sym, ap, _∙_}
+use mathlib.Core.Path.{_≡_, ap, _∙_}
 use mathlib.Core.List.{List, _++_}
 use Prim.Native.Nat.{ℕ, _+_, _*_, _-_, _^_, _≤_, _<_}
 use native.Mathlib.Nat.{add-zero, add-assoc}
@@ -18,7 +18,7 @@ use Rattle.code.specs.steps.Storing.{stored, scaledWord}
 use Rattle.code.proofs.Shapes.{reversed-lt}
 use Rattle.code.proofs.RowLaws.{stored-last, StoringRows, storing-rows-start, storing-rows-room, storing-rows-front, storing-rows-turn, storing-rows-done}
 use Rattle.code.proofs.RowLaws.{scaledRowsWord}
-use Rattle.coding.proofs.Turning.{factor, write-small, over-entry, over-short, turned-rows}
+use Rattle.coding.proofs.Turning.{factor, Factor, write-small, over-entry, turned-rows}
 use Rattle.coding.proofs.turn_over.Statement.{statement}
 use Rattle.coding.proofs.turn_over.Tie as tie
 
@@ -97,7 +97,10 @@ add-turn-row-over : tie.Need-add-turn-row-over Inv-loop μ-loop
 add-turn-row-over c = let at-test = c .before .before in omega (arith, fits at-test, long (two at-test))
 
 few : (c : tie.After-reversed Inv-loop μ-loop) → c .reversed .result < length (start (two (c .before)) .args .powers .now)
-few c = rw (ap length (start (two (c .before)) .pre .1 .1 .0) ∙ length-table-of-powers, c .reversed .ensures) (omega (arith, reversed-lt 10 (start (two (c .before)) .args .st .first + c .before .before .loop .j)))
+few c =
+    let s = start (two (c .before)) in
+    let r : c .reversed .result < 1024 = rw (c .reversed .ensures) (reversed-lt 10 _) in
+    omega (arith, ap length (s .pre .1 .1 .0) ∙ length-table-of-powers)
 
 mul-turn-row-over : tie.Need-mul-turn-row-over Inv-loop μ-loop
 mul-turn-row-over c = search needs
@@ -108,7 +111,7 @@ read-turn-row-over c = few (c .before .before)
 -- the entry taken is the factor of row j
 entry-is : (c : tie.After-reversed Inv-loop μ-loop) → let at-test = c .before in
     let a = start (two at-test) .args in
-    getD (a .powers .now) (c .reversed .result) 0 ≡ factor (rootOf fermat (a .st .k)) (a .st .k) (a .st .first) (at-test .before .loop .j)
+    Factor (rootOf fermat (a .st .k)) (a .st .k) (a .st .first) (at-test .before .loop .j) (getD (a .powers .now) (c .reversed .result) 0)
 entry-is c =
     let at-test = c .before in
     let s = start (two at-test) in
@@ -121,7 +124,7 @@ turn-row-over-requires c κs =
     let s = start (two at-test) in
     let h = at-test .before .loop .inv in (
       (omega (arith, fits at-test), omega (arith, fits at-test, long (two at-test), h .storing .same)),
-      (rw (entry-is at-reversed) (over-short (s .pre .0) _), words h (at-test .loop-test .taken) (rw (half-is (two at-test)) (s .pre .1 .1 .1))),
+      (entry-is at-reversed .short, words h (at-test .loop-test .taken) (rw (half-is (two at-test)) (s .pre .1 .1 .1))),
     )
 
 add-from : tie.Need-add-from Inv-loop μ-loop
@@ -138,7 +141,7 @@ loop-again c =
     let at-row = c .before .before in
     let at-reversed = at-row .before .before .before in
     let at-test = at-reversed .before in
-    turn (at-test .before .loop .inv) (at-test .loop-test .taken) (entry-is at-reversed) (at-row .turn-row-over .ensures)
+    turn (at-test .before .loop .inv) (at-test .loop-test .taken) (entry-is at-reversed .is) (at-row .turn-row-over .ensures)
 
 same-length : tie.Need-same-length Inv-loop μ-loop
 same-length c = c .before .loop .inv .storing .same
