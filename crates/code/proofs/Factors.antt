@@ -86,17 +86,12 @@ pub power-entry : {powers : List ℕ} {step r e : ℕ} → powers ≡ powerTable
     → getD powers (r * step % 2048) 0 ≡ power 65537 (getD powers step 0) e
 power-entry {powers} {step} {r} {e} is b q = rw (is, q) (table-power step e b)
 
--- turning takes the powers of entry 1 at t with its ten bits reversed, which is rev(t) times 1024 / n; to turn back, those of entry 2047
+-- turning takes the entry at t with its ten bits reversed, which is rev(t) times 1024 / n; to turn back, that power of entry 2047
 pub turning-power : (x k t : ℕ) → k ≤ 10 → t < 2 ^ k → power 65537 x (reversed 10 t) ≡ power 65537 (power 65537 x (2 ^ (10 - k))) (reversed k t)
 turning-power x k t b h =
     let e : k + (10 - k) ≡ 10 = omega arith in
     ap (power 65537 x) ((rw e at (reversed-more k (10 - k) t h)) ∙ mul-comm (reversed k t) (2 ^ (10 - k)))
     ∙ power-mul 65537 (lit< tt) x (2 ^ (10 - k)) (reversed k t)
-
-pub turning-root : {powers : List ℕ} {k : ℕ} → powers ≡ powerTable → k ≤ 10 → power 65537 (getD powers 1 0) (2 ^ (10 - k)) ≡ rootOf fermat k
-turning-root {powers} {k} e b =
-    rw e (ap (λ (x : ℕ). power 65537 x (2 ^ (10 - k))) (table-root 10 (omega arith)) ∙ ap (power 65537 (rootOf fermat 10)) (sym (two-div 10 k b))
-    ∙ level-root 10 k b (omega arith))
 
 pub turning-back : {powers : List ℕ} {k : ℕ} → powers ≡ powerTable → k ≤ 10 → power 65537 (getD powers 2047 0) (2 ^ (10 - k)) ≡ inverse 65537 (rootOf fermat k)
 turning-back {powers} {k} e b =
@@ -104,7 +99,7 @@ turning-back {powers} {k} e b =
     ∙ ap (power 65537 (inverse 65537 (rootOf fermat 10))) (sym (two-div 10 k b))
     ∙ level-inverse 10 k b (omega arith))
 
--- so that the entry at the reversed bits is the factor of write t
+-- the entry at the reversed bits is the factor of write t
 pub turning-entry : {k t e : ℕ} → k ≤ 10 → t < 2 ^ k → e ≡ reversed 10 t → getD powerTable e 0 ≡ power 65537 (rootOf fermat k) (reversed k t)
 turning-entry {k} {t} b h q =
     let r : reversed 10 t < 2048 = omega (arith, reversed-lt 10 t) in

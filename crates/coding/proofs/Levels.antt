@@ -1,5 +1,5 @@
 -- A stripe of 2 ^ l blocks is transformed alike whatever k is: the roots under which its levels are mixed depend on the level alone. Assumes nothing.
-use mathlib.Core.Path.{_≡_, refl, sym, ap, ap₂, _∙_}
+use mathlib.Core.Path.{_≡_, refl, sym, ap₂, _∙_}
 use mathlib.Core.List.{List, _++_}
 use Prim.Native.Nat.{ℕ, zero, suc, _/_, _^_, _≤_}
 use native.Mathlib.Omega.{arith}
@@ -8,7 +8,7 @@ use Rattle.field.specs.Power.{power, inverse}
 use Rattle.field.specs.Field.{fermat, rootOf}
 use Rattle.field.proofs.PowerTables.{level-root, level-inverse}
 use Rattle.code.specs.Rows.{lifted}
-use Rattle.code.specs.Transform.{mixed, transform, unmixed, untransform}
+use Rattle.code.specs.Transform.{transform, unmixed, untransform}
 use Rattle.code.proofs.Lifting.{lifted-same}
 
 module _ (k m : ℕ) (hk : k ≤ 15) (hm : m ≤ 15) where

@@ -2,15 +2,15 @@
 use code::Stripe;
 ghost use mathlib.Core.Path.{_≡_};
 ghost use mathlib.Core.List.{_++_};
-ghost use Prim.Native.Nat.{_+_, _*_, _-_, _^_, _≤_, _<_};
+ghost use Prim.Native.Nat.{ℕ, _+_, _-_, _≤_, _<_};
 ghost use lib.ListN.{length, getD, take};
-ghost use Rattle.field.specs.Power.{power, inverse};
-ghost use Rattle.field.specs.Field.{fermat, Root, powerTable};
+ghost use Rattle.field.specs.Power.{inverse};
+ghost use Rattle.field.specs.Field.{fermat, powerTable};
 ghost use Rattle.field.specs.Words.{Words};
 ghost use Rattle.code.specs.Rows.{lifted};
 ghost use Rattle.code.specs.Transform.{transform, untransform, turned};
 ghost use Rattle.code.specs.Stripe.{Numbers, modulusOf, rootIn, blockCount, blockWords, codedStripe};
-ghost use Rattle.code.specs.steps.Storing.{scaleRow};
+ghost use Rattle.code.specs.steps.Storing.{stored, scaledWord, scaleRow};
 
 // All mixing of a half of a stripe.
 pub fn mix_all(half: &mut [u32], st: Stripe, powers: &[u32])
@@ -63,44 +63,46 @@ fn turn_row(part: &mut [u32], at: usize, width: usize, g: u32)
     }
 }
 
-// Turns a half of a stripe by the powers of entry `step`, x: the row of write t is multiplied by w^rev(t), where w is x^(1024 / n). With its ten bits reversed
-// t is rev(t) times 1024 / n.
-fn turn_by(part: &mut [u32], st: Stripe, powers: &[u32], step: usize)
+// The row of `width` words from index `from` on times `g`, which is not -1, in the place of the row at `to`, behind it.
+fn turn_row_over(part: &mut [u32], from: usize, to: usize, width: usize, g: u32)
+    requires { ⌜ (from + width ≤ to) × (to + width ≤ length (now part)) ⌝ }
+    requires { ⌜ g < fermat .modulus - 1 ⌝ }
+    requires { ⌜ ((j : ℕ) → j < width → getD (now part) (from + j) 0 < fermat .modulus) ⌝ }
+    ensures { λ _. ⌜ now (part .exit) ≡ stored to (scaledWord (fermat .modulus) from g (now (part .entry))) width (now (part .entry)) ⌝ }
+{
+    for j in 0..width {
+        let x = from + j;
+        let y = to + j;
+        part[y] = field::short::mul(g, part[x]);
+    }
+}
+
+// Turns the first half of the rows, over the second half: the row of write t is multiplied by w^rev(t), where w is the stripe's root. That is entry rev(t)
+// times 1024 / n of the powers, which is t with its ten bits reversed.
+fn turn_over(part: &mut [u32], st: Stripe, powers: &[u32])
     requires { ⌜ Numbers st ⌝ }
-    requires { ⌜ length (now part) ≡ blockWords st ⌝ }
-    requires { ⌜ (now powers ≡ powerTable) × (step < 2048) ⌝ }
-    requires { ⌜ Root (modulusOf st) (st .k) (power (modulusOf st) (getD (now powers) step 0) (2 ^ (10 - st .k))) ⌝ }
-    requires { ⌜ Words (modulusOf st) (now part) ⌝ }
-    ensures { λ _. ⌜ now (part .exit) ≡
+    requires { ⌜ length (now part) ≡ blockWords st + blockWords st ⌝ }
+    requires { ⌜ now powers ≡ powerTable ⌝ }
+    requires { ⌜ Words (modulusOf st) (take (blockWords st) (now part)) ⌝ }
+    ensures { λ _. ⌜ now (part .exit) ≡ take (blockWords st) (now (part .entry)) ++
         lifted (st .width) (blockCount st) (blockCount st)
-        (turned (modulusOf st) (power (modulusOf st) (getD (now (powers .entry)) step 0) (2 ^ (10 - st .k))) (st .k) (st .first)) (now (part .entry)) ⌝ }
+        (turned (modulusOf st) (rootIn st) (st .k) (st .first)) (take (blockWords st) (now (part .entry))) ⌝ }
 {
     // locals of their own, since the loop's invariant speaks of them
     let first = st.first;
     let k = st.k;
     let width = st.width;
     let rows = code::number::two_to(st.level);
-    let mut at = 0;
+    let half = rows * width;
+    let mut from = 0;
     for j in 0..rows {
-        let e = code::number::reversed(10, first + j) as usize * step;
-        turn_row(part, at, width, powers[e % 2048]);
-        at += width;
+        let e = code::number::reversed(10, first + j) as usize;
+        turn_row_over(part, from, half + from, width, powers[e]);
+        from += width;
     }
 }
 
-// Turns a half of a stripe: the row of write t is multiplied by w^rev(t), where w is the stripe's root. Entry 1 is the root of 1,024 records.
-fn turn(part: &mut [u32], st: Stripe, powers: &[u32])
-    requires { ⌜ Numbers st ⌝ }
-    requires { ⌜ length (now part) ≡ blockWords st ⌝ }
-    requires { ⌜ now powers ≡ powerTable ⌝ }
-    requires { ⌜ Words (modulusOf st) (now part) ⌝ }
-    ensures { λ _. ⌜ now (part .exit) ≡
-        lifted (st .width) (blockCount st) (blockCount st) (turned (modulusOf st) (rootIn st) (st .k) (st .first)) (now (part .entry)) ⌝ }
-{
-    turn_by(part, st, powers, 1);
-}
-
-// Turns back, by the inverse of the root: entry 2047 is the inverse of entry 1.
+// Turns a half of the rows back, in its place: by the powers of entry 2047, the inverse of entry 1.
 pub fn turn_back(part: &mut [u32], st: Stripe, powers: &[u32])
     requires { ⌜ Numbers st ⌝ }
     requires { ⌜ length (now part) ≡ blockWords st ⌝ }
@@ -110,21 +112,20 @@ pub fn turn_back(part: &mut [u32], st: Stripe, powers: &[u32])
         lifted (st .width) (blockCount st) (blockCount st)
         (turned (modulusOf st) (inverse (modulusOf st) (rootIn st)) (st .k) (st .first)) (now (part .entry)) ⌝ }
 {
-    turn_by(part, st, powers, 2047);
-}
-
-// Copies the first half of the words over the second half.
-fn copy_half(part: &mut [u32], half: usize)
-    requires { ⌜ length (now part) ≡ half + half ⌝ }
-    ensures { λ _. ⌜ now (part .exit) ≡ take half (now (part .entry)) ++ take half (now (part .entry)) ⌝ }
-{
-    for i in 0..half {
-        let to = half + i;
-        part[to] = part[i];
+    let first = st.first;
+    let k = st.k;
+    let width = st.width;
+    let rows = code::number::two_to(st.level);
+    let mut at = 0;
+    for j in 0..rows {
+        let e = code::number::reversed(10, first + j) as usize * 2047;
+        turn_row(part, at, width, powers[e % 2048]);
+        at += width;
     }
 }
 
-// Codes the blocks in the first half of the rows: X where they stand, and Y behind it. What stands in the second half does not matter.
+// Codes the blocks in the first half of the rows: X where they stand, and Y behind it. Y is turned first, while the blocks stand. What stands in the second
+// half does not matter.
 pub fn code(part: &mut [u32], st: Stripe)
     requires { ⌜ Numbers st ⌝ }
     requires { ⌜ length (now part) ≡ blockWords st + blockWords st ⌝ }
@@ -133,8 +134,7 @@ pub fn code(part: &mut [u32], st: Stripe)
 {
     let half = code::number::two_to(st.level) * st.width;
     let powers = code::table::powers();
-    copy_half(part, half);
+    turn_over(part, st, &powers);
     mix_all(&mut part[..half], st, &powers);
-    turn(&mut part[half..], st, &powers);
     mix_all(&mut part[half..], st, &powers);
 }
