@@ -14,10 +14,10 @@ use Rattle.field.proofs.WordLists.{same-table}
 use Rattle.code.specs.steps.Storing.{stored, always, wordFrom}
 use Rattle.code.proofs.RowLaws.{Storing, storing-start, storing-turn, storing-done, storing-front, storing-rest, stored-off, stored-before, stored-at, length-stored}
 use Rattle.logarithms.specs.Logarithms.{logTable}
-use Rattle.logarithms.specs.Weights.{exponentAt, logOfLess, logAt, logs}
+use Rattle.logarithms.specs.Weights.{exponentAt, logOfPower, logOfLess, logAt, logs}
 use Rattle.weights.specs.steps.Digits.{flag, powersTo}
 use Rattle.weights.specs.steps.Direct.{lessTo, Sums, rowSum, directAt}
-use Rattle.weights.proofs.ExponentLaws.{exponent-lt, log-of-less-lt, flag-times-le}
+use Rattle.weights.proofs.ExponentLaws.{exponent-lt, log-of-power-lt, log-of-less-lt, flag-times-le}
 use Rattle.weights.proofs.DigitSums.{log-sums}
 use Rattle.weights.proofs.PartLaws.{last-stored}
 
@@ -28,6 +28,18 @@ less-le l ms e zero = omega arith
 less-le l ms e (suc n) =
     let x = logOfLess l (e + (2 ^ suc l - exponentAt l n)) in
     omega (arith, less-le l ms e n, flag-times-le (getD ms n false) x, log-of-less-lt l (e + (2 ^ suc l - exponentAt l n)))
+
+powers-le : (l : ℕ) (ms : List Bool) (n : ℕ) → l ≤ 10 → n ≤ 2 ^ suc l → powersTo l ms n ≤ 65536 * n
+unfolding powersTo
+powers-le l ms zero b h = omega arith
+powers-le l ms (suc n) b h =
+    let e = exponentAt l n in
+    omega (
+      arith,
+      powers-le l ms n b (omega arith),
+      flag-times-le (getD ms n false) (logOfPower l e),
+      log-of-power-lt l e b (exponent-lt l n (omega arith)),
+    )
 
 positions-le : (l : ℕ) → l ≤ 10 → 2 ^ suc l ≤ 2048
 positions-le l b = pow-mono {i = suc l} {j = 11} (omega arith)
@@ -172,8 +184,10 @@ words-done {l} {shared} {u = u} h b =
 
 -- THE LOGARITHMS, once all positions are added
 module _ {l : ℕ} {ms : List Bool} {u : List ℕ} {x : ℕ} (h : Sums l ms (2 ^ suc l) u) (shared : x ≡ powersTo l ms (2 ^ suc l)) where
-  pub words-fit : l ≤ 10 → x ≤ 65536 * 2048 → (e : ℕ) → e < 2 ^ suc l → x + getD u e 0 < 4294967296
-  words-fit b s e c = omega (arith, h .sums e c, less-le l ms e (2 ^ suc l), positions-le l b)
+  pub words-fit : l ≤ 10 → (e : ℕ) → e < 2 ^ suc l → x + getD u e 0 < 4294967296
+  words-fit b e c =
+      let n = 2 ^ suc l in
+      omega (arith, shared, powers-le l ms n b (omega arith), h .sums e c, less-le l ms e n, positions-le l b)
 
   direct-at : (i : ℕ) → i < 2 ^ suc l → directAt l x u i ≡ logAt l ms i
   unfolding directAt logAt

@@ -1,62 +1,88 @@
+-- `weights::direct::store_direct` meets its contract: the sums start from none, all rows are added, and with what all share they are the logarithms
+-- (proofs/DirectLaws). Assumes nothing.
+use mathlib.Core.Path.{_≡_, sym, ap, _∙_}
+use mathlib.Core.Bool.{Bool}
+use mathlib.Core.List.{List}
+use Prim.Native.Nat.{ℕ, suc, _*_, _-_, _^_, _≤_}
+use native.Mathlib.Omega.{arith}
 use borrow.Author.Needs.{needs}
+use lib.ListN.{length, drop}
+use Rattle.weights.specs.steps.Direct.{Sums}
+use Rattle.weights.proofs.DirectLaws.{sums-start, words-fit, logs-direct}
 use Rattle.weights.proofs.direct.store_direct.Statement.{statement}
 use Rattle.weights.proofs.direct.store_direct.Tie as tie
-use Rattle.weights.proofs.direct.store_direct.Reads as reads
-use Rattle.weights.proofs.direct.store_direct.Lts as lts
-use Rattle.weights.proofs.direct.add_rows.Reads as add-rows-reads
-use Rattle.weights.proofs.direct.copy_terms.Reads as copy-terms-reads
-use Rattle.weights.proofs.direct.load_terms.Reads as load-terms-reads
-use Rattle.weights.proofs.direct.store_words.Reads as store-words-reads
-use Rattle.weights.proofs.exponents.positions.Reads as positions-reads
-use Rattle.weights.proofs.sums.fill.Reads as fill-reads
-use Rattle.weights.proofs.sums.powers_sum.Reads as powers-sum-reads
 
--- src/direct.rt:94:9
-positions-requires : tie.Need-positions-requires
-positions-requires c κs = search needs
+-- PLACES: `x-at-y c` is the place x that stands before y
+abbrev start-at-fill : tie.After-fill → tie.Start
+start-at-fill c = c .before .before .before .before .before .before
 
--- src/direct.rt:95:5
-fill-requires : tie.Need-fill-requires
-fill-requires c κs = search needs
+abbrev fill-at-copy : tie.After-copy-terms → tie.After-fill
+fill-at-copy c = c .before .before .before .before .before .before .before .before
 
--- src/direct.rt:96:5
+abbrev fill-at-rows : tie.After-add-rows → tie.After-fill
+fill-at-rows c = fill-at-copy (c .before .before .before .before)
+
+abbrev rows-at-powers : tie.After-powers-sum → tie.After-add-rows
+rows-at-powers c = c .before .before .before .before
+
 load-terms-requires : tie.Need-load-terms-requires
-load-terms-requires c κs = ?
+load-terms-requires c κs =
+    let at-fill = c .before .before .before in
+    let s = start-at-fill at-fill in
+    (s .pre .0, (omega (arith, at-fill .fill .kept .0, s .pre .1 .1 .0), s .pre .1 .1 .1))
 
--- src/direct.rt:97:5
-copy-terms-requires : tie.Need-copy-terms-requires
-copy-terms-requires c κs = search needs
+-- the part after each step is as long as it was
+copy-long : (c : tie.After-copy-terms) → length (c .copy-terms .last .0) ≡ length (start-at-fill (fill-at-copy c) .args .part .now)
+copy-long c =
+    let at-load = c .before .before .before .before in
+    c .copy-terms .kept .0 ∙ at-load .load-terms .kept .0 ∙ fill-at-copy c .fill .kept .0
 
--- src/direct.rt:98:5
+rows-long : (c : tie.After-add-rows) → length (c .add-rows .last .0) ≡ length (start-at-fill (fill-at-rows c) .args .part .now)
+rows-long c = c .add-rows .kept .0 ∙ copy-long (c .before .before .before .before)
+
+start-sums : (c : tie.After-copy-terms) → let a = start-at-fill (fill-at-copy c) .args in Sums (a .level) (a .marks .now) 0 (c .copy-terms .last .0)
+start-sums c =
+    let at-load = c .before .before .before .before in
+    let at-fill = fill-at-copy c in
+    let s = start-at-fill at-fill in
+    sums-start (s .args .level) (s .args .marks .now) (s .args .part .now) (at-fill .fill .last .0) (at-load .load-terms .last .0) (c .copy-terms .last .0)
+    (s .pre .1 .1 .0) (at-fill .before .before .positions .ensures) (at-fill .fill .ensures) (at-load .load-terms .ensures) (c .copy-terms .ensures)
+
 add-rows-requires : tie.Need-add-rows-requires
-add-rows-requires c κs = ?
+add-rows-requires c κs =
+    let at-copy = c .before .before .before in
+    let s = start-at-fill (fill-at-copy at-copy) in
+    (s .pre .0, (s .pre .1 .0, (omega (arith, copy-long at-copy, s .pre .1 .1 .0), start-sums at-copy)))
 
--- src/direct.rt:99:30
-powers-sum-requires : tie.Need-powers-sum-requires
-powers-sum-requires c κs = search needs
-
--- src/direct.rt:99:5
 store-words-requires : tie.Need-store-words-requires
-store-words-requires c κs = ?
+store-words-requires c κs =
+    let at-rows = rows-at-powers c in
+    let s = start-at-fill (fill-at-rows at-rows) in
+    (
+      s .pre .0,
+      (omega (arith, rows-long at-rows, s .pre .1 .1 .0), words-fit (at-rows .add-rows .ensures) (c .powers-sum .ensures) (s .pre .0)),
+    )
 
--- src/direct.rt:87:1
-same-length : tie.Need-same-length
-same-length c = search needs
-
--- src/direct.rt:87:1
 returns : tie.Need-returns
-returns c = ?
+returns c =
+    let at-store = c .before .before in
+    let at-rows = rows-at-powers (at-store .before) in
+    let s = start-at-fill (fill-at-rows at-rows) in
+    let v = at-store .store-words .last .0 in
+    ap (λ (n : ℕ). drop (n - 2 ^ suc (s .args .level)) v) (sym (at-store .store-words .kept .0 ∙ rows-long at-rows))
+    ∙ logs-direct (at-rows .add-rows .ensures) (at-store .before .powers-sum .ensures) (omega (arith, rows-long at-rows, s .pre .1 .1 .0))
+    (at-store .store-words .ensures)
 
 pub store-direct-spec : {M : Type 1} → statement M
 store-direct-spec =
     tie.close
     (tie.spec
-    positions-requires
-    fill-requires
+    (λ c κs. search needs)
+    (λ c κs. search needs)
     load-terms-requires
-    copy-terms-requires
+    (λ c κs. search needs)
     add-rows-requires
-    powers-sum-requires
+    (λ c κs. search needs)
     store-words-requires
-    same-length
+    (λ c. search needs)
     returns)
