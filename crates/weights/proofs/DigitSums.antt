@@ -25,6 +25,7 @@ use Rattle.logarithms.specs.Weights.{erasedTo, exponentAt, logOfPower, logOfLes
 use Rattle.weights.specs.steps.Digits.{positionAt, flag, flagAt, flags, digitAt, digits, mixedColumn, unmixedColumn, mixedFlags}
 use Rattle.weights.specs.steps.Digits.{sumRows, sumAt, withSum, withSums, powersTo}
 use Rattle.logarithms.proofs.Weights.{exponent-low, exponent-high, exponent-lt}
+use Rattle.weights.specs.steps.Direct.{lessTo}
 use Rattle.weights.proofs.ExponentLaws.{position-even-is, position-odd-is, log-of-less-lt}
 use Rattle.weights.proofs.ColumnLaws.{digit-le, flags-column, digits-column}
 use Rattle.weights.proofs.SumLaws.{total, total-same, total-exponents, total-plus, total-times, total-le}
@@ -121,16 +122,21 @@ module _ (l : ℕ) (ms : List Bool) where
       ∙ total-plus n (λ j. term l ms 1 e j + 64 * term l ms 64 e j) (λ j. 4096 * term l ms 4096 e j)
       ∙ total-same n _ (whole e) (λ j _. term-digits e j)
 
+  less-total : (e n : ℕ) → total n (whole e) ≡ lessTo l ms e n
+  unfolding total lessTo
+  less-total e zero = refl
+  less-total e (suc n) = ap (λ (s : ℕ). s + whole e n) (less-total e n)
+
   -- THE LOGARITHM is the sum of the erased points' and of these
-  log-total : (i n : ℕ) → logTo l ms i n ≡ powersTo l ms n + total n (whole (exponentAt l i))
-  unfolding logTo powersTo total flag
-  log-total i zero = refl
-  log-total i (suc n) =
-      at (getD ms n false) (logOfPower l (exponentAt l n)) (logOfLess l (exponentAt l i + (2 ^ suc l - exponentAt l n))) (log-total i n)
+  pub log-sums : (i n : ℕ) → logTo l ms i n ≡ powersTo l ms n + lessTo l ms (exponentAt l i) n
+  unfolding logTo powersTo lessTo flag
+  log-sums i zero = refl
+  log-sums i (suc n) =
+      at (getD ms n false) (logOfPower l (exponentAt l n)) (logOfLess l (exponentAt l i + (2 ^ suc l - exponentAt l n))) (log-sums i n)
     where
-      at : (b : Bool) (x y : ℕ) → logTo l ms i n ≡ powersTo l ms n + total n (whole (exponentAt l i))
+      at : (b : Bool) (x y : ℕ) → logTo l ms i n ≡ powersTo l ms n + lessTo l ms (exponentAt l i) n
           → elim b [ true ↦ logTo l ms i n + (x + y) | false ↦ logTo l ms i n ]
-          ≡ powersTo l ms n + flag b * x + (total n (whole (exponentAt l i)) + flag b * y)
+          ≡ powersTo l ms n + flag b * x + (lessTo l ms (exponentAt l i) n + flag b * y)
       at true x y e = omega arith
       at false x y e = omega arith
 
@@ -166,4 +172,5 @@ module _ (l : ℕ) (ms : List Bool) where
         ∙ ap (withSums l g 4096 (mixedFlags l ms)) (with-table 64 _) ∙ with-table 4096 _
         ∙ same-table n _ _ (λ i _. residues (powersTo l ms n) (total n (term l ms 1 (exponentAt l i))) (total n (term l ms 64 (exponentAt l i)))
         (total n (term l ms 4096 (exponentAt l i)))
-        ∙ ap (λ (x : ℕ). x % 65536) (ap (λ (x : ℕ). powersTo l ms n + x) (total-digits n (exponentAt l i)) ∙ sym (log-total i n)))
+        ∙ ap (λ (x : ℕ). x % 65536)
+        (ap (λ (x : ℕ). powersTo l ms n + x) (total-digits n (exponentAt l i) ∙ less-total (exponentAt l i) n) ∙ sym (log-sums i n)))

@@ -11,7 +11,7 @@ ghost use Rattle.logarithms.specs.Logarithms.{logTable};
 ghost use Rattle.weights.specs.steps.Digits.{Holds, mixedFlags, powersTo, addedAt, withSums};
 
 // The sum of the logarithms of the erased points: at most 2,048 numbers of 16 bits.
-fn powers_sum(marks: &[bool], level: usize) -> u32
+pub fn powers_sum(marks: &[bool], level: usize) -> u32
     requires { ⌜ level ≤ 10 ⌝ }
     requires { ⌜ 2 ^ suc level ≤ length (now marks) ⌝ }
     ensures { λ r. ⌜ r ≡ powersTo level (now (marks .entry)) (2 ^ suc level) ⌝ }
@@ -26,7 +26,7 @@ fn powers_sum(marks: &[bool], level: usize) -> u32
 }
 
 // Stores x at `count` words from index `base` on.
-fn fill(part: &mut [u32], base: usize, count: usize, x: u32)
+pub fn fill(part: &mut [u32], base: usize, count: usize, x: u32)
     requires { ⌜ base + count ≤ length (now part) ⌝ }
     ensures { λ _. ⌜ now (part .exit) ≡ stored base (always x) count (now (part .entry)) ⌝ }
 {

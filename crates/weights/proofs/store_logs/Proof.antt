@@ -1,5 +1,5 @@
--- `weights::store_logs` meets its contract: the part holds the mixed marks and the logarithms so far (`Holds` of specs/steps/Digits), and with the third digit
--- these are the logarithms (proofs/DigitSums). Assumes nothing.
+-- `weights::store_logs` meets its contract: where the sums are not made directly, the part holds the mixed marks and the logarithms so far (`Holds` of
+-- specs/steps/Digits), and with the third digit these are the logarithms (proofs/DigitSums). Assumes nothing.
 use mathlib.Core.Path.{_≡_, refl, sym, ap, subst, _∙_}
 use mathlib.Core.Bool.{Bool}
 use mathlib.Core.List.{List}
@@ -23,7 +23,7 @@ use Rattle.weights.proofs.store_logs.Tie as tie
 
 -- the arguments
 abbrev start : tie.After-inverse → tie.Start
-start c = c .before .before .before .before .before .before
+start c = c .before .before .before .before .before .before .before
 
 abbrev level : tie.After-inverse → ℕ
 level c = start c .args .level
@@ -45,15 +45,15 @@ small : (l : ℕ) → l ≤ 10 → 2 ^ suc l ≤ 2048
 small l b = pow-mono {i = suc l} {j = 11} (omega arith)
 
 cast-inverse : tie.Need-cast-inverse
-cast-inverse c = let s = c .before .before .before .before .before in omega (arith, c .positions .ensures, small (s .args .level) (s .pre .0))
+cast-inverse c = let s = c .before .before .before .before .before .before in omega (arith, c .positions .ensures, small (s .args .level) (s .pre .0))
 
 inverse-requires : tie.Need-inverse-requires
-inverse-requires c κs = let s = c .before .before .before .before .before in omega (arith, c .positions .ensures, small (s .args .level) (s .pre .0))
+inverse-requires c κs = let s = c .before .before .before .before .before .before in omega (arith, c .positions .ensures, small (s .args .level) (s .pre .0))
 
 start-requires : tie.Need-start-requires
 start-requires c κs =
     let s = start (c .before .before) in
-    (s .pre .0, (s .pre .1 .0, (omega (arith, s .pre .1 .1 .1), c .before .before .before .before .before .powers .ensures)))
+    (s .pre .0, (s .pre .1 .0, (omega (arith, s .pre .1 .1 .1), c .before .before .before .before .powers .ensures)))
 
 -- the part after each call
 abbrev start-inverse : tie.After-start → tie.After-inverse
@@ -92,7 +92,7 @@ module _ (c : tie.After-inverse) where
   Ready unit u =
       ((level c ≤ 10) × (0 < unit) × (unit ≤ 4096) × (g c < 65537))
       × ((3 * 2 ^ suc (level c) ≤ length u)
-      × (((c .before .before .before .powers .result ≡ powerTable) × (c .before .before .logarithms .result ≡ logTable))
+      × (((c .before .before .powers .result ≡ powerTable) × (c .before .before .before .before .logarithms .result ≡ logTable))
       × (Words 65537 (take (2 ^ suc (level c)) u) × Words 65536 (drop (length u - 2 ^ suc (level c)) u))))
 
   ready : (unit : ℕ) {u xs : List ℕ} → 0 < unit → unit ≤ 4096 → length u ≡ length (part c) → Holds (level c) u (a c) xs → Words 65536 xs → Ready unit u
@@ -102,7 +102,7 @@ module _ (c : tie.After-inverse) where
         (
           omega (arith, start c .pre .1 .1 .1),
           (
-            (c .before .before .before .powers .ensures, c .before .before .logarithms .ensures),
+            (c .before .before .powers .ensures, c .before .before .before .before .logarithms .ensures),
             (subst (Words 65537) (sym (h .first)) (C .words), subst (Words 65536) (sym (h .last)) w),
           ),
         ),
@@ -130,8 +130,8 @@ add-digit-requires-3 c κs =
     ready at 4096 (omega arith) (omega arith) (at-second .add-digit2 .kept .0 ∙ at-first .add-digit .kept .0 ∙ at-start .start .kept .0)
     (second-holds at-second) (sums-below _ _ _ _ _)
 
-returns : tie.Need-returns
-returns c =
+returns-2 : tie.Need-returns-2
+returns-2 c =
     let at-third = c .before .before in
     let at-second = third-second at-third in
     let at-first = second-first at-second in
@@ -150,6 +150,10 @@ store-logs-spec =
     tie.close
     (tie.spec
     (λ c κs. search needs)
+    (λ c. search needs)
+    (λ c κs. search needs)
+    (λ c. search needs)
+    (λ c. search needs)
     (λ c κs. search needs)
     (λ c κs. search needs)
     cast-inverse
@@ -166,4 +170,4 @@ store-logs-spec =
     (λ c. search needs)
     add-digit-requires-3
     (λ c. search needs)
-    returns)
+    returns-2)
