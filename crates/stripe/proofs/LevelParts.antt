@@ -23,7 +23,7 @@ use Rattle.rows.specs.StripeFits.{StripeFits}
 use Rattle.rows.proofs.RowParts.{length-blocks, twice}
 use Rattle.rows.proofs.StripeNumbers.{solved-nine, solved-ten, solved-blocks}
 
--- THE ROOM of a level: its rows and a weight for each position fit into the scratch, and its blocks into an output
+-- THE ROOM of a level: its rows and a logarithm for each position fit into the scratch, and its blocks into an output
 pub blocks-room : (st : Stripe) → blockWords st ≤ stripeWords st + positionCount st
 blocks-room st = omega (arith, twice st)
 
