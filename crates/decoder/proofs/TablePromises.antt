@@ -8,7 +8,8 @@ use lib.ListN.{getD}
 use Rattle.field.specs.Power.{power, inverse}
 use Rattle.field.specs.Field.{fermat, rootOf, powerTable}
 use Rattle.field.proofs.Unity.{two-div}
-use Rattle.field.proofs.PowerTables.{length-table-of-powers, powers-at, table-step, entry-lt, table-root, table-inverse, inverse-power, level-root, level-inverse}
+use Rattle.field.proofs.PowerTables.{length-table-of-powers, powers-at, table-step, entry-lt}
+use Rattle.field.proofs.PowerTables.{table-root, table-inverse, inverse-power, level-root, level-inverse}
 use Rattle.code.proofs.Factors.{turning-entry}
 use Rattle.decoder.specs.Promises.{TableRule, RootInTable, PowersInTable, InversesInTable, MixingInTable, UnmixingInTable, TurningInTable, PointsInTable}
 use Rattle.decoder.proofs.Points.{point-low, point-high}

@@ -72,7 +72,8 @@ shifted-sum a i r y z w k e =
     cancel~ (1024 + i)
     (trans~ (of-eq 65537 {y = r + y + 1024 + (i + 256 * w)} (omega arith)) (trans~ (add~ e k) (of-eq 65537 (omega arith))))
 
-shifted-difference : (a i r y z w : ℕ) → Cong 65537 (i + 256 * w) (256 * z + 1024) → Cong 65537 (r + y + i) (a + 1024) → Cong 65537 (r + y + 256 * z) (a + 256 * w)
+shifted-difference : (a i r y z w : ℕ) → Cong 65537 (i + 256 * w) (256 * z + 1024) → Cong 65537 (r + y + i) (a + 1024)
+    → Cong 65537 (r + y + 256 * z) (a + 256 * w)
 shifted-difference a i r y z w k e =
     cancel~ (1024 + i)
     (trans~ (of-eq 65537 {y = r + y + i + (256 * z + 1024)} (omega arith)) (trans~ (add~ e (sym~ k)) (of-eq 65537 (omega arith))))
@@ -145,7 +146,8 @@ module _ (a b c d t1 t2 : ℕ) where
       → times 65537 t3 r ≡ unmixingFour 65537 256 .out3 t1 t2 a b c d
   is-unmixed3 i t3 r e3 k e =
       ap (λ (t : ℕ). times 65537 t r) e3
-      ∙ from 65537 (omega arith) (fact (v t1 ⊗ v t2) (v r ⊞ v c ⊞ v 256 ⊠ v b) (v a ⊞ v 256 ⊠ v d) (shifted-difference a i r c b d k e) none) (v t1 ⊗ v t2 ⊗ v r)
+      ∙ from 65537 (omega arith) (fact (v t1 ⊗ v t2) (v r ⊞ v c ⊞ v 256 ⊠ v b) (v a ⊞ v 256 ⊠ v d) (shifted-difference a i r c b d k e) none)
+      (v t1 ⊗ v t2 ⊗ v r)
       (v t1 ⊗ (v t2 ⊗ (v a ⊖ v c) ⊖ v t2 ⊗ v 256 ⊗ (v b ⊖ v d))) (omega arith) (omega arith) (omega arith)
 
 -- the words r0 to r3 are what is to be stored at x, x + far, x + far + far and x + far + far + far

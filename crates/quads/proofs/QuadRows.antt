@@ -42,13 +42,15 @@ module _ (q : Quad) (t1 t2 far x : ℕ) (l : List ℕ) (some : 0 < far) where
   four1 : x + far < length l → getD (quadAt q t1 t2 far x l) (x + far) 0 ≡ out (q .out1)
   unfolding quadAt
   four1 h =
-      getD-set-other three (x + far + far + far) (x + far) (out (q .out3)) 0 (omega arith) ∙ getD-set-other two (x + far + far) (x + far) (out (q .out2)) 0 (omega arith)
+      getD-set-other three (x + far + far + far) (x + far) (out (q .out3)) 0 (omega arith)
+      ∙ getD-set-other two (x + far + far) (x + far) (out (q .out2)) 0 (omega arith)
       ∙ getD-set-same one (x + far) (out (q .out1)) 0 (simp length-set h)
 
   four2 : x + far + far < length l → getD (quadAt q t1 t2 far x l) (x + far + far) 0 ≡ out (q .out2)
   unfolding quadAt
   four2 h =
-      getD-set-other three (x + far + far + far) (x + far + far) (out (q .out3)) 0 (omega arith) ∙ getD-set-same two (x + far + far) (out (q .out2)) 0 (simp length-set h)
+      getD-set-other three (x + far + far + far) (x + far + far) (out (q .out3)) 0 (omega arith)
+      ∙ getD-set-same two (x + far + far) (out (q .out2)) 0 (simp length-set h)
 
   four3 : x + far + far + far < length l → getD (quadAt q t1 t2 far x l) (x + far + far + far) 0 ≡ out (q .out3)
   unfolding quadAt
@@ -57,7 +59,8 @@ module _ (q : Quad) (t1 t2 far x : ℕ) (l : List ℕ) (some : 0 < far) where
   four-off : (k : ℕ) → k ≢ x → k ≢ x + far → k ≢ x + far + far → k ≢ x + far + far + far → getD (quadAt q t1 t2 far x l) k 0 ≡ getD l k 0
   unfolding quadAt
   four-off k n0 n1 n2 n3 =
-      getD-set-other three (x + far + far + far) k (out (q .out3)) 0 n3 ∙ getD-set-other two (x + far + far) k (out (q .out2)) 0 n2 ∙ getD-set-other one (x + far) k (out (q .out1)) 0 n1
+      getD-set-other three (x + far + far + far) k (out (q .out3)) 0 n3 ∙ getD-set-other two (x + far + far) k (out (q .out2)) 0 n2
+      ∙ getD-set-other one (x + far) k (out (q .out1)) 0 n1
       ∙ getD-set-other l x k (out (q .out0)) 0 n0
 
 -- the words k, far + k, .. crossed for k below n, each under the factors of its row: what the two loops come to
@@ -120,7 +123,8 @@ module _ (q : Quad) (v width far : ℕ) (l : List ℕ) where
   -- what is stored in place r of the words k
   abbrev stored : ((t1 t2 a b c d : ℕ) → ℕ) → ℕ → ℕ
   stored f k =
-      f (power 65537 v (2 * (k / width))) (power 65537 v (k / width)) (getD l k 0) (getD l (k + far) 0) (getD l (k + far + far) 0) (getD l (k + far + far + far) 0)
+      f (power 65537 v (2 * (k / width))) (power 65537 v (k / width)) (getD l k 0) (getD l (k + far) 0) (getD l (k + far + far) 0)
+      (getD l (k + far + far + far) 0)
 
   abbrev Done : ℕ → ℕ → Type 0
   Done n k = At n k (stored (q .out0) k) (stored (q .out1) k) (stored (q .out2) k) (stored (q .out3) k)

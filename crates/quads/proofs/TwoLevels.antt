@@ -47,7 +47,9 @@ module _ (c : Crossing) (x m : ℕ) (f : List ℕ → List ℕ) (t : Crosses c x
     half0 = in-first i (omega arith) ∙ t .low-at _ i long-first h ∙ rw (getD-take (m + m) a i 0 (omega arith), getD-take (m + m) a (m + i) 0 (omega arith)) refl
 
     half1 : getD halves (m + i) 0 ≡ c .high (power 65537 x i) (getD a i 0) (getD a (m + i) 0)
-    half1 = in-first (m + i) (omega arith) ∙ t .high-at _ i long-first h ∙ rw (getD-take (m + m) a i 0 (omega arith), getD-take (m + m) a (m + i) 0 (omega arith)) refl
+    half1 =
+        in-first (m + i) (omega arith) ∙ t .high-at _ i long-first h
+        ∙ rw (getD-take (m + m) a i 0 (omega arith), getD-take (m + m) a (m + i) 0 (omega arith)) refl
 
     half2 : getD halves (m + m + i) 0 ≡ c .low (power 65537 x i) (getD a (m + m + i) 0) (getD a (m + m + (m + i)) 0)
     half2 = in-second i ∙ t .low-at _ i long-second h ∙ rw (getD-drop (m + m) a i 0, getD-drop (m + m) a (m + i) 0) refl
@@ -102,8 +104,10 @@ module _ (x m s : ℕ) (turn : power 65537 x m ≡ s) (a : List ℕ) (e : length
         mixingFour 65537 s .out1 (power 65537 x (2 * i)) (power 65537 x i) (getD a i 0) (getD a (m + i) 0) (getD a (m + m + i) 0) (getD a (m + m + (m + i)) 0)
     unfolding mixedTwice
     mixed-at1 =
+        let u1 = half1 (mixing 65537) (times 65537 x x) m under t keeps a e i h in
+        let u3 = half3 (mixing 65537) (times 65537 x x) m under t keeps a e i h in
         over .low-at mixed-under (m + i) long (omega arith)
-        ∙ rw (half1 (mixing 65537) (times 65537 x x) m under t keeps a e i h, half3 (mixing 65537) (times 65537 x x) m under t keeps a e i h, square x i, further x m i turn) refl
+        ∙ rw (u1, u3, square x i, further x m i turn) refl
 
     mixed-at2 : getD (mixedTwice 65537 x m a) (m + m + i) 0 ≡
         mixingFour 65537 s .out2 (power 65537 x (2 * i)) (power 65537 x i) (getD a i 0) (getD a (m + i) 0) (getD a (m + m + i) 0) (getD a (m + m + (m + i)) 0)
@@ -116,8 +120,10 @@ module _ (x m s : ℕ) (turn : power 65537 x m ≡ s) (a : List ℕ) (e : length
         mixingFour 65537 s .out3 (power 65537 x (2 * i)) (power 65537 x i) (getD a i 0) (getD a (m + i) 0) (getD a (m + m + i) 0) (getD a (m + m + (m + i)) 0)
     unfolding mixedTwice
     mixed-at3 =
+        let u1 = half1 (mixing 65537) (times 65537 x x) m under t keeps a e i h in
+        let u3 = half3 (mixing 65537) (times 65537 x x) m under t keeps a e i h in
         over .high-at mixed-under (m + i) long (omega arith)
-        ∙ rw (half1 (mixing 65537) (times 65537 x x) m under t keeps a e i h, half3 (mixing 65537) (times 65537 x x) m under t keeps a e i h, square x i, further x m i turn) refl
+        ∙ rw (u1, u3, square x i, further x m i turn) refl
 
 pub mixing-crosses-four : (x m : ℕ) {s : ℕ} → power 65537 x m ≡ s → CrossesFour (mixingFour 65537 s) x m (mixedTwice 65537 x m)
 mixing-crosses-four x m {s} turn = record {
@@ -161,22 +167,30 @@ module _ (x m s : ℕ) (turn : power 65537 x m ≡ s) (a : List ℕ) (e : length
     unmixed-at0 : getD (unmixedTwice 65537 x m a) i 0 ≡
         unmixingFour 65537 s .out0 (power 65537 x (2 * i)) (power 65537 x i) (getD a i 0) (getD a (m + i) 0) (getD a (m + m + i) 0) (getD a (m + m + (m + i)) 0)
     unfolding unmixedTwice
-    unmixed-at0 = half0 (unmixing 65537) (times 65537 x x) m (unmixed 65537 (times 65537 x x) m) below-crosses below-keeps above above-long i h ∙ rw (low0, low1) refl
+    unmixed-at0 =
+        half0 (unmixing 65537) (times 65537 x x) m (unmixed 65537 (times 65537 x x) m) below-crosses below-keeps above above-long i h
+        ∙ rw (low0, low1) refl
 
     unmixed-at1 : getD (unmixedTwice 65537 x m a) (m + i) 0 ≡
         unmixingFour 65537 s .out1 (power 65537 x (2 * i)) (power 65537 x i) (getD a i 0) (getD a (m + i) 0) (getD a (m + m + i) 0) (getD a (m + m + (m + i)) 0)
     unfolding unmixedTwice
-    unmixed-at1 = half1 (unmixing 65537) (times 65537 x x) m (unmixed 65537 (times 65537 x x) m) below-crosses below-keeps above above-long i h ∙ rw (low0, low1, square x i) refl
+    unmixed-at1 =
+        half1 (unmixing 65537) (times 65537 x x) m (unmixed 65537 (times 65537 x x) m) below-crosses below-keeps above above-long i h
+        ∙ rw (low0, low1, square x i) refl
 
     unmixed-at2 : getD (unmixedTwice 65537 x m a) (m + m + i) 0 ≡
         unmixingFour 65537 s .out2 (power 65537 x (2 * i)) (power 65537 x i) (getD a i 0) (getD a (m + i) 0) (getD a (m + m + i) 0) (getD a (m + m + (m + i)) 0)
     unfolding unmixedTwice
-    unmixed-at2 = half2 (unmixing 65537) (times 65537 x x) m (unmixed 65537 (times 65537 x x) m) below-crosses below-keeps above above-long i h ∙ rw (high0, high1) refl
+    unmixed-at2 =
+        half2 (unmixing 65537) (times 65537 x x) m (unmixed 65537 (times 65537 x x) m) below-crosses below-keeps above above-long i h
+        ∙ rw (high0, high1) refl
 
     unmixed-at3 : getD (unmixedTwice 65537 x m a) (m + m + (m + i)) 0 ≡
         unmixingFour 65537 s .out3 (power 65537 x (2 * i)) (power 65537 x i) (getD a i 0) (getD a (m + i) 0) (getD a (m + m + i) 0) (getD a (m + m + (m + i)) 0)
     unfolding unmixedTwice
-    unmixed-at3 = half3 (unmixing 65537) (times 65537 x x) m (unmixed 65537 (times 65537 x x) m) below-crosses below-keeps above above-long i h ∙ rw (high0, high1, square x i) refl
+    unmixed-at3 =
+        half3 (unmixing 65537) (times 65537 x x) m (unmixed 65537 (times 65537 x x) m) below-crosses below-keeps above above-long i h
+        ∙ rw (high0, high1, square x i) refl
 
 pub unmixing-crosses-four : (x m : ℕ) {s : ℕ} → power 65537 x m ≡ s → CrossesFour (unmixingFour 65537 s) x m (unmixedTwice 65537 x m)
 unmixing-crosses-four x m {s} turn = record {

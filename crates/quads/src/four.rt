@@ -1,5 +1,5 @@
-// Four words, one of each of four rows: the sums and differences that two levels of mixing, or of unmixing, come to. They are reduced where they are given back,
-// and not between the levels: the contracts say what a result is modulo p. 256 is a square root of -1.
+// Four words, one of each of four rows: the sums and differences that two levels of mixing, or of unmixing, come to. They are reduced where they are
+// given back, and not between the levels: the contracts say what a result is modulo p. 256 is a square root of -1.
 ghost use mathlib.Core.Path.{_≡_};
 ghost use Prim.Native.Nat.{_+_, _*_, _-_, _%_, _≤_, _<_};
 ghost use Rattle.field.specs.Residue.{times};

@@ -189,8 +189,10 @@ quad-turn {half₀} {level} {width} {half} {half′} {blocks} {m} {l} {x} h b el
     let room : blocks / 4 * ((m + m + (m + m)) * width) ≤ length half = omega (arith, lv .rows, ap (λ (n : ℕ). n * ((m + m) * width)) q1) in
     let mid = eachRows width (blocks / 2) (m + m) (mixedHalves 65537 (times 65537 x x) m) half in
     let same : length mid ≡ length half = length-each (mixing-block width m (times 65537 x x)) (blocks / 2) half (omega (arith, lv .rows)) in
-    let one : MixLoop half₀ level width mid (blocks / 2) (m * 2) (l + 1) = mix-turn h (omega arith) same (rw ex (squared (rootOf fermat level) level l (omega arith))) refl in
-    let two = mix-turn {half′ = half′} one (omega arith) (el ∙ sym same) (ex ∙ ap (λ (n : ℕ). power 65537 (rootOf fermat level) (2 ^ level / 2 ^ n)) (sym (add-one l)))
+    let one : MixLoop half₀ level width mid (blocks / 2) (m * 2) (l + 1) = mix-turn h (omega arith) same
+    (rw ex (squared (rootOf fermat level) level l (omega arith))) refl in
+    let two = mix-turn {half′ = half′} one (omega arith) (el ∙ sym same) (ex ∙ ap (λ (n : ℕ). power 65537 (rootOf fermat level) (2 ^ level / 2 ^ n))
+    (sym (add-one l)))
     (eh ∙ mixed-levels width (blocks / 4) m x half room ∙ rw (q1, q2, mm) refl) in
     let e1 : m * 2 * 2 ≡ m * 4 = omega arith in
     let e2 : l + 1 + 1 ≡ l + 2 = omega arith in

@@ -62,7 +62,8 @@ module _ {half₀ : List ℕ} {level width : ℕ} {half : List ℕ} {blocks m le
       level-at (omega arith) (omega arith) (h .same ∙ h .long) (rw (← s) (h .blocks-is)) (omega arith)
 
   pub unmix-turn : {half′ : List ℕ} {v : ℕ} → UnmixLoop half₀ level width half blocks m left → 0 < left → length half′ ≡ length half
-      → v ≡ power 65537 (inverse 65537 (rootOf fermat level)) (2 ^ level / 2 ^ (left - 1)) → half′ ≡ eachRows width blocks (m / 2 + m / 2) (unmixed 65537 v (m / 2)) half
+      → v ≡ power 65537 (inverse 65537 (rootOf fermat level)) (2 ^ level / 2 ^ (left - 1))
+      → half′ ≡ eachRows width blocks (m / 2 + m / 2) (unmixed 65537 v (m / 2)) half
       → UnmixLoop half₀ level width half′ (blocks * 2) (m / 2) (left - 1)
   unmix-turn {half′} {v} h lt el u eh =
       let s : left ≡ suc (left - 1) = omega arith in
@@ -76,10 +77,12 @@ module _ {half₀ : List ℕ} {level width : ℕ} {half : List ℕ} {blocks m le
         words = rw eh (words-each 65537 blocks _ _ (omega arith) (unmixing-block width (m / 2) v .words) (h .words));
         blocks-is = ap (λ (n : ℕ). n * 2) (q .blocks-is) ∙ sym (pow-down (omega arith));
         m-is = q .m-is;
-        rest = unmix-level width (inverse 65537 (rootOf fermat level)) level (left - 1) blocks half half′ (omega arith) el (eh ∙ rw (q .m-is, u) refl) ∙ rw (← s) (h .rest);
+        rest = unmix-level width (inverse 65537 (rootOf fermat level)) level (left - 1) blocks half half′ (omega arith) el (eh ∙ rw (q .m-is, u) refl)
+            ∙ rw (← s) (h .rest);
       }
 
-  pub unmix-done : UnmixLoop half₀ level width half blocks m left → left ≤ 0 → half ≡ lifted width (2 ^ level) (2 ^ level) (untransform 65537 (inverse 65537 (rootOf fermat level)) level level) half₀
+  pub unmix-done : UnmixLoop half₀ level width half blocks m left → left ≤ 0
+      → half ≡ lifted width (2 ^ level) (2 ^ level) (untransform 65537 (inverse 65537 (rootOf fermat level)) level level) half₀
   unfolding untransform
   unmix-done h le =
       let z : left ≡ 0 = omega arith in

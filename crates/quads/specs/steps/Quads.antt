@@ -60,8 +60,8 @@ unfoldable pub quadRow : (q : Quad) → (t1 t2 far n at : ℕ) → List ℕ → 
 quadRow q t1 t2 far zero at l = l
 quadRow q t1 t2 far (suc n) at l = quadAt q t1 t2 far (at + n) (quadRow q t1 t2 far n at l)
 
--- THE FACTORS of a row in a table of powers, t1, t2 and their product: entries 2 e, e and 3 e, around the table; none is -1, so that the product of a factor and
--- a word fits 32 bits
+-- THE FACTORS of a row in a table of powers, t1, t2 and their product: entries 2 e, e and 3 e, around the table; none is -1, so that the product of a factor
+-- and a word fits 32 bits
 pub record EntryFactors (p e : ℕ) (powers : List ℕ) : Type 0 where
   pub room : 3 * e < 4294967296
   pub within : (x : ℕ) → x % 2048 < length powers

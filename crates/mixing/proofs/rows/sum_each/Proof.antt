@@ -19,8 +19,13 @@ sum-row-requires c κs =
     let i = at-test .before .loop .inv in
     let s = at-test .before .before .before in
     let at = at-test .before .loop .at in
-    let size = s .args .width + s .args .width in
-    (omega arith, (omega (arith, part-long at size (at-test .before .loop .half) (block-in i (at-test .loop-test .taken))), part-words at size (omega arith) (i .words)))
+    let size = s .args .width + s .args .width in (
+      omega arith,
+      (
+        omega (arith, part-long at size (at-test .before .loop .half) (block-in i (at-test .loop-test .taken))),
+        part-words at size (omega arith) (i .words),
+      ),
+    )
 
 loop-again : tie.Need-loop-again Inv-loop μ-loop
 loop-again c =

@@ -28,7 +28,8 @@ loop-again c =
     let at-words = c .before .before in
     let at-test = at-words .before .before in
     let s = at-test .before .before .before .before in
-    blocks-turn (words-block unmixing-stores (s .args .factors .now) (s .args .size)) (at-test .before .loop .inv) (at-test .loop-test .taken) (at-words .unmix-words .ensures)
+    blocks-turn (words-block unmixing-stores (s .args .factors .now) (s .args .size)) (at-test .before .loop .inv) (at-test .loop-test .taken)
+    (at-words .unmix-words .ensures)
 
 pub unmix-words-each-spec : {M : Type 1} → statement M
 unmix-words-each-spec =

@@ -51,7 +51,8 @@ loop-again : tie.Need-loop-again Inv-loop μ-loop
 loop-again c =
     let at-row = c .before .before in
     let at-test = at-row .before .before in
-    quads-turn (at-test .before .loop .inv) (unmixing-four-stores 256) (start-at-test at-test .pre .1 .0) (at-test .loop-test .taken) (at-row .unquad-by .ensures)
+    quads-turn (at-test .before .loop .inv) (unmixing-four-stores 256) (start-at-test at-test .pre .1 .0) (at-test .loop-test .taken)
+    (at-row .unquad-by .ensures)
 
 returns : tie.Need-returns Inv-loop μ-loop
 returns c = quads-end (c .before .loop .inv) (unmixing-crosses-four _ _ (c .before .before .before .before .pre .1 .0 .turn)) (c .loop-test .left)

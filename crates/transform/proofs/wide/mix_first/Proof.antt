@@ -45,7 +45,8 @@ module _ (level width : ℕ) (half : List ℕ) (few : level ≤ 11) (long : leng
     one rows n same e =
         let b : 2 ^ level / 2 ≡ 2 ^ (level - 1) = omega (arith, twice) in
         let s : MixLoop half level width half (2 ^ level) 1 0 = mix-start few long words refl in
-        let t : MixLoop half level width rows (2 ^ level / 2) 2 1 = mix-turn {half′ = rows} {v = root} s (omega arith) same refl (rw b ((rw n at e) ∙ sums-level width (2 ^ (level - 1)) (mixedHalves 65537 root 1) half (mixing-sums root) pairs)) in
+        let sums = sums-level width (2 ^ (level - 1)) (mixedHalves 65537 root 1) half (mixing-sums root) pairs in
+        let t : MixLoop half level width rows (2 ^ level / 2) 2 1 = mix-turn {half′ = rows} {v = root} s (omega arith) same refl (rw b ((rw n at e) ∙ sums)) in
         (t .words, rw odd (t .now))
 
 -- that the number of levels is odd
@@ -54,8 +55,11 @@ odd-at c = omega (arith, c .if1 .left)
 
 returns : tie.Need-returns
 returns c =
-    let s = c .before .before in
-    (ap (λ (e : ℕ). 2 ^ e) (sym (c .if1 .taken)), none (s .args .level) (s .args .width) (s .args .half .now) (s .pre .0) (s .pre .1 .0) (s .pre .1 .1) (c .if1 .taken))
+    let s = c .before .before in (
+      ap (λ (e : ℕ). 2 ^ e) (sym (c .if1 .taken)),
+      none (s .args .level) (s .args .width) (s .args .half .now) (s .pre .0) (s .pre .1 .0) (s .pre .1 .1)
+          (c .if1 .taken),
+    )
 
 sub-two-to : tie.Need-sub-two-to
 sub-two-to c = omega (arith, odd-at (c .before))

@@ -5,7 +5,8 @@ use native.Mathlib.Omega.{arith}
 use borrow.Author.Needs.{needs}
 use lib.Pow.{pow-pos}
 use Rattle.transform.proofs.UnmixLevels.{unmix-start, left-in}
-use Rattle.transform.proofs.QuadLevels.{UnquadLoop, two-to-go, quarter-is, quarters-in, quarters-fit, unquad-again, last-rows, last-fits, last-turn, no-turn}
+use Rattle.transform.proofs.QuadLevels.{UnquadLoop, two-to-go, quarter-is, quarters-in, quarters-fit}
+use Rattle.transform.proofs.QuadLevels.{unquad-again, last-rows, last-fits, last-turn, no-turn}
 use Rattle.transform.proofs.QuadLevels.{unmixing-quads, unmixing-root}
 use Rattle.transform.proofs.wide.unmix_rows.Statement.{statement}
 use Rattle.transform.proofs.wide.unmix_rows.Tie as tie
