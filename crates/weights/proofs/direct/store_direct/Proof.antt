@@ -57,8 +57,7 @@ add-rows-requires c κs =
 store-words-requires : tie.Need-store-words-requires
 store-words-requires c κs =
     let at-rows = rows-at-powers c in
-    let s = start-at-fill (fill-at-rows at-rows) in
-    (
+    let s = start-at-fill (fill-at-rows at-rows) in (
       s .pre .0,
       (omega (arith, rows-long at-rows, s .pre .1 .1 .0), words-fit (at-rows .add-rows .ensures) (c .powers-sum .ensures) (s .pre .0)),
     )
