@@ -12,7 +12,8 @@ use lib.Pow.{pow-mono}
 use lib.ListN.{length, getD, set, drop}
 use Rattle.field.proofs.WordLists.{same-table}
 use Rattle.code.specs.steps.Storing.{stored, always, wordFrom}
-use Rattle.code.proofs.RowLaws.{Storing, storing-start, storing-turn, storing-done, storing-front, storing-rest, stored-off, stored-before, stored-at, length-stored}
+use Rattle.code.proofs.RowLaws.{Storing, storing-start, storing-turn, storing-done, storing-front, storing-rest}
+use Rattle.code.proofs.RowLaws.{stored-off, stored-before, stored-at, length-stored}
 use Rattle.logarithms.specs.Logarithms.{logTable}
 use Rattle.logarithms.specs.Weights.{exponentAt, logOfPower, logOfLess, logAt, logs}
 use Rattle.weights.specs.steps.Digits.{flag, powersTo}
@@ -68,7 +69,8 @@ unfolding lessTo
 less-none l ms e = refl
 
 module _ (l : ℕ) (ms : List Bool) (u u₁ u₂ u₃ : List ℕ) {n : ℕ} (room : 3 * 2 ^ suc l ≤ length u) (count : n ≡ 2 ^ suc l)
-    (zeros : u₁ ≡ stored 0 (always 0) n u) (once : u₂ ≡ stored (2 ^ suc l) (logOfLess l) (2 ^ suc l) u₁) (twice : u₃ ≡ stored (n + n) (wordFrom u₂ n) n u₂) where
+    (zeros : u₁ ≡ stored 0 (always 0) n u) (once : u₂ ≡ stored (2 ^ suc l) (logOfLess l) (2 ^ suc l) u₁)
+    (twice : u₃ ≡ stored (n + n) (wordFrom u₂ n) n u₂) where
   first-long : length u₁ ≡ length u
   first-long = ap length zeros ∙ length-stored 0 (always 0) n u
 
