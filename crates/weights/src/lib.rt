@@ -12,8 +12,8 @@ ghost use Prim.Native.Nat.{suc, _*_, _-_, _^_, _≤_};
 ghost use lib.ListN.{length, drop};
 ghost use Rattle.logarithms.specs.Weights.{erasedTo, logs};
 
-// The lowest level at which the convolution is faster than the sums made directly.
-const CONVOLVED_FROM: usize = 8;
+// The lowest level at which the convolution is faster than the sums made directly, where half of the positions are erased: the more, the slower are the sums.
+const CONVOLVED_FROM: usize = 10;
 
 // Stores the logarithms of all positions in the last words of the part. The words before them serve to compute these: what is left there is open.
 pub fn store_logs(part: &mut [u32], marks: &[bool], level: usize)
