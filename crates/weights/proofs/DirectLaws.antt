@@ -12,8 +12,8 @@ use lib.Pow.{pow-mono}
 use lib.ListN.{length, getD, set, drop}
 use Rattle.field.proofs.WordLists.{same-table}
 use Rattle.code.specs.steps.Storing.{stored, always, wordFrom}
-use Rattle.code.proofs.RowLaws.{Storing, storing-start, storing-turn, storing-done, storing-front}
-use Rattle.code.proofs.RowLaws.{storing-rest, stored-off, stored-before, stored-at, length-stored}
+use Rattle.code.proofs.RowLaws.{Storing, storing-start, storing-turn, storing-done, storing-front, storing-rest}
+use Rattle.code.proofs.RowLaws.{stored-off, stored-before, stored-at, length-stored}
 use Rattle.logarithms.specs.Logarithms.{logTable}
 use Rattle.logarithms.specs.Weights.{exponentAt, logOfPower, logOfLess, logAt, logs}
 use Rattle.weights.specs.steps.Digits.{flag, powersTo}

@@ -60,7 +60,9 @@ fn add_rows(part: &mut [u32], marks: &[bool], level: usize)
     let count = exponents::positions(level);
     for j in 0..count {
         if marks[j] {
-            let from = count + (count - exponents::exponent(j, level));
+            let f = exponents::exponent(j, level);
+            let back = count - f;
+            let from = count + back;
             add_row(part, from, count);
         }
     }

@@ -12,8 +12,8 @@ ghost use Prim.Native.Nat.{suc, _*_, _-_, _^_, _≤_};
 ghost use lib.ListN.{length, drop};
 ghost use Rattle.logarithms.specs.Weights.{erasedTo, logs};
 
-// The lowest level at which the convolution is faster than the sums made directly.
-const CONVOLVED_FROM: usize = 8;
+// From this level on the convolution takes no longer than the sums made directly, or hardly so, where half of the positions are erased; and it grows less.
+const CONVOLVED_FROM: usize = 9;
 
 // Stores the logarithms of all positions in the last words of the part. The words before them serve to compute these: what is left there is open.
 pub fn store_logs(part: &mut [u32], marks: &[bool], level: usize)

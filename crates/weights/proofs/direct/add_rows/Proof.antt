@@ -32,24 +32,21 @@ module _ {l : ℕ} {ms : List Bool} {n : ℕ} {u v : List ℕ} {j : ℕ} (h : In
   turn-skipped e m = rw e record { count = h .count; room = h .room; same = h .same; turns = omega arith; sums = row-skipped (h .sums) m }
 
   module _ {f : ℕ} (ef : f ≡ exponentAt l j) where
-    from-is : n + (n - f) ≡ 2 ^ suc l + (2 ^ suc l - f)
-    from-is = ap (λ (k : ℕ). k + (k - f)) (h .count)
-
     exponent-le : f ≤ n
     exponent-le = omega (arith, h .count, exponent-lt l j in-count)
 
-    fits : l ≤ 10 → (e : ℕ) → e < n → rowSum v (n + (n - f)) e < 4294967296
-    fits small e c = row-fits (h .sums) in-count ef from-is small e (omega (arith, h .count))
+    fits : {from : ℕ} → l ≤ 10 → from ≡ n + (n - f) → (e : ℕ) → e < n → rowSum v from e < 4294967296
+    fits small at e c = row-fits (h .sums) in-count ef (omega (arith, h .count)) small e (omega (arith, h .count))
 
-    turn-added : {w : List ℕ} → w ≡ stored 0 (rowSum v (n + (n - f))) n v → getD ms j false ≡ true → Inv l ms n u w (j + 1)
-    turn-added {w} e m =
-        let long : length w ≡ length v = ap length e ∙ length-stored 0 (rowSum v (n + (n - f))) n v in
+    turn-added : {from : ℕ} {w : List ℕ} → w ≡ stored 0 (rowSum v from) n v → getD ms j false ≡ true → from ≡ n + (n - f) → Inv l ms n u w (j + 1)
+    turn-added {from} {w} e m at =
+        let long : length w ≡ length v = ap length e ∙ length-stored 0 (rowSum v from) n v in
         record {
           count = h .count;
           room = omega (arith, h .room);
           same = long ∙ h .same;
           turns = omega arith;
-          sums = row-added (h .sums) in-count ef from-is (h .count) (omega (arith, h .room)) m e;
+          sums = row-added (h .sums) in-count ef (omega (arith, h .count)) (h .count) (omega (arith, h .room)) m e;
         }
 
 abbrev Inv-loop : tie.InvT-loop
@@ -90,7 +87,7 @@ add-row-requires c κs =
     let t = test-at-exponent at-exponent in
     let h = t .before .loop .inv in (
       omega (arith, h .room, exponent-in at-exponent),
-      fits h (t .loop-test .taken) (at-exponent .exponent .ensures) (start-at-test t .pre .0),
+      fits h (t .loop-test .taken) (at-exponent .exponent .ensures) (start-at-test t .pre .0) (omega arith),
     )
 
 loop-again : tie.Need-loop-again Inv-loop μ-loop
@@ -98,7 +95,7 @@ loop-again c =
     let t = c .before .before in
     let h = t .before .loop .inv in
     ⊎-elim
-    (λ w. turn-added h (t .loop-test .taken) (w .1 .ensures) (w .6 ∙ w .3 .ensures) (w .0 .taken))
+    (λ w. turn-added h (t .loop-test .taken) (w .1 .ensures) (w .6 ∙ w .3 .ensures) (w .0 .taken) (omega arith))
     (λ w. turn-skipped h (t .loop-test .taken) (w .1) (w .0 .left))
     (c .if1 .came)
 

@@ -26,8 +26,8 @@ loop-again : tie.Need-loop-again Inv-loop μ-loop
 unfolding wordFrom
 loop-again c =
     let at-test = c .before in
-    storing-turn (at-test .before .loop .inv) (at-test .loop-test .taken) (storing-front (at-test .before .loop .inv) _
-    (omega (arith, at-test .loop-test .taken)))
+    let h = at-test .before .loop .inv in
+    storing-turn h (at-test .loop-test .taken) (storing-front h _ (omega (arith, at-test .loop-test .taken)))
 
 pub copy-terms-spec : {M : Type 1} → statement M
 copy-terms-spec =

@@ -1,6 +1,6 @@
 -- `weights::direct::load_terms` meets its contract: the invariant is that of a loop that stores. Assumes nothing.
-use mathlib.Core.Path.{_≡_, ap₂, _∙_}
-use Prim.Native.Nat.{ℕ, suc, _-_, _^_, _<_}
+use mathlib.Core.Path.{ap₂, _∙_}
+use Prim.Native.Nat.{ℕ, _-_}
 use native.Mathlib.Omega.{arith}
 use borrow.Author.Needs.{needs}
 use Rattle.code.specs.steps.Storing.{stored}

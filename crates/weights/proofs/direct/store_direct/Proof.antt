@@ -1,9 +1,7 @@
 -- `weights::direct::store_direct` meets its contract: the sums start from none, all rows are added, and with what all share they are the logarithms
 -- (proofs/DirectLaws). Assumes nothing.
 use mathlib.Core.Path.{_≡_, sym, ap, _∙_}
-use mathlib.Core.Bool.{Bool}
-use mathlib.Core.List.{List}
-use Prim.Native.Nat.{ℕ, suc, _*_, _-_, _^_, _≤_}
+use Prim.Native.Nat.{ℕ, suc, _-_, _^_}
 use native.Mathlib.Omega.{arith}
 use borrow.Author.Needs.{needs}
 use lib.ListN.{length, drop}
