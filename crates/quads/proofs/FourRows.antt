@@ -218,6 +218,11 @@ unfolding quadRow
 length-row q t1 t2 far zero at l = refl
 length-row q t1 t2 far (suc n) at l = length-at q t1 t2 far (at + n) _ ∙ length-row q t1 t2 far n at l
 
+-- where e is 0 both factors are entry 0, which is 1
+pub first-entry : (q : Quad) (powers part : List ℕ) {e : ℕ} (far width at : ℕ) → getD powers 0 0 ≡ 1 → e ≡ 0
+    → quadRow q 1 1 far width at part ≡ quadRow q (getD powers (2 * e % 2048) 0) (getD powers (e % 2048) 0) far width at part
+first-entry q powers part far width at one z = rw (z, one) refl
+
 -- THE LOOP OVER FOUR ROWS: their first j words are crossed
 pub record FourLoop (q : Quad) (part₀ : List ℕ) (at far width t1 t2 : ℕ) (part : List ℕ) (j : ℕ) : Type 0 where
   pub turns : j ≤ width

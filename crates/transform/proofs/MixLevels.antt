@@ -3,9 +3,10 @@
 use mathlib.Core.Path.{_≡_, refl, sym, ap, ap₂, _∙_}
 use mathlib.Core.List.{List}
 use Prim.Native.Nat.{ℕ, suc, _+_, _-_, _*_, _/_, _^_, _≤_, _<_}
-use native.Mathlib.Nat.{sub-zero}
+use native.Mathlib.Nat.{sub-zero, mul-le-mul}
 use native.Mathlib.Numerals.{add-one}
 use native.Mathlib.Omega.{arith}
+use lib.Pow.{pow-mono}
 use lib.ListN.{length, take, drop, length-drop}
 use lib.Seq.{take-at, drop-at, length-take-le}
 use Rattle.field.specs.Power.{power}
@@ -102,3 +103,8 @@ pub step-down : {step l : ℕ} → (l ≤ 10 → step ≡ 2 ^ (10 - l)) → l + 
 step-down {step} {l} e b =
     let s : l + 1 ≡ suc l = add-one l in
     rw s (omega (arith, e (omega arith), pow-down {n = 10} {l = l} (omega arith)))
+
+-- rows of at most three words are few enough for the flat loops
+pub narrow-few : {level width : ℕ} → level ≤ 10 → width < 4 → 2 ^ level * width ≤ 3072
+narrow-few {level} {width} b h =
+    mul-le-mul {n₁ = 2 ^ level} {m₁ = width} {n₂ = 1024} {m₂ = 3} (pow-mono {i = level} {j = 10} b) (omega arith)

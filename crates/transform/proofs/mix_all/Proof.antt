@@ -1,23 +1,14 @@
 -- `transform::mix_all` meets its contract: 1,024 rows of at most three words are few enough for `mix_narrow`. Assumes nothing.
-use Prim.Native.Nat.{_*_, _^_, _≤_}
-use native.Mathlib.Nat.{mul-le-mul}
 use native.Mathlib.Omega.{arith}
 use borrow.Author.Needs.{needs}
-use lib.Pow.{pow-mono}
+use Rattle.transform.proofs.MixLevels.{narrow-few}
 use Rattle.transform.proofs.mix_all.Statement.{statement}
 use Rattle.transform.proofs.mix_all.Tie as tie
-
--- few words
-words-few : (c : tie.Then1) → let args = c .before .before .before .args in 2 ^ args .level * args .width ≤ 3072
-words-few c =
-    let s = c .before .before .before in
-    mul-le-mul {n₁ = 2 ^ s .args .level} {m₁ = s .args .width} {n₂ = 1024} {m₂ = 3} (pow-mono {i = s .args .level} {j = 10} (s .pre .0))
-    (omega (arith, c .if1 .taken))
 
 mix-narrow-requires : tie.Need-mix-narrow-requires
 mix-narrow-requires c κs =
     let s = c .before .before .before .before in
-    ((omega (arith, s .pre .0), words-few (c .before)), s .pre .1)
+    ((omega (arith, s .pre .0), narrow-few (s .pre .0) (c .before .if1 .taken)), s .pre .1)
 
 mix-rows-requires : tie.Need-mix-rows-requires
 mix-rows-requires c κs =
