@@ -1,5 +1,6 @@
 -- Two levels at once along four rows: the words that are stored, and the loop over the rows' words. Assumes nothing.
 use mathlib.Core.Path.{_≡_, refl, sym, ap, _∙_}
+use mathlib.Core.Bool.{Bool, true, false}
 use mathlib.Core.List.{List}
 use Prim.Native.Nat.{ℕ, zero, suc, _+_, _*_, _%_, _≤_, _<_}
 use native.Mathlib.Numerals.{add-one}
@@ -12,7 +13,7 @@ use Rattle.field.proofs.Congruence.{Cong, of-eq, sym~, trans~, add~, cancel~, m
 use Rattle.field.proofs.Ring.{v, _⊕_, _⊖_, _⊗_, _⊞_, _⊠_, none, fact, from}
 use Rattle.field.proofs.Laws.{plus-lt, minus-lt, times-lt, times-one, times-comm}
 use Rattle.field.proofs.WordLists.{words-set}
-use Rattle.quads.specs.steps.Quads.{Quad, mixingFour, unmixingFour, setFour, quadAt, quadRow}
+use Rattle.quads.specs.steps.Quads.{Quad, mixingFour, unmixingFour, fourOf, setFour, quadAt, quadRow}
 
 -- all four words stored are words of the field
 pub record StoresFour (p : ℕ) (q : Quad) : Type 0 where
@@ -36,6 +37,10 @@ unmixing-four-stores s = record {
   lt2 = λ t1 t2 a b c d. plus-lt 65537 (omega arith) _ _;
   lt3 = λ t1 t2 a b c d. times-lt 65537 (omega arith) t1 _;
 }
+
+pub four-stores : (back : Bool) → StoresFour 65537 (fourOf back)
+four-stores false = mixing-four-stores 65281
+four-stores true = unmixing-four-stores 256
 
 -- what is a product modulo p is congruent to it
 pub residue : {r x : ℕ} → r % 65537 ≡ x → Cong 65537 r x
@@ -218,10 +223,14 @@ unfolding quadRow
 length-row q t1 t2 far zero at l = refl
 length-row q t1 t2 far (suc n) at l = length-at q t1 t2 far (at + n) _ ∙ length-row q t1 t2 far n at l
 
--- where e is 0 both factors are entry 0, which is 1
-pub first-entry : (q : Quad) (powers part : List ℕ) {e : ℕ} (far width at : ℕ) → getD powers 0 0 ≡ 1 → e ≡ 0
-    → quadRow q 1 1 far width at part ≡ quadRow q (getD powers (2 * e % 2048) 0) (getD powers (e % 2048) 0) far width at part
-first-entry q powers part far width at one z = rw (z, one) refl
+-- the rows crossed one way or the other: where e is 0 both factors are entry 0, which is 1
+module _ {back way : Bool} (same : back ≡ way) (part : List ℕ) (far width at : ℕ) {rows : List ℕ} where
+  pub by-factors : (t1 t2 : ℕ) → rows ≡ quadRow (fourOf way) t1 t2 far width at part → rows ≡ quadRow (fourOf back) t1 t2 far width at part
+  by-factors t1 t2 h = rw same h
+
+  pub by-ones : (powers : List ℕ) (e : ℕ) → getD powers 0 0 ≡ 1 → e ≡ 0 → rows ≡ quadRow (fourOf way) 1 1 far width at part
+      → rows ≡ quadRow (fourOf back) (getD powers (2 * e % 2048) 0) (getD powers (e % 2048) 0) far width at part
+  by-ones powers e one z h = rw (same, z, one) h
 
 -- THE LOOP OVER FOUR ROWS: their first j words are crossed
 pub record FourLoop (q : Quad) (part₀ : List ℕ) (at far width t1 t2 : ℕ) (part : List ℕ) (j : ℕ) : Type 0 where

@@ -1,5 +1,6 @@
 -- `mixedTwice` and `unmixedTwice` of specs/steps/Quads, two levels of a column, word by word: four words are crossed. Assumes nothing.
 use mathlib.Core.Path.{_≡_, refl, sym, ap, _∙_}
+use mathlib.Core.Bool.{Bool, true, false}
 use mathlib.Core.List.{List, _++_}
 use Prim.Native.Nat.{ℕ, _+_, _*_, _<_}
 use native.Mathlib.Nat.{add-comm}
@@ -8,6 +9,7 @@ use lib.ListN.{length, getD, take, drop, length-drop, List·getD-append}
 use lib.Seq.{getD-take, getD-drop, getD-append-add, length-take-le}
 use Rattle.field.specs.Residue.{plus, minus, times}
 use Rattle.field.specs.Power.{power}
+use Rattle.field.specs.Words.{Words}
 use Rattle.field.proofs.Ring.{v, _⊗_, ring}
 use Rattle.field.proofs.Powers.{power-zero, power-suc, power-add, power-mul}
 use Rattle.field.proofs.WordLists.{words-append}
@@ -16,7 +18,7 @@ use Rattle.code.specs.Transform.{mixedHalves, unmixed}
 use Rattle.code.specs.steps.Mixing.{Crossing, mixing, unmixing}
 use Rattle.code.proofs.Shapes.{length-two, length-mixed, length-unmixed, words-mixed, words-unmixed}
 use Rattle.code.proofs.Blocks.{OnBlock, lifted-block}
-use Rattle.quads.specs.steps.Quads.{mixingFour, unmixingFour, mixedTwice, unmixedTwice}
+use Rattle.quads.specs.steps.Quads.{mixingFour, unmixingFour, mixedTwice, unmixedTwice, fourOf, turnOf, twice}
 use Rattle.mixing.proofs.Crossing.{Crosses, mixing-crosses, unmixing-crosses}
 use Rattle.quads.proofs.QuadRows.{CrossesFour}
 
@@ -125,7 +127,7 @@ module _ (x m s : ℕ) (turn : power 65537 x m ≡ s) (a : List ℕ) (e : length
         over .high-at mixed-under (m + i) long (omega arith)
         ∙ rw (u1, u3, square x i, further x m i turn) refl
 
-pub mixing-crosses-four : (x m : ℕ) {s : ℕ} → power 65537 x m ≡ s → CrossesFour (mixingFour 65537 s) x m (mixedTwice 65537 x m)
+mixing-crosses-four : (x m : ℕ) {s : ℕ} → power 65537 x m ≡ s → CrossesFour (mixingFour 65537 s) x m (mixedTwice 65537 x m)
 mixing-crosses-four x m {s} turn = record {
   at0 = λ a i e h. mixed-at0 x m s turn a e i h;
   at1 = λ a i e h. mixed-at1 x m s turn a e i h;
@@ -192,7 +194,7 @@ module _ (x m s : ℕ) (turn : power 65537 x m ≡ s) (a : List ℕ) (e : length
         half3 (unmixing 65537) (times 65537 x x) m (unmixed 65537 (times 65537 x x) m) below-crosses below-keeps above above-long i h
         ∙ rw (high0, high1, square x i) refl
 
-pub unmixing-crosses-four : (x m : ℕ) {s : ℕ} → power 65537 x m ≡ s → CrossesFour (unmixingFour 65537 s) x m (unmixedTwice 65537 x m)
+unmixing-crosses-four : (x m : ℕ) {s : ℕ} → power 65537 x m ≡ s → CrossesFour (unmixingFour 65537 s) x m (unmixedTwice 65537 x m)
 unmixing-crosses-four x m {s} turn = record {
   at0 = λ a i e h. unmixed-at0 x m s turn a e i h;
   at1 = λ a i e h. unmixed-at1 x m s turn a e i h;
@@ -200,16 +202,17 @@ unmixing-crosses-four x m {s} turn = record {
   at3 = λ a i e h. unmixed-at3 x m s turn a e i h;
 }
 
--- what is done to a block of rows gives as many, and words of the field
-pub mixedTwice-block : (width m x : ℕ)
-    → OnBlock 65537 ((m + m + (m + m)) * width) (lifted width (m + m + (m + m)) (m + m + (m + m)) (mixedTwice 65537 x m))
-unfolding mixedTwice
-mixedTwice-block width m x =
-    lifted-block 65537 width (m + m + (m + m)) (mixedTwice 65537 x m) (omega arith) (λ c. words-mixed 65537 (omega arith) x (take (m + m) _) (drop (m + m) _))
+pub crosses-four : (back : Bool) (x m : ℕ) → power 65537 x m ≡ turnOf back → CrossesFour (fourOf back) x m (twice back 65537 x m)
+crosses-four false x m turn = mixing-crosses-four x m turn
+crosses-four true x m turn = unmixing-crosses-four x m turn
 
-pub unmixedTwice-block : (width m x : ℕ)
-    → OnBlock 65537 ((m + m + (m + m)) * width) (lifted width (m + m + (m + m)) (m + m + (m + m)) (unmixedTwice 65537 x m))
-unfolding unmixedTwice
-unmixedTwice-block width m x =
-    lifted-block 65537 width (m + m + (m + m)) (unmixedTwice 65537 x m) (omega arith)
-    (λ c. words-append 65537 (omega arith) (words-unmixed 65537 (omega arith) (times 65537 x x) m _) (words-unmixed 65537 (omega arith) (times 65537 x x) m _))
+-- what is done to a block of rows gives as many, and words of the field
+words-twice : (back : Bool) (x m : ℕ) (c : List ℕ) → Words 65537 (twice back 65537 x m c)
+unfolding mixedTwice unmixedTwice
+words-twice false x m c = words-mixed 65537 (omega arith) x (take (m + m) _) (drop (m + m) _)
+words-twice true x m c =
+    words-append 65537 (omega arith) (words-unmixed 65537 (omega arith) (times 65537 x x) m _) (words-unmixed 65537 (omega arith) (times 65537 x x) m _)
+
+pub twice-block : (back : Bool) (width m x : ℕ)
+    → OnBlock 65537 ((m + m + (m + m)) * width) (lifted width (m + m + (m + m)) (m + m + (m + m)) (twice back 65537 x m))
+twice-block back width m x = lifted-block 65537 width (m + m + (m + m)) (twice back 65537 x m) (omega arith) (words-twice back x m)

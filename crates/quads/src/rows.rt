@@ -7,7 +7,7 @@ ghost use Rattle.field.specs.Field.{fermat};
 ghost use Rattle.field.specs.Words.{Words};
 ghost use Rattle.code.specs.Rows.{lifted};
 ghost use Rattle.code.specs.steps.Mixing.{eachBlock};
-ghost use Rattle.quads.specs.steps.Quads.{mixingFour, unmixingFour, quadRow, EntryFactors, QuadFactors, mixedTwice, unmixedTwice};
+ghost use Rattle.quads.specs.steps.Quads.{mixingFour, unmixingFour, quadRow, EntryFactors, QuadFactors, fourOf, turnOf, twice};
 
 // Mixes `width` words of four rows, `far` apart: rows 0 and 1, 2 and 3 under t1; then 0 and 2 under t2, 1 and 3 under t2 times a square root of -1. t3 is t1
 // times t2.
@@ -115,134 +115,86 @@ fn unquad_first_row(part: &mut [u32], at: usize, far: usize, width: usize)
     }
 }
 
-// Mixes four rows under entries of the powers; no product where these are entry 0.
-fn quad_by(part: &mut [u32], at: usize, far: usize, width: usize, powers: &[u32], e: usize)
+// Crosses four rows under entries of the powers, mixing them or, `back`, unmixing them; no product where these are entry 0.
+fn cross_by(
+    part: &mut [u32],
+    at: usize,
+    far: usize,
+    width: usize,
+    powers: &[u32],
+    e: usize,
+    back: bool,
+)
     requires { ⌜ at + far + far + far + width ≤ length (now part) ⌝ }
     requires { ⌜ EntryFactors (fermat .modulus) e (now powers) ⌝ }
     requires { ⌜ Words (fermat .modulus) (now part) ⌝ }
     ensures { λ _. ⌜ now (part .exit) ≡
-        quadRow (mixingFour (fermat .modulus) 65281) (getD (now (powers .entry)) (2 * e % 2048) 0) (getD (now (powers .entry)) (e % 2048) 0) far width at
+        quadRow (fourOf back) (getD (now (powers .entry)) (2 * e % 2048) 0) (getD (now (powers .entry)) (e % 2048) 0) far width at
         (now (part .entry)) ⌝ }
 {
-    if e == 0 {
-        quad_first_row(part, at, far, width);
+    let t1 = powers[2 * e % 2048];
+    let t2 = powers[e % 2048];
+    let t3 = powers[3 * e % 2048];
+    if back {
+        if e == 0 {
+            unquad_first_row(part, at, far, width);
+        } else {
+            unquad_row(part, at, far, width, t1, t2, t3);
+        }
     } else {
-        let t1 = powers[2 * e % 2048];
-        let t2 = powers[e % 2048];
-        let t3 = powers[3 * e % 2048];
-        quad_row(part, at, far, width, t1, t2, t3);
+        if e == 0 {
+            quad_first_row(part, at, far, width);
+        } else {
+            quad_row(part, at, far, width, t1, t2, t3);
+        }
     }
 }
 
-// Mixes 4m rows, two levels at once. Row i's factors are powers of v, entry `step` of the powers: entries 2i, i and 3i steps on, around the table.
-fn quad(part: &mut [u32], m: usize, width: usize, powers: &[u32], step: usize)
+// Mixes 4m rows, or unmixes them, two levels at once. Row i's factors are powers of v, entry `step` of the powers: entries 2i, i and 3i steps on, around the
+// table.
+fn cross(part: &mut [u32], m: usize, width: usize, powers: &[u32], step: usize, back: bool)
     requires { ⌜ length (now part) ≡ (m + m + (m + m)) * width ⌝ }
-    requires { ⌜ QuadFactors (fermat .modulus) 65281 m step (now powers) ⌝ }
+    requires { ⌜ QuadFactors (fermat .modulus) (turnOf back) m step (now powers) ⌝ }
     requires { ⌜ Words (fermat .modulus) (now part) ⌝ }
     ensures { λ _. ⌜ now (part .exit) ≡
-        lifted width (m + m + (m + m)) (m + m + (m + m)) (mixedTwice (fermat .modulus) (getD (now (powers .entry)) step 0) m) (now (part .entry)) ⌝ }
+        lifted width (m + m + (m + m)) (m + m + (m + m)) (twice back (fermat .modulus) (getD (now (powers .entry)) step 0) m) (now (part .entry)) ⌝ }
 {
     let far = m * width;
     let mut e = 0;
     let mut i = 0;
     let mut at = 0;
     while i < m {
-        quad_by(part, at, far, width, powers, e);
+        cross_by(part, at, far, width, powers, e, back);
         e += step;
         at += width;
         i += 1;
     }
 }
 
-// Unmixes four rows under entries of the powers; no product where these are entry 0.
-fn unquad_by(part: &mut [u32], at: usize, far: usize, width: usize, powers: &[u32], e: usize)
-    requires { ⌜ at + far + far + far + width ≤ length (now part) ⌝ }
-    requires { ⌜ EntryFactors (fermat .modulus) e (now powers) ⌝ }
-    requires { ⌜ Words (fermat .modulus) (now part) ⌝ }
-    ensures { λ _. ⌜ now (part .exit) ≡
-        quadRow (unmixingFour (fermat .modulus) 256) (getD (now (powers .entry)) (2 * e % 2048) 0) (getD (now (powers .entry)) (e % 2048) 0) far width at
-        (now (part .entry)) ⌝ }
-{
-    if e == 0 {
-        unquad_first_row(part, at, far, width);
-    } else {
-        let t1 = powers[2 * e % 2048];
-        let t2 = powers[e % 2048];
-        let t3 = powers[3 * e % 2048];
-        unquad_row(part, at, far, width, t1, t2, t3);
-    }
-}
-
-// Unmixes 4m rows, two levels at once.
-fn unquad(part: &mut [u32], m: usize, width: usize, powers: &[u32], step: usize)
-    requires { ⌜ length (now part) ≡ (m + m + (m + m)) * width ⌝ }
-    requires { ⌜ QuadFactors (fermat .modulus) 256 m step (now powers) ⌝ }
-    requires { ⌜ Words (fermat .modulus) (now part) ⌝ }
-    ensures { λ _. ⌜ now (part .exit) ≡
-        lifted width (m + m + (m + m)) (m + m + (m + m)) (unmixedTwice (fermat .modulus) (getD (now (powers .entry)) step 0) m) (now (part .entry)) ⌝ }
-{
-    let far = m * width;
-    let mut e = 0;
-    let mut i = 0;
-    let mut at = 0;
-    while i < m {
-        unquad_by(part, at, far, width, powers, e);
-        e += step;
-        at += width;
-        i += 1;
-    }
-}
-
-// Mixes each of `blocks` blocks of 4m rows, two levels at once.
-pub fn quad_each(
+// Mixes each of `blocks` blocks of 4m rows, or unmixes them, two levels at once.
+pub fn cross_each(
     half: &mut [u32],
     blocks: usize,
     m: usize,
     width: usize,
     powers: &[u32],
     step: usize,
+    back: bool,
 )
     requires { ⌜ length (now half) ≡ blocks * ((m + m + (m + m)) * width) ⌝ }
     requires { ⌜ (m + m + (m + m)) * width < 9223372036854775808 ⌝ }
     requires { ⌜ m < 4294967296 ⌝ }
-    requires { ⌜ QuadFactors (fermat .modulus) 65281 m step (now powers) ⌝ }
+    requires { ⌜ QuadFactors (fermat .modulus) (turnOf back) m step (now powers) ⌝ }
     requires { ⌜ Words (fermat .modulus) (now half) ⌝ }
     ensures { λ _. ⌜ now (half .exit) ≡
         eachBlock blocks ((m + m + (m + m)) * width)
-        (lifted width (m + m + (m + m)) (m + m + (m + m)) (mixedTwice (fermat .modulus) (getD (now (powers .entry)) step 0) m)) (now (half .entry)) ⌝ }
+        (lifted width (m + m + (m + m)) (m + m + (m + m)) (twice back (fermat .modulus) (getD (now (powers .entry)) step 0) m)) (now (half .entry)) ⌝ }
 {
     let size = (m + m + (m + m)) * width;
     let mut at = 0;
     for b in 0..blocks {
         let to = at + size;
-        quad(&mut half[at..to], m, width, powers, step);
-        at = to;
-    }
-}
-
-// Unmixes each of `blocks` blocks of 4m rows, two levels at once.
-pub fn unquad_each(
-    half: &mut [u32],
-    blocks: usize,
-    m: usize,
-    width: usize,
-    powers: &[u32],
-    step: usize,
-)
-    requires { ⌜ length (now half) ≡ blocks * ((m + m + (m + m)) * width) ⌝ }
-    requires { ⌜ (m + m + (m + m)) * width < 9223372036854775808 ⌝ }
-    requires { ⌜ m < 4294967296 ⌝ }
-    requires { ⌜ QuadFactors (fermat .modulus) 256 m step (now powers) ⌝ }
-    requires { ⌜ Words (fermat .modulus) (now half) ⌝ }
-    ensures { λ _. ⌜ now (half .exit) ≡
-        eachBlock blocks ((m + m + (m + m)) * width)
-        (lifted width (m + m + (m + m)) (m + m + (m + m)) (unmixedTwice (fermat .modulus) (getD (now (powers .entry)) step 0) m)) (now (half .entry)) ⌝ }
-{
-    let size = (m + m + (m + m)) * width;
-    let mut at = 0;
-    for b in 0..blocks {
-        let to = at + size;
-        unquad(&mut half[at..to], m, width, powers, step);
+        cross(&mut half[at..to], m, width, powers, step, back);
         at = to;
     }
 }

@@ -41,7 +41,7 @@ pub(crate) fn mix_rows(half: &mut [u32], level: usize, width: usize, powers: &[u
     let mut blocks = code::number::two_to(level) / m;
     while 1 < blocks {
         blocks = blocks / 4;
-        quads::rows::quad_each(half, blocks, m, width, powers, 512 / m);
+        quads::rows::cross_each(half, blocks, m, width, powers, 512 / m, false);
         m = m * 4;
     }
 }
@@ -61,7 +61,7 @@ pub(crate) fn unmix_rows(half: &mut [u32], level: usize, width: usize, powers: &
     let mut m = code::number::two_to(level);
     while 2 < m {
         m = m / 4;
-        quads::rows::unquad_each(half, blocks, m, width, powers, 2048 - 512 / m);
+        quads::rows::cross_each(half, blocks, m, width, powers, 2048 - 512 / m, true);
         blocks = blocks * 4;
     }
     if m == 2 {

@@ -1,10 +1,12 @@
 -- Two levels of mixing and of unmixing at once, on four words and along four rows, and what they ask of their factors. Assumes nothing: these are definitions.
 use mathlib.Core.Path.{_≡_}
+use mathlib.Core.Bool.{Bool, true, false}
 use mathlib.Core.List.{List, _++_}
 use Prim.Native.Nat.{ℕ, zero, suc, _+_, _*_, _-_, _%_, _<_}
 use lib.ListN.{length, getD, set, take, drop}
 use Rattle.field.specs.Residue.{plus, minus, times}
 use Rattle.field.specs.Power.{power}
+use Rattle.field.specs.Field.{fermat}
 use Rattle.code.specs.Transform.{mixedHalves, unmixed}
 
 -- TWO LEVELS of a column of 4 m words: m words are mixed with m words under v * v, in both halves, and then the halves under v
@@ -42,6 +44,19 @@ unmixingFour p s = record {
   out2 = λ t1 t2 a b c d. plus p (times p t2 (minus p a c)) (times p (times p t2 s) (minus p b d));
   out3 = λ t1 t2 a b c d. times p t1 (minus p (times p t2 (minus p a c)) (times p (times p t2 s) (minus p b d)));
 }
+
+-- MIXING, or unmixing (`back`): four words and columns, and the square root of -1 under which the latter half of the rows is crossed
+abbrev pub fourOf : (back : Bool) → Quad
+fourOf false = mixingFour (fermat .modulus) 65281
+fourOf true = unmixingFour (fermat .modulus) 256
+
+abbrev pub turnOf : (back : Bool) → ℕ
+turnOf false = 65281
+turnOf true = 256
+
+abbrev pub twice : (back : Bool) → (p v m : ℕ) → (column : List ℕ) → List ℕ
+twice false p v m c = mixedTwice p v m c
+twice true p v m c = unmixedTwice p v m c
 
 -- the words at x, x + far, x + far + far, x + far + far + far
 abbrev pub setFour : (far x r0 r1 r2 r3 : ℕ) → List ℕ → List ℕ

@@ -78,11 +78,11 @@ now-at c =
     (first (s .args .level) (s .args .width) (s .args .half .now) _ (s .pre .0) (s .pre .1 .0) (at-first .mix-first .kept .0) (e .1 .0) (e .0)
     (at-two .two-to .ensures) (e .1 .1))
 
-div-quad-each : tie.Need-div-quad-each Inv-loop μ-loop
-div-quad-each c = rw (now-at (c .before .before) .levels .m-is) (pow-pos _)
+div-cross-each : tie.Need-div-cross-each Inv-loop μ-loop
+div-cross-each c = rw (now-at (c .before .before) .levels .m-is) (pow-pos _)
 
-quad-each-requires : tie.Need-quad-each-requires Inv-loop μ-loop
-quad-each-requires c κs =
+cross-each-requires : tie.Need-cross-each-requires Inv-loop μ-loop
+cross-each-requires c κs =
     let at-test = c .before in
     let i = now-at (at-test .before) in
     let two = two-left i (at-test .loop-test .taken) in
@@ -112,9 +112,9 @@ loop-again c =
     let at-test = at-each .before .before in
     let s = start-at-test at-test in
     λ rows h. let i = at-test .before .loop .inv rows h in
-    loop-turn i (at-test .loop-test .taken) (at-each .quad-each .kept .0)
+    loop-turn i (at-test .loop-test .taken) (at-each .cross-each .kept .0)
     (mixing-root (s .args .level) (i .l) (s .pre .1 .1 .0) (i .levels .m-is) (i .levels .few) (two-left i (at-test .loop-test .taken)))
-    (at-each .quad-each .ensures)
+    (at-each .cross-each .ensures)
 
 same-length : tie.Need-same-length Inv-loop μ-loop
 same-length c = now-at (c .before) .levels .same
@@ -134,8 +134,8 @@ mix-rows-spec =
     two-to-requires
     div-blocks
     loop-holds
-    div-quad-each
-    quad-each-requires
+    div-cross-each
+    cross-each-requires
     mul-m
     loop-less
     loop-again

@@ -32,14 +32,14 @@ loop-holds c =
     let s = c .before .before .before in
     record { left = s .args .level; levels = unmix-start (s .pre .0) (s .pre .1 .0) (s .pre .1 .1 .1) (c .two-to .ensures) }
 
-div-unquad-each : tie.Need-div-unquad-each Inv-loop μ-loop
-div-unquad-each c = rw (quarter-is (c .before .before .loop .inv) (c .before .loop-test .taken)) (pow-pos _)
+div-cross-each : tie.Need-div-cross-each Inv-loop μ-loop
+div-cross-each c = rw (quarter-is (c .before .before .loop .inv) (c .before .loop-test .taken)) (pow-pos _)
 
-sub-unquad-each : tie.Need-sub-unquad-each Inv-loop μ-loop
-sub-unquad-each c = omega (arith, div-le-self 512 (c .before .before .loop .m / 4))
+sub-cross-each : tie.Need-sub-cross-each Inv-loop μ-loop
+sub-cross-each c = omega (arith, div-le-self 512 (c .before .before .loop .m / 4))
 
-unquad-each-requires : tie.Need-unquad-each-requires Inv-loop μ-loop
-unquad-each-requires c κs =
+cross-each-requires : tie.Need-cross-each-requires Inv-loop μ-loop
+cross-each-requires c κs =
     let at-test = c .before in
     let i = at-test .before .loop .inv in
     let b = at-test .loop-test .taken in
@@ -72,9 +72,9 @@ loop-again c =
     let i = at-test .before .loop .inv in
     let b = at-test .loop-test .taken in
     let s = start-at-loop (at-test .before) in
-    unquad-again i b (at-each .unquad-each .kept .0)
+    unquad-again i b (at-each .cross-each .kept .0)
     (unmixing-root (s .args .level) (i .left - 2) (s .pre .1 .1 .0) (quarter-is i b) (i .levels .few) (omega (arith, two-to-go i b, i .levels .turns)))
-    (at-each .unquad-each .ensures)
+    (at-each .cross-each .ensures)
 
 sum-each-requires : tie.Need-sum-each-requires Inv-loop μ-loop
 sum-each-requires c κs =
@@ -102,9 +102,9 @@ unmix-rows-spec =
     μ-loop
     two-to-requires
     loop-holds
-    div-unquad-each
-    sub-unquad-each
-    unquad-each-requires
+    div-cross-each
+    sub-cross-each
+    cross-each-requires
     mul-blocks
     loop-less
     loop-again

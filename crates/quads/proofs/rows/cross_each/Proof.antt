@@ -1,23 +1,23 @@
--- `quads::rows::unquad_each` meets its contract, by the laws of the loop over blocks of code's proofs/Blocks. Assumes nothing.
+-- `quads::rows::cross_each` meets its contract, by the laws of the loop over blocks of code's proofs/Blocks. Assumes nothing.
 use Prim.Native.Nat.{_+_, _*_, _-_}
 use native.Mathlib.Omega.{arith}
 use lib.ListN.{getD}
 use Rattle.code.specs.Rows.{lifted}
 use Rattle.code.proofs.Blocks.{BlockLoop, block-in, part-long, part-words, blocks-turn, blocks-needs as needs}
-use Rattle.quads.specs.steps.Quads.{unmixedTwice}
-use Rattle.quads.proofs.TwoLevels.{unmixedTwice-block}
-use Rattle.quads.proofs.rows.unquad_each.Statement.{statement}
-use Rattle.quads.proofs.rows.unquad_each.Tie as tie
+use Rattle.quads.specs.steps.Quads.{twice}
+use Rattle.quads.proofs.TwoLevels.{twice-block}
+use Rattle.quads.proofs.rows.cross_each.Statement.{statement}
+use Rattle.quads.proofs.rows.cross_each.Tie as tie
 
 abbrev Inv-loop : tie.InvT-loop
-Inv-loop half₀ blocks m width powers step size at₀ b₀ half at b =
-    BlockLoop half₀ blocks size (lifted width (m + m + (m + m)) (m + m + (m + m)) (unmixedTwice 65537 (getD powers step 0) m)) half at b
+Inv-loop half₀ blocks m width powers step back size at₀ b₀ half at b =
+    BlockLoop half₀ blocks size (lifted width (m + m + (m + m)) (m + m + (m + m)) (twice back 65537 (getD powers step 0) m)) half at b
 
 abbrev μ-loop : tie.MeasureT-loop
-μ-loop half₀ blocks m width powers step size at₀ b₀ half at b = blocks - b
+μ-loop half₀ blocks m width powers step back size at₀ b₀ half at b = blocks - b
 
-unquad-requires : tie.Need-unquad-requires Inv-loop μ-loop
-unquad-requires c κs =
+cross-requires : tie.Need-cross-requires Inv-loop μ-loop
+cross-requires c κs =
     let at-test = c .before in
     let i = at-test .before .loop .inv in
     let s = at-test .before .before .before .before in
@@ -30,11 +30,11 @@ loop-again c =
     let at-quad = c .before .before in
     let at-test = at-quad .before .before in
     let s = at-test .before .before .before .before in
-    blocks-turn (unmixedTwice-block (s .args .width) (s .args .m) (getD (s .args .powers .now) (s .args .step) 0)) (at-test .before .loop .inv)
-    (at-test .loop-test .taken) (at-quad .unquad .ensures)
+    blocks-turn (twice-block (s .args .back) (s .args .width) (s .args .m) (getD (s .args .powers .now) (s .args .step) 0)) (at-test .before .loop .inv)
+    (at-test .loop-test .taken) (at-quad .cross .ensures)
 
-pub unquad-each-spec : {M : Type 1} → statement M
-unquad-each-spec =
+pub cross-each-spec : {M : Type 1} → statement M
+cross-each-spec =
     tie.close
     (tie.spec
     Inv-loop
@@ -49,7 +49,7 @@ unquad-each-spec =
     (λ c. search needs)
     (λ c. search needs)
     (λ c. search needs)
-    unquad-requires
+    cross-requires
     (λ c. search needs)
     (λ c. search needs)
     loop-again

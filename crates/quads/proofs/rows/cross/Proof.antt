@@ -1,19 +1,19 @@
--- `quads::rows::quad` meets its contract, by the laws of the loop over rows of proofs/QuadRows and of two levels of proofs/TwoLevels. Assumes nothing.
+-- `quads::rows::cross` meets its contract, by the laws of the loop over rows of proofs/QuadRows and of two levels of proofs/TwoLevels. Assumes nothing.
 use Prim.Native.Nat.{_-_}
 use native.Mathlib.Omega.{arith}
 use borrow.Author.Needs.{needs}
-use Rattle.quads.specs.steps.Quads.{mixingFour}
-use Rattle.quads.proofs.FourRows.{mixing-four-stores}
+use Rattle.quads.specs.steps.Quads.{fourOf}
+use Rattle.quads.proofs.FourRows.{four-stores}
 use Rattle.quads.proofs.QuadRows.{QuadsLoop, quads-start, rows-in, at-fits, row-factors, e-fits, quads-turn, quads-end}
-use Rattle.quads.proofs.TwoLevels.{mixing-crosses-four}
-use Rattle.quads.proofs.rows.quad.Statement.{statement}
-use Rattle.quads.proofs.rows.quad.Tie as tie
+use Rattle.quads.proofs.TwoLevels.{crosses-four}
+use Rattle.quads.proofs.rows.cross.Statement.{statement}
+use Rattle.quads.proofs.rows.cross.Tie as tie
 
 abbrev Inv-loop : tie.InvT-loop
-Inv-loop part₀ m width powers step far e₀ i₀ at₀ part e i at = QuadsLoop (mixingFour 65537 65281) part₀ m width powers step part e i at
+Inv-loop part₀ m width powers step back far e₀ i₀ at₀ part e i at = QuadsLoop (fourOf back) part₀ m width powers step part e i at
 
 abbrev μ-loop : tie.MeasureT-loop
-μ-loop part₀ m width powers step far e₀ i₀ at₀ part e i at = m - i
+μ-loop part₀ m width powers step back far e₀ i₀ at₀ part e i at = m - i
 
 -- PLACES: `x-at-y c` is the place x that stands before y
 abbrev start-at-test : tie.In-loop Inv-loop μ-loop → tie.Start Inv-loop μ-loop
@@ -31,8 +31,8 @@ loop-holds c =
     let p = c .before .before .pre in
     quads-start (p .0) (p .1 .1)
 
-quad-by-requires : tie.Need-quad-by-requires Inv-loop μ-loop
-quad-by-requires c κs =
+cross-by-requires : tie.Need-cross-by-requires Inv-loop μ-loop
+cross-by-requires c κs =
     let at-test = c .before in
     let i = at-test .before .loop .inv in
     (rows-in i (at-test .loop-test .taken), (row-factors i (start-at-test at-test .pre .1 .0) (at-test .loop-test .taken), i .words))
@@ -51,20 +51,22 @@ loop-again : tie.Need-loop-again Inv-loop μ-loop
 loop-again c =
     let at-row = c .before .before in
     let at-test = at-row .before .before in
-    quads-turn (at-test .before .loop .inv) (mixing-four-stores 65281) (start-at-test at-test .pre .1 .0) (at-test .loop-test .taken) (at-row .quad-by .ensures)
+    quads-turn (at-test .before .loop .inv) (four-stores (start-at-test at-test .args .back)) (start-at-test at-test .pre .1 .0) (at-test .loop-test .taken)
+    (at-row .cross-by .ensures)
 
 returns : tie.Need-returns Inv-loop μ-loop
-returns c = quads-end (c .before .loop .inv) (mixing-crosses-four _ _ (c .before .before .before .before .pre .1 .0 .turn)) (c .loop-test .left)
+returns c = quads-end (c .before .loop .inv) (crosses-four (c .before .before .before .before .args .back) _ _
+(c .before .before .before .before .pre .1 .0 .turn)) (c .loop-test .left)
 
-pub quad-spec : {M : Type 1} → statement M
-quad-spec =
+pub cross-spec : {M : Type 1} → statement M
+cross-spec =
     tie.close
     (tie.spec
     Inv-loop
     μ-loop
     mul-far
     loop-holds
-    quad-by-requires
+    cross-by-requires
     add-e
     add-at
     (λ c. search needs)
