@@ -1,10 +1,10 @@
--- A range of columns decoded: its blocks are those columns of the stripe's blocks, and the logarithms stay. Assumes nothing.
+-- A range of columns decoded: its blocks are those columns of the stripe's blocks. Assumes nothing.
 use mathlib.Core.Path.{_≡_, ap, _∙_}
 use mathlib.Core.Bool.{Bool, true}
 use mathlib.Core.List.{List, _++_, append-assoc}
 use Prim.Native.Nat.{ℕ, _+_, _*_, _≤_}
-use lib.ListN.{take, drop, replicate}
-use lib.Seq.{take-at, drop-at}
+use lib.ListN.{take, replicate}
+use lib.Seq.{take-at}
 use Rattle.code.specs.declared.Stripe.{Stripe}
 use Rattle.code.specs.Stripe.{modulusOf, rootIn, blockCount, positionCount}
 use Rattle.decoder.specs.Decoding.{blocksIn}
@@ -13,7 +13,7 @@ use Rattle.decoder.proofs.DecodeRows.{leaves-blocks}
 use Rattle.image.specs.steps.Loading.{columnsOf}
 use Rattle.rows.specs.steps.Ready.{narrow}
 use Rattle.rows.proofs.ColumnRanges.{decoded-range}
-use Rattle.rows.proofs.RowParts.{length-left, length-blocks}
+use Rattle.rows.proofs.RowParts.{length-blocks}
 use Rattle.columns.specs.steps.Ranges.{isConsistentRange}
 
 module _ (st : Stripe) (ms : List Bool) (r : List ℕ) (from cols : ℕ) where
@@ -21,10 +21,6 @@ module _ (st : Stripe) (ms : List Bool) (r : List ℕ) (from cols : ℕ) where
   words = columnsOf (st .width) from cols (positionCount st) r
 
   module _ {part : List ℕ} (q : part ≡ leftOf (narrow st cols) ms words ++ logsIn st ms) where
-    pub range-logs : drop (positionCount st * cols) part ≡ logsIn st ms
-    range-logs = ap (drop (positionCount st * cols)) q
-        ∙ drop-at (leftOf (narrow st cols) ms words) (logsIn st ms) (positionCount st * cols) (length-left (narrow st cols) ms words)
-
     pub range-blocks : from + cols ≤ st .width → isConsistentRange st ms r from cols ≡ true
         → take (blockCount st * cols) part ≡ columnsOf (st .width) from cols (blockCount st) (blocksIn st ms r)
     range-blocks fit c =

@@ -12,16 +12,19 @@ use Rattle.decoder.specs.Decoding.{consistentTo, consistentColumn, isConsistent
 use Rattle.code.specs.Rows.{column}
 use Rattle.code.specs.declared.Stripe.{Stripe}
 use Rattle.code.specs.Stripe.{modulusOf, rootIn, blockCount, positionCount}
+use Rattle.image.specs.Loading.{areBelow}
 use Rattle.image.specs.steps.Loading.{columnsOf}
 use Rattle.decoder.specs.steps.Decoder.{logsIn}
-use Rattle.columns.specs.steps.Ranges.{copiedRows, columnsFit, RangeFits, isConsistentRange, rangeNumber, scratchWords}
+use Rattle.columns.specs.steps.Ranges.{copiedRows, columnsFit, RangeFits, isConsistentRange, scratchWords}
 use Rattle.columns.specs.steps.Ranges.{fitRange, rangeTaken, withoutFirst}
 use Rattle.field.proofs.Booleans.{both-true, first-false, second-false}
-use Rattle.rows.specs.Decoding.{decodedNumber, solved}
+use Rattle.rows.specs.Decoding.{decodedNumber}
+use Rattle.rows.specs.steps.Ready.{tested, rangeNumber}
 use Rattle.rows.proofs.ColumnRanges.{is-columns, consistent-range}
 use Rattle.columns.proofs.CopiedRows.{length-copied, copied-at, copied-off}
 use Rattle.columns.proofs.TestedRows.{fit-none, fit-more}
-use Rattle.columns.proofs.FullNumbers.{range-zero, nine-differs, else-agrees, ten-more, zero-more, solved-number}
+use Rattle.columns.proofs.FullNumbers.{eight-stray, else-below, nine-differs, else-agrees, ten-more, zero-more, tested-number}
+use Rattle.rows.proofs.StripeNumbers.{range-zero}
 
 -- THE ROWS of which the columns from `skip` up to `from` are copied
 pub record Filled (w skip from n : ℕ) (bs o₀ o : List ℕ) : Type 0 where
@@ -101,8 +104,9 @@ module _ (st : Stripe) (ms : List Bool) (r : List ℕ) (skip : ℕ) (o₀ : List
     pub turns : from ≤ st .width
     pub sized : length s ≡ scratchWords st
     pub logged : drop (scratchWords st - positionCount st) s ≡ logsIn st ms
+    pub below : 0 < from → areBelow (modulusOf st) r ≡ true
     pub agreed : areConsistent from ≡ true
-    pub numbered : number ≡ rangeNumber true (fitTo from)
+    pub numbered : number ≡ rangeNumber true true (fitTo from)
     pub copied : Filled (st .width) skip from (blockCount st) (blocksIn st ms r) o₀ o
 
   pub ranging-start : (s : List ℕ) → length s ≡ scratchWords st → drop (scratchWords st - positionCount st) s ≡ logsIn st ms → Ranging o₀ s 0 0
@@ -111,58 +115,73 @@ module _ (st : Stripe) (ms : List Bool) (r : List ℕ) (skip : ℕ) (o₀ : List
     turns = omega arith;
     sized = e;
     logged = d;
+    below = λ z. absurd (omega arith);
     agreed = refl;
-    numbered = sym (range-zero refl (fit-none (st .width) (blocksIn st ms r) (blockCount st)));
+    numbered = sym (range-zero refl refl (fit-none (st .width) (blocksIn st ms r) (blockCount st)));
     copied = filled-none (st .width) skip (blockCount st) (blocksIn st ms r) o₀;
   }
 
   module _ {o s : List ℕ} {number from : ℕ} (R : Ranging o s number from) {cols found : ℕ} (f : RangeFits st from cols)
-      (e : found ≡ rangeNumber (isConsistentRange st ms r from cols) (fitRange st ms r from cols)) where
-    -- a range that is not consistent
-    pub ranging-fails : found ≡ 9 → isConsistent st ms r ≡ false
-    ranging-fails n =
-        less-consistent (modulusOf st) (rootIn st) (st .k) (st .level) (st .first) (st .width) ms r (from + cols) (st .width) (f .within)
-        (consistent-range (modulusOf st) (rootIn st) (st .k) (st .level) (st .first) ms (st .width) r from cols
-        ∙ first-false (areConsistent from) (nine-differs (isConsistentRange st ms r from cols) (fitRange st ms r from cols) (sym e ∙ n)))
+      (e : found ≡ rangeNumber (areBelow (modulusOf st) r) (isConsistentRange st ms r from cols) (fitRange st ms r from cols)) where
+    -- a word that is not of the field
+    pub ranging-stray : found ≡ 8 → areBelow (modulusOf st) r ≡ false
+    ranging-stray n = eight-stray (areBelow (modulusOf st) r) (isConsistentRange st ms r from cols) (fitRange st ms r from cols) (sym e ∙ n)
 
-    -- a range that is taken: a number that is not 0 becomes that of all
-    module _ (d : found ≡ 9 → ⊥) where
-      fine : isConsistentRange st ms r from cols ≡ true
-      fine = else-agrees (isConsistentRange st ms r from cols) (fitRange st ms r from cols) (λ n. d (e ∙ n))
+    module _ (g : found ≡ 8 → ⊥) where
+      pub ranging-below : areBelow (modulusOf st) r ≡ true
+      ranging-below = else-below (areBelow (modulusOf st) r) (isConsistentRange st ms r from cols) (fitRange st ms r from cols) (λ n. g (e ∙ n))
 
-      one : found ≡ rangeNumber true (fitRange st ms r from cols)
-      one = e ∙ ap (λ (c : Bool). rangeNumber c (fitRange st ms r from cols)) fine
+      number-below : found ≡ rangeNumber true (isConsistentRange st ms r from cols) (fitRange st ms r from cols)
+      number-below = e ∙ ap (λ (b : Bool). rangeNumber b (isConsistentRange st ms r from cols) (fitRange st ms r from cols)) ranging-below
 
-      both : fitTo (from + cols) ≡ (fitTo from && fitRange st ms r from cols)
-      both = fit-more (st .width) from cols (blocksIn st ms r) (blockCount st) (f .some)
+      -- a range that is not consistent
+      pub ranging-fails : found ≡ 9 → isConsistent st ms r ≡ false
+      ranging-fails n =
+          less-consistent (modulusOf st) (rootIn st) (st .k) (st .level) (st .first) (st .width) ms r (from + cols) (st .width) (f .within)
+          (consistent-range (modulusOf st) (rootIn st) (st .k) (st .level) (st .first) ms (st .width) r from cols
+          ∙ first-false (areConsistent from) (nine-differs (isConsistentRange st ms r from cols) (fitRange st ms r from cols) (sym number-below ∙ n)))
 
-      pub number-found : {number′ : ℕ} → (found ≡ 0 → ⊥) → number′ ≡ found → number′ ≡ rangeNumber true (fitTo (from + cols))
-      number-found z q = q ∙ ten-more (fitTo from) (fitRange st ms r from cols) one z ∙ ap (rangeNumber true) (sym both)
+      -- a range that is taken: a number that is not 0 becomes that of all
+      module _ (d : found ≡ 9 → ⊥) where
+        fine : isConsistentRange st ms r from cols ≡ true
+        fine = else-agrees (isConsistentRange st ms r from cols) (fitRange st ms r from cols) (λ n. d (number-below ∙ n))
 
-      pub number-kept : {number′ : ℕ} → found ≡ 0 → number′ ≡ number → number′ ≡ rangeNumber true (fitTo (from + cols))
-      number-kept z q = q ∙ zero-more (fitTo from) (fitRange st ms r from cols) one z (R .numbered) ∙ ap (rangeNumber true) (sym both)
+        one : found ≡ rangeNumber true true (fitRange st ms r from cols)
+        one = number-below ∙ ap (λ (c : Bool). rangeNumber true c (fitRange st ms r from cols)) fine
 
-      pub ranging-turn : {o′ : List ℕ} (s′ : List ℕ) {number′ : ℕ} → skip ≤ st .width → blockCount st * (st .width - skip) ≤ length o₀
-          → (isConsistentRange st ms r from cols ≡ true → o′ ≡ rangeTaken st ms r from cols skip o)
-          → length s′ ≡ length s → drop (scratchWords st - positionCount st) s′ ≡ drop (scratchWords st - positionCount st) s
-          → number′ ≡ rangeNumber true (fitTo (from + cols)) → Ranging o′ s′ number′ (from + cols)
-      ranging-turn s′ few room q same w n = record {
-        turns = f .within;
-        sized = same ∙ R .sized;
-        logged = w ∙ R .logged;
-        agreed = consistent-range (modulusOf st) (rootIn st) (st .k) (st .level) (st .first) ms (st .width) r from cols ∙ both-true fine (R .agreed);
-        numbered = n;
-        copied = filled-more (R .copied) cols (f .within) few room (q fine);
-      }
+        both : fitTo (from + cols) ≡ (fitTo from && fitRange st ms r from cols)
+        both = fit-more (st .width) from cols (blocksIn st ms r) (blockCount st) (f .some)
+
+        pub number-found : {number′ : ℕ} → (found ≡ 0 → ⊥) → number′ ≡ found → number′ ≡ rangeNumber true true (fitTo (from + cols))
+        number-found z q = q ∙ ten-more (fitTo from) (fitRange st ms r from cols) one z ∙ ap (rangeNumber true true) (sym both)
+
+        pub number-kept : {number′ : ℕ} → found ≡ 0 → number′ ≡ number → number′ ≡ rangeNumber true true (fitTo (from + cols))
+        number-kept z q = q ∙ zero-more (fitTo from) (fitRange st ms r from cols) one z (R .numbered) ∙ ap (rangeNumber true true) (sym both)
+
+        pub ranging-turn : {o′ : List ℕ} (s′ : List ℕ) {number′ : ℕ} → skip ≤ st .width → blockCount st * (st .width - skip) ≤ length o₀
+            → (areBelow (modulusOf st) r ≡ true → isConsistentRange st ms r from cols ≡ true → o′ ≡ rangeTaken st ms r from cols skip o)
+            → length s′ ≡ length s → drop (scratchWords st - positionCount st) s′ ≡ drop (scratchWords st - positionCount st) s
+            → number′ ≡ rangeNumber true true (fitTo (from + cols)) → Ranging o′ s′ number′ (from + cols)
+        ranging-turn s′ few room q same w n = record {
+          turns = f .within;
+          sized = same ∙ R .sized;
+          logged = w ∙ R .logged;
+          below = λ _. ranging-below;
+          agreed = consistent-range (modulusOf st) (rootIn st) (st .k) (st .level) (st .first) ms (st .width) r from cols ∙ both-true fine (R .agreed);
+          numbered = n;
+          copied = filled-more (R .copied) cols (f .within) few room (q ranging-below fine);
+        }
 
   -- all ranges
   module _ {o s : List ℕ} {number from : ℕ} (R : Ranging o s number from) (last : st .width ≤ from) where
     all-from : from ≡ st .width
     all-from = omega (arith, R .turns)
 
-    pub ranging-number : st .level ≡ st .k → 0 < st .width → number ≡ decodedNumber (solved st ms r)
+    pub ranging-number : st .level ≡ st .k → 0 < st .width → number ≡ decodedNumber (tested st ms r)
     ranging-number full z =
-        R .numbered ∙ rw all-from (ap (λ (c : Bool). rangeNumber c (fitTo (st .width))) (sym (rw all-from at (R .agreed)))) ∙ solved-number st ms r full z
+        R .numbered
+        ∙ rw all-from (ap₂ (λ (b c : Bool). rangeNumber b c (fitTo (st .width))) (sym (R .below (omega (arith, all-from)))) (sym (rw all-from at (R .agreed))))
+        ∙ tested-number st ms r full z
 
     pub ranging-rows : blockCount st * (st .width - skip) ≤ length o₀
         → o ≡ withoutFirst st ms r skip ++ drop (blockCount st * (st .width - skip)) o₀

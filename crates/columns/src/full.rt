@@ -6,11 +6,12 @@ ghost use lib.ListN.{length, replicate};
 ghost use Rattle.code.specs.Stripe.{blockCount, blockWords};
 ghost use Rattle.layout.specs.Refusals.{ifTaken};
 ghost use Rattle.image.specs.steps.Loading.{rowsIn};
-ghost use Rattle.rows.specs.Decoding.{decodedNumber, decodedWords, solved};
+ghost use Rattle.rows.specs.Decoding.{decodedNumber, decodedWords};
+ghost use Rattle.rows.specs.steps.Ready.{tested};
 ghost use Rattle.columns.specs.steps.Ranges.{Decodable, scratchWords, withoutFirst};
 ghost use Rattle.columns.specs.steps.Full.{decodedData};
 
-// Decodes all columns: 9 or 10, or 0 and the blocks' words without the first `skip` columns; zeros where it is not 0. The scratch is zeros.
+// Decodes all columns: 8, 9 or 10, or 0 and the blocks' words without the first `skip` columns; zeros where it is not 0. The scratch is zeros.
 fn decode_all(
     st: Stripe,
     bytes: &[u8],
@@ -21,9 +22,9 @@ fn decode_all(
 ) -> u32
     requires { ⌜ Decodable st skip (now bytes) (now marks) ⌝ }
     requires { ⌜ (length (now out) ≡ blockCount st * (st .width - skip)) × (length (now scratch) ≡ scratchWords st) ⌝ }
-    ensures { λ r. ⌜ r ≡ decodedNumber (solved st (now (marks .entry)) (rowsIn st (now (marks .entry)) (now (bytes .entry)))) ⌝ }
+    ensures { λ r. ⌜ r ≡ decodedNumber (tested st (now (marks .entry)) (rowsIn st (now (marks .entry)) (now (bytes .entry)))) ⌝ }
     ensures { λ _. ⌜ now (out .exit) ≡
-        ifTaken (decodedNumber (solved st (now (marks .entry)) (rowsIn st (now (marks .entry)) (now (bytes .entry)))))
+        ifTaken (decodedNumber (tested st (now (marks .entry)) (rowsIn st (now (marks .entry)) (now (bytes .entry)))))
         (withoutFirst st (now (marks .entry)) (rowsIn st (now (marks .entry)) (now (bytes .entry))) skip) (replicate (blockCount st * (st .width - skip)) 0) ⌝ }
     ensures { λ _. ⌜ now (scratch .exit) ≡ replicate (scratchWords st) 0 ⌝ }
 {
@@ -36,7 +37,7 @@ fn decode_all(
     number
 }
 
-// Decodes the full stripe: 9 or 10, or 0 and its blocks; zeros where it is not 0. The scratch is zeros.
+// Decodes the full stripe: 8, 9 or 10, or 0 and its blocks; zeros where it is not 0. The scratch is zeros.
 pub fn decode_full(
     st: Stripe,
     bytes: &[u8],
@@ -46,14 +47,14 @@ pub fn decode_full(
 ) -> u32
     requires { ⌜ Decodable st 0 (now bytes) (now marks) ⌝ }
     requires { ⌜ (length (now out) ≡ blockWords st) × (length (now scratch) ≡ scratchWords st) ⌝ }
-    ensures { λ r. ⌜ r ≡ decodedNumber (solved st (now (marks .entry)) (rowsIn st (now (marks .entry)) (now (bytes .entry)))) ⌝ }
-    ensures { λ _. ⌜ now (out .exit) ≡ decodedWords (solved st (now (marks .entry)) (rowsIn st (now (marks .entry)) (now (bytes .entry)))) (blockWords st) ⌝ }
+    ensures { λ r. ⌜ r ≡ decodedNumber (tested st (now (marks .entry)) (rowsIn st (now (marks .entry)) (now (bytes .entry)))) ⌝ }
+    ensures { λ _. ⌜ now (out .exit) ≡ decodedWords (tested st (now (marks .entry)) (rowsIn st (now (marks .entry)) (now (bytes .entry)))) (blockWords st) ⌝ }
     ensures { λ _. ⌜ now (scratch .exit) ≡ replicate (scratchWords st) 0 ⌝ }
 {
     decode_all(st, bytes, marks, 0, out, scratch)
 }
 
-// The records that the full stripe holds: 9 or 10, or 0 and the records; zeros where it is not 0. The scratch is zeros.
+// The records that the full stripe holds: 8, 9 or 10, or 0 and the records; zeros where it is not 0. The scratch is zeros.
 pub fn recover_full(
     st: Stripe,
     bytes: &[u8],
@@ -63,18 +64,18 @@ pub fn recover_full(
 ) -> u32
     requires { ⌜ Decodable st 1 (now bytes) (now marks) ⌝ }
     requires { ⌜ (length (now out) ≡ blockCount st * pred (st .width)) × (length (now scratch) ≡ scratchWords st) ⌝ }
-    ensures { λ r. ⌜ r ≡ decodedNumber (solved st (now (marks .entry)) (rowsIn st (now (marks .entry)) (now (bytes .entry)))) ⌝ }
-    ensures { λ _. ⌜ now (out .exit) ≡ decodedData st (solved st (now (marks .entry)) (rowsIn st (now (marks .entry)) (now (bytes .entry)))) ⌝ }
+    ensures { λ r. ⌜ r ≡ decodedNumber (tested st (now (marks .entry)) (rowsIn st (now (marks .entry)) (now (bytes .entry)))) ⌝ }
+    ensures { λ _. ⌜ now (out .exit) ≡ decodedData st (tested st (now (marks .entry)) (rowsIn st (now (marks .entry)) (now (bytes .entry)))) ⌝ }
     ensures { λ _. ⌜ now (scratch .exit) ≡ replicate (scratchWords st) 0 ⌝ }
 {
     decode_all(st, bytes, marks, 1, out, scratch)
 }
 
-// Whether the full stripe holds records: 9 or 10, or 0. It is lent no room for them. The scratch is zeros.
+// Whether the full stripe holds records: 8, 9 or 10, or 0. It is lent no room for them. The scratch is zeros.
 pub fn check_full(st: Stripe, bytes: &[u8], marks: &[bool], scratch: &mut [u32]) -> u32
     requires { ⌜ Decodable st (st .width) (now bytes) (now marks) ⌝ }
     requires { ⌜ length (now scratch) ≡ scratchWords st ⌝ }
-    ensures { λ r. ⌜ r ≡ decodedNumber (solved st (now (marks .entry)) (rowsIn st (now (marks .entry)) (now (bytes .entry)))) ⌝ }
+    ensures { λ r. ⌜ r ≡ decodedNumber (tested st (now (marks .entry)) (rowsIn st (now (marks .entry)) (now (bytes .entry)))) ⌝ }
     ensures { λ _. ⌜ now (scratch .exit) ≡ replicate (scratchWords st) 0 ⌝ }
 {
     decode_all(st, bytes, marks, st.width, &mut [], scratch)

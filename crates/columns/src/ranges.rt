@@ -7,14 +7,15 @@ ghost use mathlib.Core.Bool.{true};
 ghost use mathlib.Core.List.{_++_};
 ghost use Prim.Native.Nat.{_+_, _*_, _-_, _≤_, _<_, max};
 ghost use lib.ListN.{length, drop};
-ghost use Rattle.code.specs.Stripe.{blockCount, positionCount};
-ghost use Rattle.decoder.specs.Decoding.{isConsistent};
+ghost use Rattle.code.specs.Stripe.{modulusOf, blockCount, positionCount};
 ghost use Rattle.decoder.specs.steps.Decoder.{logsIn};
+ghost use Rattle.image.specs.Loading.{areBelow};
 ghost use Rattle.image.specs.steps.Loading.{rowsIn};
-ghost use Rattle.rows.specs.Decoding.{decodedNumber, solved};
+ghost use Rattle.rows.specs.Decoding.{decodedNumber};
+ghost use Rattle.rows.specs.steps.Ready.{tested, rangeNumber};
 ghost use Rattle.rows.specs.StripeFits.{StripeFits};
 ghost use Rattle.columns.specs.steps.Ranges.{placesTo, dataTo, columnsFit, copiedRows, Decodable, scratchWords, RangeFits, isConsistentRange};
-ghost use Rattle.columns.specs.steps.Ranges.{fitRange, rangeNumber, rangeTaken, withoutFirst};
+ghost use Rattle.columns.specs.steps.Ranges.{fitRange, rangeTaken, withoutFirst};
 
 // Copies `count` words of each row.
 fn copy_rows(out: &mut [u32], to: Lines, words: &[u32], from: Lines, count: usize, rows: usize)
@@ -121,8 +122,9 @@ fn take_range(words: &[u32], st: Stripe, range: Range, out: &mut [u32]) -> bool
     columns_fit(words, from, cols, rows)
 }
 
-// Decodes a range of columns in the last words of the scratch and copies the blocks' words to `out`, as `take_range` does. 9 if no blocks have the surviving
-// words, 10 if the blocks' words are not those of records, 0 otherwise. The logarithms behind the range stay.
+// Decodes a range of columns in the last words of the scratch and copies the blocks' words to `out`, as `take_range` does. 8 if a surviving word of any column
+// is not of the field, 9 if no blocks have the surviving words, 10 if the blocks' words are not those of records, 0 otherwise. The logarithms behind the range
+// stay.
 fn decode_range(
     st: Stripe,
     bytes: &[u8],
@@ -133,13 +135,16 @@ fn decode_range(
 ) -> u32
     requires { ⌜ Decodable st (range .skip) (now bytes) (now marks) ⌝ }
     requires { ⌜ RangeFits st (range .from) (range .cols) ⌝ }
+    requires { ⌜ (0 < range .from → areBelow (modulusOf st) (rowsIn st (now marks) (now bytes)) ≡ true) ⌝ }
     requires { ⌜ blockCount st * (st .width - range .skip) ≤ length (now out) ⌝ }
     requires { ⌜ length (now scratch) ≡ scratchWords st ⌝ }
     requires { ⌜ drop (scratchWords st - positionCount st) (now scratch) ≡ logsIn st (now marks) ⌝ }
     ensures { λ r. ⌜ r ≡
-        rangeNumber (isConsistentRange st (now (marks .entry)) (rowsIn st (now (marks .entry)) (now (bytes .entry))) (range .from) (range .cols))
+        rangeNumber (areBelow (modulusOf st) (rowsIn st (now (marks .entry)) (now (bytes .entry))))
+        (isConsistentRange st (now (marks .entry)) (rowsIn st (now (marks .entry)) (now (bytes .entry))) (range .from) (range .cols))
         (fitRange st (now (marks .entry)) (rowsIn st (now (marks .entry)) (now (bytes .entry))) (range .from) (range .cols)) ⌝ }
-    ensures { λ _. ⌜ (isConsistentRange st (now (marks .entry)) (rowsIn st (now (marks .entry)) (now (bytes .entry))) (range .from) (range .cols) ≡ true →
+    ensures { λ _. ⌜ (areBelow (modulusOf st) (rowsIn st (now (marks .entry)) (now (bytes .entry))) ≡ true →
+        isConsistentRange st (now (marks .entry)) (rowsIn st (now (marks .entry)) (now (bytes .entry))) (range .from) (range .cols) ≡ true →
         now (out .exit) ≡
         rangeTaken st (now (marks .entry)) (rowsIn st (now (marks .entry)) (now (bytes .entry))) (range .from) (range .cols) (range .skip)
         (now (out .entry))) ⌝ }
@@ -149,8 +154,9 @@ fn decode_range(
     let cols = range.cols;
     let start = scratch.len() - 2 * rows * (cols + 1);
     let part = &mut scratch[start..];
-    if !rows::decoding::decode_columns(st, bytes, marks, range.from, cols, part) {
-        return 9;
+    let number = rows::decoding::decode_columns(st, bytes, marks, range.from, cols, part);
+    if number != 0 {
+        return number;
     }
     if take_range(&scratch[start..], st, range, out) {
         return 0;
@@ -158,8 +164,8 @@ fn decode_range(
     10
 }
 
-// Decodes all columns, range by range, to rows that lack the first `skip` columns, in a scratch that ends in the logarithms: 9, 10 or 0. Only the last
-// range tells that none is 9, so that 10 waits for it.
+// Decodes all columns, range by range, to rows that lack the first `skip` columns, in a scratch that ends in the logarithms: 8, 9, 10 or 0. The first range
+// tells whether it is 8; only the last one tells that none is 9, so that 10 waits for it.
 pub(crate) fn decode_ranges(
     st: Stripe,
     bytes: &[u8],
@@ -172,8 +178,8 @@ pub(crate) fn decode_ranges(
     requires { ⌜ blockCount st * (st .width - skip) ≤ length (now out) ⌝ }
     requires { ⌜ length (now scratch) ≡ scratchWords st ⌝ }
     requires { ⌜ drop (scratchWords st - positionCount st) (now scratch) ≡ logsIn st (now marks) ⌝ }
-    ensures { λ r. ⌜ r ≡ decodedNumber (solved st (now (marks .entry)) (rowsIn st (now (marks .entry)) (now (bytes .entry)))) ⌝ }
-    ensures { λ _. ⌜ (isConsistent st (now (marks .entry)) (rowsIn st (now (marks .entry)) (now (bytes .entry))) ≡ true →
+    ensures { λ r. ⌜ r ≡ decodedNumber (tested st (now (marks .entry)) (rowsIn st (now (marks .entry)) (now (bytes .entry)))) ⌝ }
+    ensures { λ r. ⌜ (r ≡ 0 →
         now (out .exit) ≡
         withoutFirst st (now (marks .entry)) (rowsIn st (now (marks .entry)) (now (bytes .entry))) skip ++
         drop (blockCount st * (st .width - skip)) (now (out .entry))) ⌝ }
@@ -189,6 +195,9 @@ pub(crate) fn decode_ranges(
             skip: skip,
         };
         let found = decode_range(st, bytes, marks, range, out, scratch);
+        if found == 8 {
+            return 8;
+        }
         if found == 9 {
             return 9;
         }

@@ -1,6 +1,6 @@
 -- The words of a stripe out of an image: the loops that load them and test them, and what the loaded words are to the decoder. Assumes nothing.
 use mathlib.Core.Path.{_≡_, refl, sym, ap, ap₂, _∙_}
-use mathlib.Core.Bool.{Bool, true, false, _&&_, and-true, and-false}
+use mathlib.Core.Bool.{Bool, true, false, _&&_, and-true, and-false, and-assoc}
 use mathlib.Core.List.{List, _++_}
 use Prim.Native.Nat.{ℕ, zero, suc, _+_, _*_, _/_, _%_, _≤_, _<_}
 use native.Mathlib.Nat.{zero-mul}
@@ -111,29 +111,27 @@ module _ (w n : ℕ) (ms : List Bool) (bs : List ℕ) where
         range-word ∙ kept-word i (from + j) (4 * (i * w)) (omega arith) m refl
         ∙ ap (λ (x : ℕ). numberAt bs x) {x = 4 * (i * w) + 4 * (from + j)} {y = byte + 4 * j} (omega arith)
 
--- THE LOOP over the rows of a stripe whose words are tested: before row i, the rest have to be below p
-pub record RowsLoop (p rows width : ℕ) (f : ℕ → ℕ) (i : ℕ) : Type 0 where
+-- THE LOOP over the rows of a stripe whose words are tested: before row i, all rows passed were fine, and the rest have to be below p
+pub record RowsLoop (p rows width : ℕ) (f : ℕ → ℕ) (fine : Bool) (i : ℕ) : Type 0 where
   pub within : i ≤ rows
-  pub left : areBelow p (drop (i * width) (table (rows * width) f)) ≡ areBelow p (table (rows * width) f)
+  pub left : (fine && areBelow p (drop (i * width) (table (rows * width) f))) ≡ areBelow p (table (rows * width) f)
 
-pub rows-start : (p rows width : ℕ) (f : ℕ → ℕ) → RowsLoop p rows width f 0
+pub rows-start : (p rows width : ℕ) (f : ℕ → ℕ) → RowsLoop p rows width f true 0
 rows-start p rows width f = record { within = omega arith; left = ap (λ (n : ℕ). areBelow p (drop n (table (rows * width) f))) (zero-mul width) }
 
-module _ {p rows width : ℕ} {f : ℕ → ℕ} {i : ℕ} (r : RowsLoop p rows width f i) (h : i < rows) (g : ℕ → ℕ) (e : (j : ℕ) → j < width
-    → f (i * width + j) ≡ g j) where
-  rows-next : (areBelow p (table width g) && areBelow p (drop ((i + 1) * width) (table (rows * width) f))) ≡ areBelow p (table (rows * width) f)
-  rows-next = rw (row-next i width, ← every-append (isBelow p), ← row-of (rows * width) (i * width) width f g (row-in width h) e) (r .left)
+pub rows-turn : {p rows width : ℕ} {f : ℕ → ℕ} {fine : Bool} {i : ℕ} → RowsLoop p rows width f fine i → i < rows → (g : ℕ → ℕ)
+    → ((j : ℕ) → j < width → f (i * width + j) ≡ g j) → {fine′ : Bool} → fine′ ≡ (fine && areBelow p (table width g)) → RowsLoop p rows width f fine′ (i + 1)
+rows-turn {p} {rows} {width} {f} {fine} {i} r h g e {fine′} q = record {
+  within = omega arith;
+  left =
+      rw (q, row-next i width, and-assoc, ← every-append (isBelow p), ← row-of (rows * width) (i * width) width f g (row-in width h) e) (r .left);
+}
 
-  pub rows-turn : areBelow p (table width g) ≡ true → RowsLoop p rows width f (i + 1)
-  rows-turn t = record { within = omega arith; left = rw t at rows-next }
-
-  pub rows-over : areBelow p (table width g) ≡ false → false ≡ areBelow p (table (rows * width) f)
-  rows-over t = rw t at rows-next
-
-pub rows-end : {p rows width : ℕ} {f : ℕ → ℕ} {i : ℕ} → RowsLoop p rows width f i → rows ≤ i → true ≡ areBelow p (table (rows * width) f)
-rows-end {p} {rows} {width} {f} {i} r h =
+pub rows-end : {p rows width : ℕ} {f : ℕ → ℕ} {fine : Bool} {i : ℕ} → RowsLoop p rows width f fine i → rows ≤ i → fine ≡ areBelow p (table (rows * width) f)
+rows-end {p} {rows} {width} {f} {fine} {i} r h =
     let e : i ≡ rows = omega (arith, r .within) in
-    sym (every-end (isBelow p) (table (rows * width) f) (i * width) (rw (e, length-table) (omega arith))) ∙ r .left
+    sym (and-true fine) ∙ ap (λ (b : Bool). fine && b) (sym (every-end (isBelow p) (table (rows * width) f) (i * width) (rw (e, length-table) (omega arith))))
+    ∙ r .left
 
 -- WORDS OF THE FIELD, in all rows and in a range of columns
 pub columns-words : (p width from cols n : ℕ) (r : List ℕ) → 0 < p → areBelow p r ≡ true → Words p (columnsOf width from cols n r)

@@ -41,25 +41,6 @@ fn row_in_field(bytes: &[u8], from: usize, width: usize) -> bool
     fine
 }
 
-// Whether every word of a surviving row is a word of the field.
-pub fn in_field(bytes: &[u8], marks: &[bool], st: Stripe) -> bool
-    requires { ⌜ (st .level ≤ 15) × (length (now bytes) ≡ 4 * stripeWords st) × (positionCount st ≤ length (now marks)) ⌝ }
-    ensures { λ r. ⌜ r ≡ areBelow (modulusOf st) (rowsIn st (now (marks .entry)) (now (bytes .entry))) ⌝ }
-{
-    let rows = code::number::two_to(st.level + 1);
-    let width = st.width;
-    let mut i = 0;
-    while i < rows {
-        if !marks[i] {
-            if !row_in_field(bytes, 4 * (i * width), width) {
-                return false;
-            }
-        }
-        i += 1;
-    }
-    true
-}
-
 // Loads the `cols` words from the byte `from` on to the index `to` on.
 fn load_row(part: &mut [u32], to: usize, bytes: &[u8], from: usize, cols: usize)
     requires { ⌜ (to + cols ≤ length (now part)) × (from + 4 * cols ≤ length (now bytes)) ⌝ }
@@ -104,4 +85,38 @@ pub fn load(part: &mut [u32], bytes: &[u8], marks: &[bool], st: Stripe, from: us
         }
         i += 1;
     }
+}
+
+// Loads the first `cols` words of each row, zeros for a marked row: whether every word of a surviving row is a word of the field. A row is tested right after
+// it is loaded, while its bytes are in the cache.
+pub fn load_and_test(
+    part: &mut [u32],
+    bytes: &[u8],
+    marks: &[bool],
+    st: Stripe,
+    cols: usize,
+) -> bool
+    requires { ⌜ (st .level ≤ 15) × (length (now bytes) ≡ 4 * stripeWords st) × (positionCount st ≤ length (now marks)) ⌝ }
+    requires { ⌜ (cols ≤ st .width) × (positionCount st * cols ≤ length (now part)) ⌝ }
+    ensures { λ r. ⌜ r ≡ areBelow (modulusOf st) (rowsIn st (now (marks .entry)) (now (bytes .entry))) ⌝ }
+    ensures { λ _. ⌜ now (part .exit) ≡
+        columnsOf (st .width) 0 cols (positionCount st) (rowsIn st (now (marks .entry)) (now (bytes .entry))) ++
+        drop (positionCount st * cols) (now (part .entry)) ⌝ }
+{
+    let rows = code::number::two_to(st.level + 1);
+    let width = st.width;
+    let mut fine = true;
+    let mut i = 0;
+    while i < rows {
+        let to = i * cols;
+        if marks[i] {
+            clear_row(part, to, cols);
+        } else {
+            let from = 4 * (i * width);
+            load_row(part, to, bytes, from, cols);
+            fine = fine & row_in_field(bytes, from, width);
+        }
+        i += 1;
+    }
+    fine
 }

@@ -11,16 +11,18 @@ use lib.ListN.{length, take, drop, replicate, length-replicate, drop-of-length-l
 use Rattle.layout.proofs.RecordWords.{replaced-is}
 use lib.Seq.{length-take-le, take-at, drop-drop, drop-append-add}
 use Rattle.code.specs.declared.Stripe.{Stripe}
-use Rattle.code.specs.Stripe.{blockCount, positionCount, blockWords, stripeWords}
+use Rattle.code.specs.Stripe.{modulusOf, blockCount, positionCount, blockWords, stripeWords}
 use Rattle.decoder.specs.Decoding.{isConsistent, blocksIn}
 use Rattle.field.proofs.Booleans.{first-true, second-true}
+use Rattle.image.specs.Loading.{areBelow}
 use Rattle.image.specs.steps.Loading.{columnsOf}
-use Rattle.rows.specs.Decoding.{Decoded, failed, decoded, blockNumber, blockData, areRecords, decodedNumber, decodedWords, solved}
+use Rattle.rows.specs.Decoding.{Decoded, failed, decoded, blockNumber, blockData, areRecords, decodedNumber, decodedWords}
+use Rattle.rows.specs.steps.Ready.{tested}
 use Rattle.rows.specs.StripeFits.{StripeFits}
 use Rattle.rows.proofs.BlockRecords.{record-at, number-low}
 use Rattle.rows.proofs.ColumnRanges.{columns-none, length-columns}
 use Rattle.rows.proofs.RowParts.{length-blocks}
-use Rattle.rows.proofs.StripeNumbers.{solved-nine, solved-ten, solved-blocks}
+use Rattle.rows.proofs.StripeNumbers.{byTests}
 use Rattle.columns.specs.steps.Ranges.{placesTo, dataTo}
 use Rattle.columns.specs.steps.Full.{dataOf, decodedData}
 use Rattle.stripe.proofs.LevelParts.{lent-front, scratch-in, level-needs}
@@ -29,42 +31,42 @@ use Rattle.laying.specs.Laid.{laid}
 use Rattle.laying.specs.steps.Blocks.{laidFrom, NumbersInside}
 
 -- WHAT A STRIPE THAT GIVES 0 CAME TO: blocks that are records
-pub solved-zero : (st : Stripe) (ms : List Bool) (r : List ℕ) → decodedNumber (solved st ms r) ≡ 0
-    → (solved st ms r ≡ decoded (blocksIn st ms r)) × (areRecords st (blocksIn st ms r) (blockCount st) ≡ true)
-solved-zero st ms r z = by (isConsistent st ms r) refl (areRecords st (blocksIn st ms r) (blockCount st)) refl
+pub tested-zero : (st : Stripe) (ms : List Bool) (r : List ℕ) → decodedNumber (tested st ms r) ≡ 0
+    → (tested st ms r ≡ decoded (blocksIn st ms r)) × (areRecords st (blocksIn st ms r) (blockCount st) ≡ true)
+tested-zero st ms r z = by (areBelow (modulusOf st) r) (isConsistent st ms r) (areRecords st (blocksIn st ms r) (blockCount st)) z
   where
-    by : (c : Bool) → isConsistent st ms r ≡ c → (b : Bool) → areRecords st (blocksIn st ms r) (blockCount st) ≡ b
-        → (solved st ms r ≡ decoded (blocksIn st ms r)) × (areRecords st (blocksIn st ms r) (blockCount st) ≡ true)
-    by false c b a = absurd (omega (arith, sym z ∙ ap decodedNumber (solved-nine st ms r c)))
-    by true c false a = absurd (omega (arith, sym z ∙ ap decodedNumber (solved-ten st ms r c a)))
-    by true c true a = (solved-blocks st ms r c a, a)
+    by : (b c f : Bool) → decodedNumber (byTests b c f (blocksIn st ms r)) ≡ 0 → (byTests b c f (blocksIn st ms r) ≡ decoded (blocksIn st ms r)) × (f ≡ true)
+    by false c f z = absurd (omega arith)
+    by true false f z = absurd (omega arith)
+    by true true false z = absurd (omega arith)
+    by true true true z = (refl, refl)
 
 -- ON A LEVEL with the number n, the part x that it was decoded in holds its b blocks in the first words
-module _ (st : Stripe) (ms : List Bool) (r : List ℕ) {n : ℕ} (d : n ≡ decodedNumber (solved st ms r)) where
-  module _ (f : StripeFits st) (z : n ≡ 0) (rest : List ℕ) {x : List ℕ} (q : x ≡ decodedWords (solved st ms r) (stripeWords st + positionCount st) ++ rest)
+module _ (st : Stripe) (ms : List Bool) (r : List ℕ) {n : ℕ} (d : n ≡ decodedNumber (tested st ms r)) where
+  module _ (f : StripeFits st) (z : n ≡ 0) (rest : List ℕ) {x : List ℕ} (q : x ≡ decodedWords (tested st ms r) (stripeWords st + positionCount st) ++ rest)
       {b : ℕ} (e : b ≡ blockCount st) where
     level-front : take (b * st .width) x ≡ blocksIn st ms r
     level-front =
         let bs = blocksIn st ms r in
         let size = stripeWords st + positionCount st in
         rw e
-        (lent-front st ms r rest q ∙ ap (λ (y : Decoded). take (blockWords st) (decodedWords y size)) (solved-zero st ms r (sym d ∙ z) .0)
+        (lent-front st ms r rest q ∙ ap (λ (y : Decoded). take (blockWords st) (decodedWords y size)) (tested-zero st ms r (sym d ∙ z) .0)
         ∙ take-at bs (replicate (size - length bs) 0) (blockWords st) (length-blocks st ms r))
 
     -- each block's record lies inside
     pub level-inside : st .level < st .k → (row : ℕ) (o : List ℕ) → length o ≡ 2 ^ st .k * row → NumbersInside st row (take (b * st .width) x) o
     level-inside w row o es = record {
       inside = λ j i.
-          let at = record-at st (blocksIn st ms r) (blockCount st) (solved-zero st ms r (sym d ∙ z) .1) j i in
+          let at = record-at st (blocksIn st ms r) (blockCount st) (tested-zero st ms r (sym d ∙ z) .1) j i in
           rw (level-front, es) (mul-le-mul-right row (number-low st (blocksIn st ms r) j w at));
     }
 
-    pub level-laid : (g : List ℕ → List ℕ → List ℕ) (o : List ℕ) {o′ : List ℕ} → o′ ≡ g (take (b * st .width) x) o → o′ ≡ laidFrom g (solved st ms r) o
-    level-laid g o ql = ql ∙ rw level-front (sym (ap (λ (y : Decoded). laidFrom g y o) (solved-zero st ms r (sym d ∙ z) .0)))
+    pub level-laid : (g : List ℕ → List ℕ → List ℕ) (o : List ℕ) {o′ : List ℕ} → o′ ≡ g (take (b * st .width) x) o → o′ ≡ laidFrom g (tested st ms r) o
+    level-laid g o ql = ql ∙ rw level-front (sym (ap (λ (y : Decoded). laidFrom g y o) (tested-zero st ms r (sym d ∙ z) .0)))
 
   -- a level that fails leaves the words
-  pub level-kept : (g : List ℕ → List ℕ → List ℕ) (o : List ℕ) → (n ≡ 0 → ⊥) → o ≡ laidFrom g (solved st ms r) o
-  level-kept g o z = by (solved st ms r) (λ y. z (d ∙ y))
+  pub level-kept : (g : List ℕ → List ℕ → List ℕ) (o : List ℕ) → (n ≡ 0 → ⊥) → o ≡ laidFrom g (tested st ms r) o
+  level-kept g o z = by (tested st ms r) (λ y. z (d ∙ y))
     where
       by : (x : Decoded) → (decodedNumber x ≡ 0 → ⊥) → o ≡ laidFrom g x o
       by (failed n) y = refl
@@ -123,10 +125,10 @@ module _ (st : Stripe) (full : st .level ≡ st .k) (thick : 0 < st .width) (bs 
       sym (laid-full n (replicate (n * s) 0) b (omega arith) p
       ∙ ap (λ (y : List ℕ). columnsOf w 1 s n bs ++ y) (drop-of-length-le (replicate (n * s) 0) {i = n * s} (omega arith)) ∙ append-nil (columnsOf w 1 s n bs))
 
-pub data-laid : (st : Stripe) (ms : List Bool) (r : List ℕ) → st .level ≡ st .k → 0 < st .width → {o : List ℕ} → o ≡ decodedData st (solved st ms r)
-    → decodedNumber (solved st ms r) ≡ 0 → (o₀ : List ℕ)
-    → o ≡ laidFrom (λ bs _. laid (pred (st .width)) bs (blockCount st) (replicate (blockCount st * pred (st .width)) 0)) (solved st ms r) o₀
+pub data-laid : (st : Stripe) (ms : List Bool) (r : List ℕ) → st .level ≡ st .k → 0 < st .width → {o : List ℕ} → o ≡ decodedData st (tested st ms r)
+    → decodedNumber (tested st ms r) ≡ 0 → (o₀ : List ℕ)
+    → o ≡ laidFrom (λ bs _. laid (pred (st .width)) bs (blockCount st) (replicate (blockCount st * pred (st .width)) 0)) (tested st ms r) o₀
 data-laid st ms r full thick q z o₀ =
-    let e = solved-zero st ms r z in
+    let e = tested-zero st ms r z in
     q ∙ ap (decodedData st) (e .0) ∙ full-laid st full thick (blocksIn st ms r) (omega (arith, length-blocks st ms r)) (e .1)
     ∙ sym (ap (λ (x : Decoded). laidFrom (λ bs _. laid (pred (st .width)) bs (blockCount st) (replicate (blockCount st * pred (st .width)) 0)) x o₀) (e .0))

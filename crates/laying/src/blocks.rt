@@ -6,9 +6,9 @@ ghost use Prim.Native.Nat.{ℕ, suc, _+_, _*_, _^_, _≤_, _<_};
 ghost use lib.ListN.{length, drop};
 ghost use Rattle.code.specs.Stripe.{blockCount, positionCount, blockWords, stripeWords};
 ghost use Rattle.image.specs.steps.Loading.{rowsIn};
-ghost use Rattle.rows.specs.Decoding.{blockNumber, decodedNumber, decodedWords, solved};
+ghost use Rattle.rows.specs.Decoding.{blockNumber, decodedNumber, decodedWords};
 ghost use Rattle.rows.specs.StripeFits.{StripeFits};
-ghost use Rattle.rows.specs.steps.Ready.{LevelReady};
+ghost use Rattle.rows.specs.steps.Ready.{LevelReady, tested};
 ghost use Rattle.laying.specs.Laid.{laid, originsLaid};
 ghost use Rattle.laying.specs.steps.Blocks.{laidFrom, layBlocks, rowOf, NumbersInside};
 
@@ -61,7 +61,7 @@ fn lay_blocks(origins: bool, st: Stripe, blocks: &[u32], out: &mut [u32])
     }
 }
 
-// Decodes a level in the scratch and lays its blocks: 9 or 10, or 0. Where it is not 0 the output stays. The scratch is left as decoding leaves it.
+// Decodes a level in the scratch and lays its blocks: 8, 9 or 10, or 0. Where it is not 0 the output stays. The scratch is left as decoding leaves it.
 pub fn decode_and_lay(
     origins: bool,
     st: Stripe,
@@ -72,11 +72,11 @@ pub fn decode_and_lay(
 ) -> u32
     requires { ⌜ LevelReady st (now bytes) (now marks) ⌝ }
     requires { ⌜ (length (now out) ≡ 2 ^ st .k * rowOf origins st) × (length (now scratch) ≡ 2 ^ st .k * st .width + 4 * 2 ^ st .k) ⌝ }
-    ensures { λ r. ⌜ r ≡ decodedNumber (solved st (now (marks .entry)) (rowsIn st (now (marks .entry)) (now (bytes .entry)))) ⌝ }
+    ensures { λ r. ⌜ r ≡ decodedNumber (tested st (now (marks .entry)) (rowsIn st (now (marks .entry)) (now (bytes .entry)))) ⌝ }
     ensures { λ _. ⌜ now (out .exit) ≡
-        laidFrom (layBlocks origins st) (solved st (now (marks .entry)) (rowsIn st (now (marks .entry)) (now (bytes .entry)))) (now (out .entry)) ⌝ }
+        laidFrom (layBlocks origins st) (tested st (now (marks .entry)) (rowsIn st (now (marks .entry)) (now (bytes .entry)))) (now (out .entry)) ⌝ }
     ensures { λ _. ⌜ now (scratch .exit) ≡
-        decodedWords (solved st (now (marks .entry)) (rowsIn st (now (marks .entry)) (now (bytes .entry)))) (stripeWords st + positionCount st) ++
+        decodedWords (tested st (now (marks .entry)) (rowsIn st (now (marks .entry)) (now (bytes .entry)))) (stripeWords st + positionCount st) ++
         drop (stripeWords st + positionCount st) (now (scratch .entry)) ⌝ }
 {
     let size = code::number::two_to(st.level) * st.width;

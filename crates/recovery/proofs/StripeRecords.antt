@@ -12,10 +12,11 @@ use Rattle.layout.specs.Header.{headerFits, stripeOf}
 use Rattle.image.specs.Erasures.{Erasure, marksOf}
 use Rattle.image.specs.Loading.{stripeIn}
 use Rattle.image.specs.steps.Loading.{rowsIn}
-use Rattle.rows.specs.Decoding.{Decoded, failed, decoded, decodedNumber, solved}
+use Rattle.rows.specs.Decoding.{Decoded, failed, decoded, decodedNumber}
+use Rattle.rows.specs.steps.Ready.{tested}
 use Rattle.columns.specs.steps.Full.{decodedData}
 use Rattle.stripe.specs.Decoding.{decodeStripe}
-use Rattle.stripe.proofs.StripeAnswers.{handed-needs, readyOf, unready-is, same-solved, solved-number, numbers-fit, is-full}
+use Rattle.stripe.proofs.StripeAnswers.{handed-needs, readyOf, unready-is, same-tested, tested-number, numbers-fit, is-full}
 use Rattle.laying.specs.Laid.{laid, pairsTo}
 use Rattle.laying.specs.steps.Blocks.{laidFrom, layBlocks, rowOf}
 use Rattle.recovery.specs.Origins.{fullOrigins}
@@ -55,31 +56,31 @@ sound h m gs l z =
 
 -- a stripe that is handed on, as in `StripeAnswers`, and decoded
 module _ (h : Header) (m : List ℕ) (gs : List Erasure) (l : ℕ) {st : Stripe} {marks : List Bool} {bs : List ℕ}
-    (e : st ≡ stripeOf h l) (em : marks ≡ marksOf h gs l) (eb : bs ≡ stripeIn h m l) {r : ℕ} (q : r ≡ readyOf h m gs l) (z : r ≡ 0) {x : List ℕ} where
-  pub same-laid : (b : Bool) (o : List ℕ) → x ≡ laidFrom (layBlocks b st) (solved st marks (rowsIn st marks bs)) o
+    (e : st ≡ stripeOf h l) (em : marks ≡ marksOf h gs l) (eb : bs ≡ stripeIn h m l) {r : ℕ} (q : r ≡ readyOf h gs l) (z : r ≡ 0) {x : List ℕ} where
+  pub same-laid : (b : Bool) (o : List ℕ) → x ≡ laidFrom (layBlocks b st) (tested st marks (rowsIn st marks bs)) o
       → x ≡ laidFrom (layerOf b h .over l) (decodeStripe h m gs l) o
   same-laid b o ex =
-      ex ∙ ap (λ (d : Decoded). laidFrom (layBlocks b st) d o) (same-solved h m gs l e em eb q z)
+      ex ∙ ap (λ (d : Decoded). laidFrom (layBlocks b st) d o) (same-tested h gs l e em q z m eb)
       ∙ ap (λ (y : Stripe). laidFrom (layBlocks b y) (decodeStripe h m gs l) o) e ∙ over-is h l b (decodeStripe h m gs l) o
 
   -- the full stripe gives its data, or its origins, where its number is 0
-  module _ (w : headerFits h ≡ true) (f : l ≡ h .k) {b : Bool} {n : ℕ} (p : n ≡ decodedNumber (solved st marks (rowsIn st marks bs))) where
-    pub full-data : b ≡ false → x ≡ decodedData st (solved st marks (rowsIn st marks bs)) → (o : List ℕ) → n ≡ 0
+  module _ (w : headerFits h ≡ true) (f : l ≡ h .k) {b : Bool} {n : ℕ} (p : n ≡ decodedNumber (tested st marks (rowsIn st marks bs))) where
+    pub full-data : b ≡ false → x ≡ decodedData st (tested st marks (rowsIn st marks bs)) → (o : List ℕ) → n ≡ 0
         → x ≡ laidFrom (λ cs _. layerOf b h .full cs) (decodeStripe h m gs l) o
     full-data t ex o v =
         data-laid st marks (rowsIn st marks bs) (is-full h l e f) (omega (arith, numbers-fit h l e w (omega arith) .thick)) ex (sym p ∙ v) o
         ∙ ap (λ (d : Decoded). laidFrom (λ cs _. laid (pred (st .width)) cs (blockCount st) (replicate (blockCount st * pred (st .width)) 0)) d o)
-        (same-solved h m gs l e em eb q z) ∙ rw (e, f, t)
+        (same-tested h gs l e em q z m eb) ∙ rw (e, f, t)
 
     pub full-named : b ≡ true → x ≡ pairsTo (λ i. st .k) (λ i. 0) (blockCount st) → (o : List ℕ) → n ≡ 0
         → x ≡ laidFrom (λ cs _. layerOf b h .full cs) (decodeStripe h m gs l) o
     full-named t ex o v =
-        let u = sound h m gs l (sym (solved-number h m gs l e em eb q z p) ∙ v) in
+        let u = sound h m gs l (sym (tested-number h gs l e em q z m eb p) ∙ v) in
         let all : pairsTo (λ i. st .k) (λ i. 0) (blockCount st) ≡ fullOrigins h = rw (e, f) in
         ex ∙ all ∙ sym (ap (λ (d : Decoded). laidFrom (λ cs _. layerOf b h .full cs) d o) (u .1) ∙ ap (λ (y : Bool). layerOf y h .full (u .0)) t)
 
 -- a stripe that fails leaves the words
-pub unready-laid : (h : Header) (m : List ℕ) (gs : List Erasure) (l : ℕ) {n : ℕ} → n ≡ readyOf h m gs l → (n ≡ 0 → ⊥)
+pub unready-laid : (h : Header) (m : List ℕ) (gs : List Erasure) (l : ℕ) {n : ℕ} → n ≡ readyOf h gs l → (n ≡ 0 → ⊥)
     → (g : List ℕ → List ℕ → List ℕ) (o : List ℕ) → o ≡ laidFrom g (decodeStripe h m gs l) o
 unready-laid h m gs l q d g o = sym (ap (λ (x : Decoded). laidFrom g x o) (unready-is h m gs l q d))
 

@@ -8,14 +8,15 @@ ghost use lib.ListN.{length, replicate};
 ghost use Rattle.code.specs.Stripe.{blockCount};
 ghost use Rattle.layout.specs.Header.{scratchSize};
 ghost use Rattle.image.specs.steps.Loading.{rowsIn};
-ghost use Rattle.rows.specs.Decoding.{decodedNumber, solved};
+ghost use Rattle.rows.specs.Decoding.{decodedNumber};
+ghost use Rattle.rows.specs.steps.Ready.{tested};
 ghost use Rattle.columns.specs.steps.Ranges.{Decodable, scratchWords};
 ghost use Rattle.laying.specs.Laid.{pairsTo};
 ghost use Rattle.laying.specs.steps.Blocks.{laidFrom};
 ghost use Rattle.recovery.specs.RecoveryCall.{answerOf, recoveredWords};
 ghost use Rattle.recovery.specs.steps.Laying.{layerOf, laidSize, decoding, levelsLaid, stripesLaid, LayingFits};
 
-// Tests the full stripe, and names it as the origin of every record: 9 or 10, or 0.
+// Tests the full stripe, and names it as the origin of every record: 8, 9 or 10, or 0.
 fn full_origins(
     st: Stripe,
     bytes: &[u8],
@@ -25,7 +26,7 @@ fn full_origins(
 ) -> u32
     requires { ⌜ Decodable st (st .width) (now bytes) (now marks) ⌝ }
     requires { ⌜ (length (now out) ≡ blockCount st * 2) × (length (now scratch) ≡ scratchWords st) ⌝ }
-    ensures { λ r. ⌜ r ≡ decodedNumber (solved st (now (marks .entry)) (rowsIn st (now (marks .entry)) (now (bytes .entry)))) ⌝ }
+    ensures { λ r. ⌜ r ≡ decodedNumber (tested st (now (marks .entry)) (rowsIn st (now (marks .entry)) (now (bytes .entry)))) ⌝ }
     ensures { λ _. ⌜ now (out .exit) ≡ pairsTo (λ i. st .k) (λ i. 0) (blockCount st) ⌝ }
 {
     let rows = code::number::two_to(st.level);
@@ -45,7 +46,7 @@ fn lay_full(task: Task, image: &[u8], erasures: &[u8], out: &mut [u32], scratch:
     let header = task.header;
     let k = header.k as usize;
     let mut marks = [false; 2048];
-    let number = stripe::marking::mark_and_test(header, image, erasures, k, &mut marks);
+    let number = stripe::marking::mark_and_count(header, erasures, k, &mut marks);
     if number != 0 {
         return number;
     }
@@ -75,7 +76,7 @@ fn lay_level(
 {
     let header = task.header;
     let mut marks = [false; 2048];
-    let number = stripe::marking::mark_and_test(header, image, erasures, level, &mut marks);
+    let number = stripe::marking::mark_and_count(header, erasures, level, &mut marks);
     if number != 0 {
         return number;
     }

@@ -68,7 +68,7 @@ logs-last n cols size part e = ap (λ (k : ℕ). drop k part) {x = n * cols} {y 
 
 -- DECODED: the rows as decoding leaves them, and the logarithms or what has come in their place
 module _ (st : Stripe) (ms : List Bool) (r : List ℕ) where
-  pub length-left : length (leftOf st ms r) ≡ stripeWords st
+  length-left : length (leftOf st ms r) ≡ stripeWords st
   length-left = by (isConsistent st ms r) refl
     where
       by : (b : Bool) → isConsistent st ms r ≡ b → length (leftOf st ms r) ≡ stripeWords st
@@ -80,6 +80,9 @@ module _ (st : Stripe) (ms : List Bool) (r : List ℕ) where
 
   pub length-blocks : length (blocksIn st ms r) ≡ blockWords st
   length-blocks = length-decoded (modulusOf st) (rootIn st) (st .k) (st .level) (st .first) ms (st .width) r
+
+  pub left-logs : {part : List ℕ} → part ≡ leftOf st ms r ++ logsIn st ms → drop (stripeWords st) part ≡ logsIn st ms
+  left-logs q = ap (drop (stripeWords st)) q ∙ drop-at (leftOf st ms r) (logsIn st ms) (stripeWords st) length-left
 
   -- zeros in place of the logarithms
   pub logs-cleared : {rows : ℕ} {part x : List ℕ} → part ≡ leftOf st ms r ++ logsIn st ms → rows ≡ stripeWords st

@@ -14,14 +14,16 @@ use lib.Pow.{pow-mono}
 use Rattle.field.specs.Words.{table}
 use Rattle.field.proofs.WordLists.{is-table}
 use Rattle.code.specs.declared.Stripe.{Stripe}
-use Rattle.code.specs.Stripe.{blockCount, positionCount, blockWords, stripeWords}
+use Rattle.code.specs.Stripe.{modulusOf, blockCount, positionCount, blockWords, stripeWords}
 use Rattle.code.specs.steps.Storing.{stored, wordFrom}
 use Rattle.code.proofs.RowLaws.{stored-front}
 use Rattle.decoder.specs.Decoding.{isConsistent, blocksIn}
-use Rattle.rows.specs.Decoding.{Decoded, failed, decoded, areRecords, decodedWords, solved}
+use Rattle.image.specs.Loading.{areBelow}
+use Rattle.rows.specs.Decoding.{Decoded, failed, decoded, areRecords, decodedWords}
+use Rattle.rows.specs.steps.Ready.{tested}
 use Rattle.rows.specs.StripeFits.{StripeFits}
 use Rattle.rows.proofs.RowParts.{length-blocks, twice}
-use Rattle.rows.proofs.StripeNumbers.{solved-nine, solved-ten, solved-blocks}
+use Rattle.rows.proofs.StripeNumbers.{byTests}
 
 -- THE ROOM of a level: its rows and a logarithm for each position fit into the scratch, and its blocks into an output
 pub blocks-room : (st : Stripe) → blockWords st ≤ stripeWords st + positionCount st
@@ -56,13 +58,14 @@ data Comes (st : Stripe) (d : Decoded) : Type 0 where
   fails : (n : ℕ) → d ≡ failed n → Comes st d
   gives : (bs : List ℕ) → d ≡ decoded bs → length bs ≡ blockWords st → Comes st d
 
-comes : (st : Stripe) (ms : List Bool) (r : List ℕ) → Comes st (solved st ms r)
-comes st ms r = by (isConsistent st ms r) refl (areRecords st (blocksIn st ms r) (blockCount st)) refl
+comes : (st : Stripe) (ms : List Bool) (r : List ℕ) → Comes st (tested st ms r)
+comes st ms r = by (areBelow (modulusOf st) r) (isConsistent st ms r) (areRecords st (blocksIn st ms r) (blockCount st))
   where
-    by : (c : Bool) → isConsistent st ms r ≡ c → (b : Bool) → areRecords st (blocksIn st ms r) (blockCount st) ≡ b → Comes st (solved st ms r)
-    by false c b a = fails 9 (solved-nine st ms r c)
-    by true c false a = fails 10 (solved-ten st ms r c a)
-    by true c true a = gives (blocksIn st ms r) (solved-blocks st ms r c a) (length-blocks st ms r)
+    by : (b c f : Bool) → Comes st (byTests b c f (blocksIn st ms r))
+    by false c f = fails 8 refl
+    by true false f = fails 9 refl
+    by true true false = fails 10 refl
+    by true true true = gives (blocksIn st ms r) refl (length-blocks st ms r)
 
 replicate-front : (n m : ℕ) → n ≤ m → take {A = ℕ} n (replicate m 0) ≡ replicate n 0
 replicate-front n m b =
@@ -72,7 +75,7 @@ replicate-front n m b =
 
 -- the blocks' words, or as many zeros, in front of a larger buffer
 pub front : (st : Stripe) (ms : List Bool) (r : List ℕ) (n m : ℕ) → blockWords st ≤ n → blockWords st ≤ m
-    → take (blockWords st) (decodedWords (solved st ms r) n) ++ replicate (m - blockWords st) 0 ≡ decodedWords (solved st ms r) m
+    → take (blockWords st) (decodedWords (tested st ms r) n) ++ replicate (m - blockWords st) 0 ≡ decodedWords (tested st ms r) m
 front st ms r n m a b = by (comes st ms r)
   where
     by : {d : Decoded} → Comes st d → take (blockWords st) (decodedWords d n) ++ replicate (m - blockWords st) 0 ≡ decodedWords d m
@@ -100,10 +103,10 @@ copied-front n l o m a b e =
 
 -- the blocks' words in the scratch, whose first words came back decoded
 pub lent-front : (st : Stripe) (ms : List Bool) (r : List ℕ) {x : List ℕ} (rest : List ℕ)
-    → x ≡ decodedWords (solved st ms r) (stripeWords st + positionCount st) ++ rest
-    → take (blockWords st) x ≡ take (blockWords st) (decodedWords (solved st ms r) (stripeWords st + positionCount st))
+    → x ≡ decodedWords (tested st ms r) (stripeWords st + positionCount st) ++ rest
+    → take (blockWords st) x ≡ take (blockWords st) (decodedWords (tested st ms r) (stripeWords st + positionCount st))
 lent-front st ms r {x} rest q =
-    rw q (take-before (blockWords st) (decodedWords (solved st ms r) (stripeWords st + positionCount st)) rest
+    rw q (take-before (blockWords st) (decodedWords (tested st ms r) (stripeWords st + positionCount st)) rest
     (rw (words-long (comes st ms r)) (blocks-room st)))
   where
     words-long : {d : Decoded} → Comes st d → length (decodedWords d (stripeWords st + positionCount st)) ≡ stripeWords st + positionCount st
@@ -118,9 +121,9 @@ lent-front st ms r {x} rest q =
 
 -- A LEVEL that is decoded in the scratch l and copied from there to an output o of zeros
 pub copied-level : (st : Stripe) (ms : List Bool) (r rest : List ℕ) → st .level < st .k → {b : ℕ} → b ≡ blockCount st → {l : List ℕ}
-    → l ≡ decodedWords (solved st ms r) (stripeWords st + positionCount st) ++ rest → {n : ℕ} → n ≡ 2 ^ st .k * st .width + 4 * 2 ^ st .k → length l ≡ n
+    → l ≡ decodedWords (tested st ms r) (stripeWords st + positionCount st) ++ rest → {n : ℕ} → n ≡ 2 ^ st .k * st .width + 4 * 2 ^ st .k → length l ≡ n
     → {m : ℕ} {o x : List ℕ} → m ≡ 2 ^ st .k * st .width → o ≡ replicate m 0 → x ≡ stored 0 (wordFrom l 0) (b * st .width) o
-    → x ≡ decodedWords (solved st ms r) (2 ^ st .k * st .width)
+    → x ≡ decodedWords (tested st ms r) (2 ^ st .k * st .width)
 copied-level st ms r rest w {b} e {l} el en k {m} {o} {x} em eo ex =
     let n = 2 ^ st .k * st .width in
     ex ∙ copied-front (b * st .width) l o n (scratch-in st w e en k) (out-in st w e em (sym em)) (eo ∙ ap (λ (i : ℕ). replicate i 0) em)

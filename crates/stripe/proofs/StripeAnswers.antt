@@ -18,20 +18,20 @@ use Rattle.image.specs.Loading.{stripeIn}
 use Rattle.image.specs.steps.Loading.{rowsIn}
 use Rattle.image.proofs.Marking.{length-flags}
 use Rattle.image.proofs.StripeLoads.{stripe-long}
-use Rattle.rows.specs.Decoding.{Decoded, failed, decodedNumber, decodedWords, solved}
-use Rattle.rows.specs.steps.Ready.{readyNumber, Ready}
+use Rattle.rows.specs.Decoding.{Decoded, failed, decodedNumber, decodedWords}
+use Rattle.rows.specs.steps.Ready.{readyNumber, tested, Ready}
 use Rattle.rows.specs.StripeFits.{StripeFits}
-use Rattle.rows.proofs.StripeNumbers.{ready, decoded-unready, is-solved, stripe-fits}
+use Rattle.rows.proofs.StripeNumbers.{ready, decoded-unready, is-tested, stripe-fits}
 use Rattle.columns.specs.steps.Ranges.{scratchWords}
 use Rattle.stripe.specs.Decoding.{decodeStripe}
 
--- the number of its tests 7 and 8
-abbrev pub readyOf : Header → (image : List ℕ) → List Erasure → (stripe : ℕ) → ℕ
-readyOf h m gs l = readyNumber (stripeOf h l) (marksOf h gs l) (rowsIn (stripeOf h l) (marksOf h gs l) (stripeIn h m l))
+-- the number of its test 7
+abbrev pub readyOf : Header → List Erasure → (stripe : ℕ) → ℕ
+readyOf h gs l = readyNumber (stripeOf h l) (marksOf h gs l)
 
 -- a number that is not 0: the stripe fails by it, and leaves zeros
-module _ (h : Header) (m : List ℕ) (gs : List Erasure) (l : ℕ) {n : ℕ} (q : n ≡ readyOf h m gs l) (d : n ≡ 0 → ⊥) where
-  unready : decodeStripe h m gs l ≡ failed (readyOf h m gs l)
+module _ (h : Header) (m : List ℕ) (gs : List Erasure) (l : ℕ) {n : ℕ} (q : n ≡ readyOf h gs l) (d : n ≡ 0 → ⊥) where
+  unready : decodeStripe h m gs l ≡ failed (readyOf h gs l)
   unready = decoded-unready (stripeOf h l) (marksOf h gs l) (rowsIn (stripeOf h l) (marksOf h gs l) (stripeIn h m l)) (λ z. d (q ∙ z))
 
   pub unready-is : decodeStripe h m gs l ≡ failed n
@@ -89,31 +89,29 @@ module _ (h : Header) (l : ℕ) {st : Stripe} (e : st ≡ stripeOf h l) where
   bytes-fit m f w i eb = rw (e, eb) (stripe-long h m l (rw i (inside h l (fits h f) w)))
 
 -- A STRIPE THAT IS HANDED ON: st, marks and bs are the numbers, the marks and the bytes of stripe l of the image m under the erasures gs
-module _ (h : Header) (m : List ℕ) (gs : List Erasure) (l : ℕ) {st : Stripe} {marks : List Bool} {bs : List ℕ}
-    (e : st ≡ stripeOf h l) (em : marks ≡ marksOf h gs l) (eb : bs ≡ stripeIn h m l) where
-  pub same-number : {n : ℕ} → n ≡ readyNumber st marks (rowsIn st marks bs) → n ≡ readyOf h m gs l
-  same-number q = q ∙ rw (e, em, eb)
+module _ (h : Header) (gs : List Erasure) (l : ℕ) {st : Stripe} {marks : List Bool} (e : st ≡ stripeOf h l) (em : marks ≡ marksOf h gs l) where
+  pub same-number : {n : ℕ} → n ≡ readyNumber st marks → n ≡ readyOf h gs l
+  same-number q = q ∙ rw (e, em)
 
-  -- whose tests 7 and 8 gave 0
-  module _ {r : ℕ} (q : r ≡ readyOf h m gs l) (z : r ≡ 0) where
-    pub is-ready : headerFits h ≡ true → l ≤ h .k → Ready st marks (rowsIn st marks bs)
-    is-ready f w =
-        rw (e, em, eb)
-        (ready (stripeOf h l) (marksOf h gs l) (rowsIn (stripeOf h l) (marksOf h gs l) (stripeIn h m l)) (stripe-fits h l f w)
-        (marks-enough h l e gs f w) (sym q ∙ z))
+  -- whose test 7 gave 0
+  module _ {r : ℕ} (q : r ≡ readyOf h gs l) (z : r ≡ 0) where
+    pub is-ready : headerFits h ≡ true → l ≤ h .k → Ready st marks
+    is-ready f w = rw (e, em) (ready (stripeOf h l) (marksOf h gs l) (stripe-fits h l f w) (marks-enough h l e gs f w) (sym q ∙ z))
 
-    pub same-solved : solved st marks (rowsIn st marks bs) ≡ decodeStripe h m gs l
-    same-solved = rw (e, em, eb) (sym (is-solved (stripeOf h l) (marksOf h gs l) (rowsIn (stripeOf h l) (marksOf h gs l) (stripeIn h m l)) (sym q ∙ z)))
+    module _ (m : List ℕ) {bs : List ℕ} (eb : bs ≡ stripeIn h m l) where
+      pub same-tested : tested st marks (rowsIn st marks bs) ≡ decodeStripe h m gs l
+      same-tested = rw (e, em, eb) (sym (is-tested (stripeOf h l) (marksOf h gs l) (rowsIn (stripeOf h l) (marksOf h gs l) (stripeIn h m l)) (sym q ∙ z)))
 
-    pub solved-number : {n : ℕ} → n ≡ decodedNumber (solved st marks (rowsIn st marks bs)) → n ≡ decodedNumber (decodeStripe h m gs l)
-    solved-number o = o ∙ ap decodedNumber same-solved
+      pub tested-number : {n : ℕ} → n ≡ decodedNumber (tested st marks (rowsIn st marks bs)) → n ≡ decodedNumber (decodeStripe h m gs l)
+      tested-number o = o ∙ ap decodedNumber same-tested
 
-    module _ {x : List ℕ} where
-      pub full-words : l ≡ h .k → x ≡ decodedWords (solved st marks (rowsIn st marks bs)) (blockWords st) → x ≡ decodedWords (decodeStripe h m gs l) (outSize h)
-      full-words f o = o ∙ ap₂ decodedWords same-solved (sym (full-out h l e f refl))
+      module _ {x : List ℕ} where
+        pub full-words : l ≡ h .k → x ≡ decodedWords (tested st marks (rowsIn st marks bs)) (blockWords st)
+            → x ≡ decodedWords (decodeStripe h m gs l) (outSize h)
+        full-words f o = o ∙ ap₂ decodedWords same-tested (sym (full-out h l e f refl))
 
-      pub level-words : x ≡ decodedWords (solved st marks (rowsIn st marks bs)) (2 ^ st .k * st .width) → x ≡ decodedWords (decodeStripe h m gs l) (outSize h)
-      level-words o = o ∙ ap₂ decodedWords same-solved (sym (level-out h l e refl))
+        pub level-words : x ≡ decodedWords (tested st marks (rowsIn st marks bs)) (2 ^ st .k * st .width) → x ≡ decodedWords (decodeStripe h m gs l) (outSize h)
+        level-words o = o ∙ ap₂ decodedWords same-tested (sym (level-out h l e refl))
 
 pub not-full : {l k : ℕ} → l ≤ k → (l ≡ k → ⊥) → l < k
 not-full w d = omega arith
@@ -124,6 +122,6 @@ cleared e o = o ∙ rw e
 -- what the needs of the functions that hand a stripe on follow from
 pub ruleset stripe-sizes = (is-full, is-level, not-full, full-out, full-scratch, full-zeros, level-out, level-scratch, level-zeros, cleared)
 
-pub ruleset stripe-answers = (unready-number, unready-words, same-number, is-ready, solved-number, full-words, level-words)
+pub ruleset stripe-answers = (unready-number, unready-words, same-number, is-ready, tested-number, full-words, level-words)
 
 pub ruleset handed-needs = (stripe-sizes, numbers-fit, some-words, marks-fit, bytes-fit, stripe-answers, needs)

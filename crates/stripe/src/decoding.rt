@@ -8,8 +8,8 @@ ghost use lib.ListN.{length, replicate};
 ghost use Rattle.layout.specs.Header.{headerFits, outSize, scratchSize, imageSize};
 ghost use Rattle.image.specs.Erasures.{erasuresIn};
 ghost use Rattle.image.specs.steps.Loading.{rowsIn};
-ghost use Rattle.rows.specs.Decoding.{decodedNumber, decodedWords, solved};
-ghost use Rattle.rows.specs.steps.Ready.{LevelReady};
+ghost use Rattle.rows.specs.Decoding.{decodedNumber, decodedWords};
+ghost use Rattle.rows.specs.steps.Ready.{LevelReady, tested};
 ghost use Rattle.stripe.specs.Decoding.{decodeStripe};
 ghost use Rattle.stripe.specs.StripeCall.{decodeEarly, decodeNumber, decodeLeaves, decodeScratch};
 
@@ -42,7 +42,7 @@ fn decode_early(
     6
 }
 
-// Decodes a level in the scratch: 9 or 10, or 0 and its blocks, zeros after them; zeros where it is not 0. The scratch is zeros.
+// Decodes a level in the scratch: 8, 9 or 10, or 0 and its blocks, zeros after them; zeros where it is not 0. The scratch is zeros.
 fn decode_level(
     st: Stripe,
     bytes: &[u8],
@@ -52,9 +52,9 @@ fn decode_level(
 ) -> u32
     requires { ⌜ LevelReady st (now bytes) (now marks) ⌝ }
     requires { ⌜ (length (now out) ≡ 2 ^ st .k * st .width) × (length (now scratch) ≡ 2 ^ st .k * st .width + 4 * 2 ^ st .k) ⌝ }
-    ensures { λ r. ⌜ r ≡ decodedNumber (solved st (now (marks .entry)) (rowsIn st (now (marks .entry)) (now (bytes .entry)))) ⌝ }
+    ensures { λ r. ⌜ r ≡ decodedNumber (tested st (now (marks .entry)) (rowsIn st (now (marks .entry)) (now (bytes .entry)))) ⌝ }
     ensures { λ _. ⌜ now (out .exit) ≡
-        decodedWords (solved st (now (marks .entry)) (rowsIn st (now (marks .entry)) (now (bytes .entry)))) (2 ^ st .k * st .width) ⌝ }
+        decodedWords (tested st (now (marks .entry)) (rowsIn st (now (marks .entry)) (now (bytes .entry)))) (2 ^ st .k * st .width) ⌝ }
     ensures { λ _. ⌜ now (scratch .exit) ≡ replicate (2 ^ st .k * st .width + 4 * 2 ^ st .k) 0 ⌝ }
 {
     let size = code::number::two_to(st.level) * st.width;
@@ -81,7 +81,7 @@ fn decode_stripe(
     ensures { λ _. ⌜ now (scratch .exit) ≡ replicate (scratchSize header) 0 ⌝ }
 {
     let mut marks = [false; 2048];
-    let number = crate::marking::mark_and_test(header, image, erasures, level, &mut marks);
+    let number = crate::marking::mark_and_count(header, erasures, level, &mut marks);
     if number != 0 {
         layout::words::clear(out);
         layout::words::clear(scratch);

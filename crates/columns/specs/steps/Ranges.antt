@@ -1,7 +1,7 @@
 -- Ranges of columns of a stripe, what is tested of them, and what the loops that copy its rows make of a slice; the clauses of functions inside the crate
 -- cite it. Assumes nothing: these are definitions.
 use mathlib.Core.Path.{_≡_}
-use mathlib.Core.Bool.{Bool, true, false, _&&_}
+use mathlib.Core.Bool.{Bool, true, _&&_}
 use mathlib.Core.List.{List}
 use Prim.Native.Nat.{ℕ, zero, suc, _+_, _*_, _-_, _≤_, _<_, max}
 use lib.Dec.{eqb}
@@ -11,7 +11,7 @@ use Rattle.code.specs.Stripe.{blockCount, positionCount, blockWords, stripeWord
 use Rattle.code.specs.steps.Storing.{stored, wordFrom}
 use Rattle.decoder.specs.Decoding.{isConsistent, blocksIn}
 use Rattle.layout.specs.Records.{areData}
-use Rattle.image.specs.steps.Loading.{columnsOf, rowsIn}
+use Rattle.image.specs.steps.Loading.{columnsOf}
 use Rattle.rows.specs.steps.Ready.{Ready, narrow}
 
 -- whether the first word of each of the first n rows is its place
@@ -37,9 +37,9 @@ copiedRows to width from stride count l zero o = o
 copiedRows to width from stride count l (suc n) o =
     stored (to + n * width) (wordFrom l (from + n * stride)) count (copiedRows to width from stride count l n o)
 
--- the full stripe's bytes, which can be decoded to rows that lack the first `skip` columns
+-- the full stripe of which enough survives, its bytes, and rows that lack the first `skip` columns
 pub record Decodable (st : Stripe) (skip : ℕ) (bytes : List ℕ) (marks : List Bool) : Type 0 where
-  pub ready : Ready st marks (rowsIn st marks bytes)
+  pub ready : Ready st marks
   pub long : length bytes ≡ 4 * stripeWords st
   pub full : st .level ≡ st .k
   pub few : skip ≤ st .width
@@ -57,10 +57,6 @@ pub record RangeFits (st : Stripe) (from cols : ℕ) : Type 0 where
   pub some : 0 < cols
   pub within : from + cols ≤ st .width
   pub room : positionCount st * cols + positionCount st ≤ scratchWords st
-
--- the number of a range of columns: 9 if no blocks have its surviving words, 10 if its words are not those of records, 0 otherwise
-unfoldable pub rangeNumber : (isConsistent fit : Bool) → ℕ
-rangeNumber c b = elim c [ true ↦ elim b [ true ↦ 0 | false ↦ 10 ] | false ↦ 9 ]
 
 -- whether the blocks' words of a range of columns may be those of records
 abbrev pub fitRange : Stripe → (marks : List Bool) → (rows : List ℕ) → (from cols : ℕ) → Bool

@@ -1,19 +1,20 @@
 -- `columns::ranges::decode_range` meets its contract. Assumes nothing.
 use mathlib.Core.Path.{_≡_, refl, sym, _∙_}
-use mathlib.Core.Bool.{Bool, true, false≢true}
+use mathlib.Core.Bool.{true}
 use Prim.Native.Nat.{_+_, _*_, _-_, _≤_}
 use native.Mathlib.Omega.{arith}
 use borrow.Author.Needs.{needs}
-use borrow.Author.Tests.{not-true, not-false}
 use borrow.Rule.Slice.PartMut.{putMid}
 use lib.ListN.{length, take, drop}
-use Rattle.code.specs.Stripe.{blockCount, positionCount}
+use Rattle.code.specs.Stripe.{modulusOf, blockCount, positionCount}
+use Rattle.image.specs.Loading.{areBelow}
 use Rattle.image.specs.steps.Loading.{rowsIn}
+use Rattle.rows.proofs.StripeNumbers.{range-zero, range-ten}
 use Rattle.columns.specs.steps.Ranges.{scratchWords, isConsistentRange, fitRange, rangeTaken}
 use Rattle.columns.proofs.ScratchTails.{Tail, span, half-span, scratch-low, tail-long, tail-logs, put-logs, lent-again}
-use Rattle.columns.proofs.FullNumbers.{range-nine, range-zero, range-ten}
+use Rattle.columns.proofs.FullNumbers.{early-number, none-early}
 use Rattle.columns.proofs.RangeCopies.{range-taken}
-use Rattle.columns.proofs.RangeDecoding.{range-logs, range-blocks}
+use Rattle.columns.proofs.RangeDecoding.{range-blocks}
 use Rattle.columns.proofs.ranges.decode_range.Statement.{statement}
 use Rattle.columns.proofs.ranges.decode_range.Tie as tie
 
@@ -47,7 +48,7 @@ tail : (c : tie.After-two-to) → let a = c .before .before .before .before .bef
     (positionCount (a .st))
 tail c =
     let s = c .before .before .before .before .before in
-    record { long = s .pre .1 .1 .1 .0; begins = omega (arith, span-is c, s .pre .1 .0 .room, s .pre .1 .1 .1 .0) }
+    record { long = s .pre .1 .1 .1 .1 .0; begins = omega (arith, span-is c, s .pre .1 .0 .room, s .pre .1 .1 .1 .1 .0) }
 
 mul-start-2 : tie.Need-mul-start-2
 mul-start-2 c =
@@ -55,7 +56,7 @@ mul-start-2 c =
     omega (arith, span-is c, s .pre .1 .0 .room, scratch-low (s .args .st) (s .pre .0 .ready .fits))
 
 sub-start : tie.Need-sub-start
-sub-start c = let s = c .before .before .before .before .before in omega (arith, span-is c, s .pre .1 .0 .room, s .pre .1 .1 .1 .0)
+sub-start c = let s = c .before .before .before .before .before in omega (arith, span-is c, s .pre .1 .0 .room, s .pre .1 .1 .1 .1 .0)
 
 mul-part : tie.Need-mul-part
 mul-part c = search needs
@@ -73,7 +74,7 @@ decode-columns-requires : tie.Need-decode-columns-requires
 decode-columns-requires c κs =
     let s = c .before .before .before .before .before .before in
     let T = tail (c .before) in
-    (s .pre .0 .ready, ((s .pre .0 .long, s .pre .1 .0 .within), (tail-long T, tail-logs T ∙ s .pre .1 .1 .1 .1)))
+    (s .pre .0 .ready, ((s .pre .0 .long, s .pre .1 .0 .within), (s .pre .1 .1 .0, (tail-long T, tail-logs T ∙ s .pre .1 .1 .1 .1 .1))))
 
 same-length : tie.Need-same-length
 same-length c = search needs
@@ -86,20 +87,16 @@ logs-stay : (c : tie.After-decode-columns) → let a = start-at-part (c .before)
     (scratchWords (a .st) - positionCount (a .st)) (a .scratch .now)
 logs-stay c =
     let s = start-at-part (c .before) in
-    let a = s .args in
     let T = tail (c .before .before) in
-    put-logs T _ (range-logs (a .st) (a .marks .now) (rowsIn (a .st) (a .marks .now) (a .bytes .now)) (a .range .from) (a .range .cols)
-    (c .decode-columns .ensures .1) ∙ sym (tail-logs T ∙ s .pre .1 .1 .1 .1))
-
--- whether the range is consistent
-consistent : (c : tie.After-decode-columns) {b : Bool} → c .decode-columns .result ≡ b → let a = start-at-part (c .before) .args in
-    isConsistentRange (a .st) (a .marks .now) (rowsIn (a .st) (a .marks .now) (a .bytes .now)) (a .range .from) (a .range .cols) ≡ b
-consistent c e = sym (c .decode-columns .ensures .0) ∙ e
+    put-logs T _ (c .decode-columns .ensures .1 .1 ∙ sym (tail-logs T ∙ s .pre .1 .1 .1 .1 .1))
 
 returns : tie.Need-returns
 returns c =
-    let e = consistent (c .before .before .before) (not-true _ (c .if1 .taken)) in
-    (sym (range-nine _ e), (λ t. absurd (false≢true (sym e ∙ t)), logs-stay (c .before .before .before)))
+    let d = c .before .before .before in
+    let e = d .decode-columns .ensures .0 in (
+      e ∙ early-number _ _ _ (λ z. c .if1 .taken (e ∙ z)),
+      (λ b t. absurd (c .if1 .taken (e ∙ range-zero b t refl)), logs-stay d),
+    )
 
 mul-take-range : tie.Need-mul-take-range
 mul-take-range c = search needs
@@ -132,7 +129,7 @@ take-range-requires c κs =
     let s = start-at-part (d .before) in
     let f = s .pre .1 .0 in (
       (omega (arith, s .pre .0 .ready .fits .numbers), f .some, f .within, s .pre .0 .few),
-      (rw (words-are d) (words-long d), s .pre .1 .1 .0),
+      (rw (words-are d) (words-long d), s .pre .1 .1 .1 .0),
     )
 
 same-length-2 : tie.Need-same-length-2
@@ -143,8 +140,10 @@ same-length-3 c = search needs
 
 -- the range taken
 agrees : (c : tie.After-take-range) → let a = start-at-part (decode-columns-at-take-range c .before) .args in
-    isConsistentRange (a .st) (a .marks .now) (rowsIn (a .st) (a .marks .now) (a .bytes .now)) (a .range .from) (a .range .cols) ≡ true
-agrees c = consistent (decode-columns-at-take-range c) (not-false _ (c .before .before .before .before .if1 .left))
+    let r = rowsIn (a .st) (a .marks .now) (a .bytes .now) in
+    (areBelow (modulusOf (a .st)) r ≡ true) × (isConsistentRange (a .st) (a .marks .now) r (a .range .from) (a .range .cols) ≡ true)
+agrees c =
+    none-early _ _ (sym (decode-columns-at-take-range c .decode-columns .ensures .0) ∙ c .before .before .before .before .if1 .left)
 
 taken : (c : tie.After-take-range) → let a = start-at-part (decode-columns-at-take-range c .before) .args in
     let r = rowsIn (a .st) (a .marks .now) (a .bytes .now) in
@@ -157,13 +156,14 @@ taken c =
     let r = rowsIn (a .st) (a .marks .now) (a .bytes .now) in
     let f = s .pre .1 .0 in
     range-taken (a .st) (a .marks .now) r (a .range .from) (a .range .cols) (a .range .skip) (a .out .now) (words-are d) (words-long d) f
-    (range-blocks (a .st) (a .marks .now) r (a .range .from) (a .range .cols) (d .decode-columns .ensures .1) (f .within) (agrees c))
+    (range-blocks (a .st) (a .marks .now) r (a .range .from) (a .range .cols) (d .decode-columns .ensures .1 .0 (agrees c .0)) (f .within)
+    (agrees c .1))
     (c .take-range .ensures .0) (c .take-range .ensures .1)
 
 returns-2 : tie.Need-returns-2
 returns-2 c =
     let t = c .before .before .before in
-    (sym (range-zero (agrees t) (sym (taken t .0) ∙ c .if2 .taken)), (λ _. taken t .1, logs-stay (decode-columns-at-take-range t)))
+    (sym (range-zero (agrees t .0) (agrees t .1) (sym (taken t .0) ∙ c .if2 .taken)), (λ _ _. taken t .1, logs-stay (decode-columns-at-take-range t)))
 
 same-length-4 : tie.Need-same-length-4
 same-length-4 c = search needs
@@ -174,7 +174,7 @@ same-length-5 c = search needs
 returns-3 : tie.Need-returns-3
 returns-3 c =
     let t = c .before .before .before in
-    (sym (range-ten (agrees t) (sym (taken t .0) ∙ c .if2 .left)), (λ _. taken t .1, logs-stay (decode-columns-at-take-range t)))
+    (sym (range-ten (agrees t .0) (agrees t .1) (sym (taken t .0) ∙ c .if2 .left)), (λ _ _. taken t .1, logs-stay (decode-columns-at-take-range t)))
 
 pub decode-range-spec : {M : Type 1} → statement M
 decode-range-spec =

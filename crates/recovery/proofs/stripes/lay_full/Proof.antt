@@ -1,7 +1,7 @@
 -- `recovery::stripes::lay_full` meets its contract, by the laws of proofs/StripeRecords. Assumes nothing.
 use mathlib.Core.Path.{refl}
 use native.Mathlib.Nat.{le-refl}
-use Rattle.stripe.proofs.StripeAnswers.{solved-number}
+use Rattle.stripe.proofs.StripeAnswers.{tested-number}
 use Rattle.recovery.proofs.StripeRecords.{full-data, full-named, records-needs as needs}
 use Rattle.recovery.proofs.stripes.lay_full.Statement.{statement}
 use Rattle.recovery.proofs.stripes.lay_full.Tie as tie
@@ -29,11 +29,11 @@ returns-2 c =
     let full = c .before .before .before .before in
     let chosen = full .before .before .before .before in
     let bytes = chosen .before in
-    let tested = bytes .before .before .before .before .mark-and-test .ensures in
+    let marked = bytes .before .before .before .before .mark-and-count .ensures in
     let z = bytes .before .before .if1 .left in
     let e = full .full-origins .ensures in (
-      solved-number _ _ _ _ (bytes .before .stripe-of .ensures) (tested .1) (bytes .stripe-bytes .ensures) (tested .0) z (e .0),
-      full-named _ _ _ _ (bytes .before .stripe-of .ensures) (tested .1) (bytes .stripe-bytes .ensures) (tested .0) z (start-at-bytes bytes .pre .fits) refl
+      tested-number _ _ _ (bytes .before .stripe-of .ensures) (marked .1) (marked .0) z _ (bytes .stripe-bytes .ensures) (e .0),
+      full-named _ _ _ _ (bytes .before .stripe-of .ensures) (marked .1) (bytes .stripe-bytes .ensures) (marked .0) z (start-at-bytes bytes .pre .fits) refl
           (e .0) (chosen .if2 .taken) (e .1) _,
     )
 
@@ -42,11 +42,11 @@ returns-3 c =
     let full = c .before .before .before .before in
     let chosen = full .before .before .before .before in
     let bytes = chosen .before in
-    let tested = bytes .before .before .before .before .mark-and-test .ensures in
+    let marked = bytes .before .before .before .before .mark-and-count .ensures in
     let z = bytes .before .before .if1 .left in
     let e = full .recover-full .ensures in (
-      solved-number _ _ _ _ (bytes .before .stripe-of .ensures) (tested .1) (bytes .stripe-bytes .ensures) (tested .0) z (e .0),
-      full-data _ _ _ _ (bytes .before .stripe-of .ensures) (tested .1) (bytes .stripe-bytes .ensures) (tested .0) z (start-at-bytes bytes .pre .fits) refl
+      tested-number _ _ _ (bytes .before .stripe-of .ensures) (marked .1) (marked .0) z _ (bytes .stripe-bytes .ensures) (e .0),
+      full-data _ _ _ _ (bytes .before .stripe-of .ensures) (marked .1) (bytes .stripe-bytes .ensures) (marked .0) z (start-at-bytes bytes .pre .fits) refl
           (e .0) (chosen .if2 .left) (e .1 .0) _,
     )
 

@@ -55,11 +55,11 @@ all c = ap₂ _+_ (size c) (size c) ∙ twice (stripe c)
 
 few : (c : tie.After-two-to) → stripeWords (stripe c) ≤ 264192
 few c =
-    let f = start c .pre .0 .fits in
+    let f = start c .pre .0 .0 .fits in
     omega (arith, mul-le-mul {n₂ = 2048} {m₂ = 129} (pow-mono {i = suc (stripe c .level)} {j = 11} (omega (arith, f .numbers))) (f .thin))
 
 two-to-requires : tie.Need-two-to-requires
-two-to-requires c κs = omega (arith, c .before .before .pre .0 .fits .numbers)
+two-to-requires c κs = omega (arith, c .before .before .pre .0 .0 .fits .numbers)
 
 mul-size : tie.Need-mul-size
 mul-size c = omega (arith, all (c .before), few (c .before))
@@ -70,11 +70,11 @@ add-rows c = omega (arith, all (c .before), few (c .before))
 decode-requires : tie.Need-decode-requires
 decode-requires c κs =
     let s = start (c .before .before) in
-    let R = s .pre .0 in (
+    let R = s .pre .0 .0 in (
       R .fits .numbers,
       (
         (R .long, R .enough),
-        (s .pre .1 .0, (part-words (s .args .st) (s .args .marks .now) (s .args .part .now) (R .below) (s .pre .1 .1), s .pre .1 .1)),
+        (s .pre .1 .0, (part-words (s .args .st) (s .args .marks .now) (s .args .part .now) (s .pre .0 .1) (s .pre .1 .1), s .pre .1 .1)),
       ),
     )
 
@@ -138,7 +138,7 @@ slice-aggregate-are-records c = sym (length-take-le _ _ (half-in (c .before .bef
 are-records-requires : tie.Need-are-records-requires
 are-records-requires c κs =
     let t = decode-two (to-decode (c .before .before .before .before)) in
-    (start t .pre .0 .fits, length-take-le _ _ (half-in (c .before .before .before .before)) ∙ size t)
+    (start t .pre .0 .0 .fits, length-take-le _ _ (half-in (c .before .before .before .before)) ∙ size t)
 
 -- some have, and test 10 says whether they are records
 agrees : (c : tie.After-are-records) → let t = decode-two (to-decode (to-clear c)) in isConsistent (stripe t) (marks t) (rows t) ≡ true
