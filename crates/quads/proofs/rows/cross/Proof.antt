@@ -55,8 +55,9 @@ loop-again c =
     (at-row .cross-by .ensures)
 
 returns : tie.Need-returns Inv-loop μ-loop
-returns c = quads-end (c .before .loop .inv) (crosses-four (c .before .before .before .before .args .back) _ _
-(c .before .before .before .before .pre .1 .0 .turn)) (c .loop-test .left)
+returns c =
+    let s = c .before .before .before .before in
+    quads-end (c .before .loop .inv) (crosses-four (s .args .back) _ _ (s .pre .1 .0 .turn)) (c .loop-test .left)
 
 pub cross-spec : {M : Type 1} → statement M
 cross-spec =
