@@ -54,22 +54,20 @@ fn parts(job: &Job, operation: usize) -> usize {
 fn measured(job: &Job, effort: Effort) -> Row {
     job.check();
     let mut copied = job.image.clone();
-    let mut subjects: Vec<Subject> = vec![Box::new(|| {
+    let copy: Subject = Box::new(|| {
         copied.copy_from_slice(black_box(&job.image));
         black_box(&mut copied);
-    })];
-    for operation in 0..3 {
-        subjects.extend(IN_TURN.map(|by| subject(job, by, operation)));
-    }
-    let times = interleaved(effort, subjects);
-    let [library, plain, tuned] = [0, 1, 2].map(|by| {
-        [0, 1, 2].map(|operation| {
-            let time = times[1 + IN_TURN.len() * operation + by];
-            time.part(parts(job, operation))
-        })
     });
+    let copy = interleaved(effort, vec![copy])[0];
+    // One operation's subjects at a time: the buffers of the others would push theirs out of the caches.
+    let times = [0, 1, 2].map(|operation| {
+        let subjects = IN_TURN.map(|by| subject(job, by, operation)).into();
+        interleaved(effort, subjects)
+    });
+    let [library, plain, tuned] = [0, 1, 2]
+        .map(|by| [0, 1, 2].map(|operation| times[operation][by].part(parts(job, operation))));
     Row {
-        copy: times[0],
+        copy,
         library,
         plain,
         tuned,
