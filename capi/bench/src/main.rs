@@ -1,4 +1,4 @@
-//! `bench [--quick]`: the library beside the same algorithm in plain Rust and in tuned Rust, reference/, a copy of the image and par2. Prints the tables of
+//! `bench [--quick]`: the library beside the same calls in plain Rust and in tuned Rust, reference/, a copy of the image and par2. Prints the tables of
 //! docs/BENCHMARK.md.
 mod measure;
 mod par2;
@@ -275,7 +275,7 @@ fn print_par2(row: &Row) {
     }
 }
 
-/// Each target, on the best of the runs: the machines swing, and their best times hold.
+/// Each target, on the best of the runs: times vary from run to run, the best ones least.
 fn print_targets(rows: &[Row; SIZES.len()], explaining: [f64; EXPLAINED.len()], growth: [f64; 2]) {
     let ratio = |row: &Row, i: usize| row.library[i].best / row.plain[i].best;
     // In the order of SIZES.

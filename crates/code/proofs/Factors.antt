@@ -1,5 +1,5 @@
 -- The factors of mixing, unmixing and turning: they are entries of the table of powers, powers of a root of order 2n at exponents below n, half of its
--- order, so that none is -1; and what mixing and unmixing are under the factor 1. Assumes nothing.
+-- order, so that none is -1; and what mixing is under the factor 1. Assumes nothing.
 use mathlib.Core.Path.{_≡_, refl, sym, ap, _∙_}
 use mathlib.Core.List.{List}
 use Prim.Native.Nat.{ℕ, zero, suc, _+_, _*_, _-_, _/_, _%_, _^_, _≤_, _<_}
@@ -17,7 +17,7 @@ use Rattle.field.proofs.Primes.{fermat-prime, fermat-root}
 use Rattle.field.proofs.PowerTables.{table-is, length-powers, powers-entry, length-table-of-powers, table-power}
 use Rattle.field.proofs.PowerTables.{table-root, table-back, level-root, level-inverse}
 use Rattle.code.specs.Transform.{reversed}
-use Rattle.code.specs.steps.Mixing.{Crossing, mixing, unmixing, summing, crossed, crossedRow, mixRow, unmixRow, sumRow, RowFactors}
+use Rattle.code.specs.steps.Mixing.{Crossing, mixing, summing, crossed, crossedRow, mixRow, sumRow, RowFactors}
 use Rattle.code.proofs.Lifting.{row-in}
 use Rattle.code.proofs.Shapes.{reversed-lt, reversed-more}
 
@@ -117,15 +117,9 @@ module _ (c d : Crossing) (g : ℕ) (low-same : (a b : ℕ) → c .low g a b ≡
   row-same zero low high l = refl
   row-same (suc n) low high l = rw (row-same n low high l, low-same, high-same) refl
 
--- under the factor 1 both mixing and unmixing give sum and difference
+-- under the factor 1 mixing gives sum and difference
 pub sum-mixes : (width low high : ℕ) {g : ℕ} (l : List ℕ) {r : List ℕ} → g ≡ 1 → r ≡ sumRow 65537 width low high l → r ≡ mixRow 65537 width low high g l
 sum-mixes width low high l one e =
     e ∙ row-same (summing 65537) (mixing 65537) 1 (λ a b. ring 65537 (omega arith) (v a ⊕ v b) (v a ⊕ v 1 ⊗ v b) (omega arith) (omega arith) (omega arith))
     (λ a b. ring 65537 (omega arith) (v a ⊖ v b) (v a ⊖ v 1 ⊗ v b) (omega arith) (omega arith) (omega arith)) width low high l
     ∙ ap (λ (n : ℕ). mixRow 65537 width low high n l) (sym one)
-
-pub sum-unmixes : (width low high : ℕ) {g : ℕ} (l : List ℕ) {r : List ℕ} → g ≡ 1 → r ≡ sumRow 65537 width low high l → r ≡ unmixRow 65537 width low high g l
-sum-unmixes width low high l one e =
-    e ∙ row-same (summing 65537) (unmixing 65537) 1 (λ a b. refl)
-    (λ a b. ring 65537 (omega arith) (v a ⊖ v b) (v 1 ⊗ (v a ⊖ v b)) (omega arith) (omega arith) (omega arith)) width low high l
-    ∙ ap (λ (n : ℕ). unmixRow 65537 width low high n l) (sym one)

@@ -112,6 +112,7 @@ pub fn turn_back(part: &mut [u32], st: Stripe, powers: &[u32])
         lifted (st .width) (blockCount st) (blockCount st)
         (turned (modulusOf st) (inverse (modulusOf st) (rootIn st)) (st .k) (st .first)) (now (part .entry)) ⌝ }
 {
+    // locals of their own, since the loop's invariant speaks of them
     let first = st.first;
     let k = st.k;
     let width = st.width;

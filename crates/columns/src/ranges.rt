@@ -124,7 +124,7 @@ fn take_range(words: &[u32], st: Stripe, range: Range, out: &mut [u32]) -> bool
 
 // Decodes a range of columns in the last words of the scratch and copies the blocks' words to `out`, as `take_range` does. 8 if a surviving word of any column
 // is not of the field, 9 if no blocks have the surviving words, 10 if the blocks' words are not those of records, 0 otherwise. The logarithms behind the range
-// stay.
+// stay; what stands before them is open, and so is `out` after 8 and 9.
 fn decode_range(
     st: Stripe,
     bytes: &[u8],
@@ -165,7 +165,8 @@ fn decode_range(
 }
 
 // Decodes all columns, range by range, to rows that lack the first `skip` columns, in a scratch that ends in the logarithms: 8, 9, 10 or 0. The first range
-// tells whether it is 8; only the last one tells that none is 9, so that 10 waits for it.
+// tells whether it is 8; only the last one tells that none is 9, so that 10 waits for it. What is left of the scratch is open, and of `out`
+// where it is not 0.
 pub(crate) fn decode_ranges(
     st: Stripe,
     bytes: &[u8],

@@ -1,4 +1,4 @@
--- Laws of the crossings of specs/steps/Mixing, which mixing and unmixing share: a row, all rows, and that these are one function of each column. Assumes
+-- Laws of the crossings of code/specs/steps/Mixing, which mixing and unmixing share: a row, all rows, and that these are one function of each column. Assumes
 -- nothing.
 use mathlib.Core.Path.{_≡_, refl, sym, ap, ap₂, _∙_, subst}
 use mathlib.Core.Logic.{⊎-elim, _≢_}

@@ -10,7 +10,7 @@ ghost use Rattle.code.specs.steps.Mixing.{sumRow, mixRow, RowFactors, eachBlock
 
 // The sums of `width` words from index `low` and as many from index `high` in the place of the former, the differences in the place of the latter: mixing
 // and unmixing under the factor 1, with no product.
-pub fn sum_row(part: &mut [u32], low: usize, high: usize, width: usize)
+fn sum_row(part: &mut [u32], low: usize, high: usize, width: usize)
     requires { ⌜ low + width ≤ high ⌝ }
     requires { ⌜ high + width ≤ length (now part) ⌝ }
     requires { ⌜ Words (fermat .modulus) (now part) ⌝ }

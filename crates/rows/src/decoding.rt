@@ -51,7 +51,8 @@ fn load_columns(
 }
 
 // Decodes the columns `from` up to `from + cols` in a part that ends in the logarithms: 8 if a surviving word is not of the field, 9 if no blocks have the
-// surviving words of those columns, or 0. The part then holds the blocks' columns and zeros after them, or after 9 zeros; the logarithms stay.
+// surviving words of those columns, or 0. After 0 the part
+// holds the blocks' columns and zeros after them, after 9 zeros; after 8 what stands before the logarithms is open. The logarithms stay.
 pub fn decode_columns(
     st: Stripe,
     bytes: &[u8],

@@ -8,7 +8,7 @@ ghost use Rattle.layout.specs.Header.{headerFits, stripeOf};
 ghost use Rattle.image.specs.Erasures.{erasuresIn, marksOf};
 ghost use Rattle.rows.specs.steps.Ready.{readyNumber};
 
-// Marks the erased positions of a stripe, and test 7.
+// Marks the erased positions of a stripe: 7 if too few survive, or 0.
 pub fn mark_and_count(header: Header, erasures: &[u8], level: usize, marks: &mut [bool]) -> u32
     requires { ⌜ (headerFits header ≡ true) × (level ≤ header .k) ⌝ }
     requires { ⌜ now marks ≡ replicate 2048 false ⌝ }

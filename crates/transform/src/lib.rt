@@ -1,5 +1,5 @@
-// The transforms of stripes, in place, on slices that the caller lends: mixing of all rows of a half of a stripe, and its inverse. A row is the words of one
-// position, of any width; each function does the same to every column.
+// All mixing of 2^level rows, in place, on slices that the caller lends, and its inverse. A row has words of any number; each function does the same to every
+// column.
 pub mod narrow;
 mod wide;
 

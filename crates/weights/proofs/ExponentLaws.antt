@@ -1,5 +1,5 @@
--- Laws of positions and exponents: what `positionAt` is in each case, that it undoes `exponentAt`, and the bounds of the logarithms that an exponent gives.
--- Assumes nothing.
+-- Laws of positions and exponents: what `positionAt` is in each case, that it undoes `exponentAt`, the bounds of the logarithms that an exponent gives, and
+-- of the flag of a mark. Assumes nothing.
 use mathlib.Core.Path.{_≡_, refl, ap, _∙_}
 use mathlib.Core.Bool.{Bool, true, false}
 use Prim.Native.Nat.{ℕ, suc, _+_, _*_, _/_, _%_, _^_, _≤_, _<_}

@@ -39,7 +39,7 @@ total-exponents l f =
     (total-same n _ _ (λ i b. ap f (sym (exponent-high l (n + i) (omega arith) ∙ omega arith))))
     ∙ sym (total-parts n n (λ i. f (exponentAt l i))) ∙ ap (λ (k : ℕ). total k (λ i. f (exponentAt l i))) {x = n + n} {y = 2 ^ suc l} (omega arith)
 
--- sums of sums, and of products that are at most m times f
+-- sums of sums, of multiples, and of numbers of which each is at most m times f's
 pub total-plus : (n : ℕ) (f g : ℕ → ℕ) → total n f + total n g ≡ total n (λ i. f i + g i)
 unfolding total
 total-plus zero f g = refl

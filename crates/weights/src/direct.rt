@@ -49,7 +49,7 @@ fn add_row(part: &mut [u32], from: usize, count: usize)
     }
 }
 
-// Adds the rows of all erased positions.
+// Adds the rows of all erased positions. What stands behind the terms is open.
 fn add_rows(part: &mut [u32], marks: &[bool], level: usize)
     requires { ⌜ level ≤ 10 ⌝ }
     requires { ⌜ 2 ^ suc level ≤ length (now marks) ⌝ }
@@ -85,7 +85,7 @@ fn store_words(part: &mut [u32], level: usize, shared: u32)
     }
 }
 
-// Stores the logarithms of all positions in the last words of the part.
+// Stores the logarithms of all positions in the last words of the part. What is left before them is open.
 pub fn store_direct(part: &mut [u32], marks: &[bool], level: usize, table: &[u32])
     requires { ⌜ level ≤ 10 ⌝ }
     requires { ⌜ 2 ^ suc level ≤ length (now marks) ⌝ }

@@ -1,7 +1,7 @@
 // The logarithms of the decoder's weights (`logs`, logarithms/specs/Weights) by cyclic convolution. The logarithm of a position's weight is a sum over the
 // erased positions of a term that depends on the difference of exponents alone, so that all of them are one convolution of the marks with the table of
-// logarithms: mixed, multiplied word by word, unmixed. Such a sum has to stay below p, and a logarithm has 16 bits: it is done for each of three digits of six.
-// Where there are few positions the sums are made directly.
+// logarithms: mixed, multiplied word by word, unmixed. Such a sum has to stay below p, and a logarithm has 16 bits: it is done for each of three digits
+// of six bits. Where there are few positions the sums are made directly.
 mod columns;
 mod direct;
 mod exponents;
@@ -12,7 +12,7 @@ ghost use Prim.Native.Nat.{suc, _*_, _-_, _^_, _≤_};
 ghost use lib.ListN.{length, drop};
 ghost use Rattle.logarithms.specs.Weights.{erasedTo, logs};
 
-// From this level on the convolution takes no longer than the sums made directly, or hardly so, where half of the positions are erased; and it grows less.
+// From this level on the convolution takes no longer than the sums made directly, or hardly longer, where half of the positions are erased; and it grows less.
 const CONVOLVED_FROM: usize = 9;
 
 // Stores the logarithms of all positions in the last words of the part. The words before them serve to compute these: what is left there is open.

@@ -36,7 +36,7 @@ pub fn fill(part: &mut [u32], base: usize, count: usize, x: u32)
     }
 }
 
-// The mixed marks in the first words, and in each of the last ones what all logarithms share.
+// The mixed marks in the first words, and in each of the last ones what all logarithms share. The words between are open.
 pub fn start(part: &mut [u32], marks: &[bool], level: usize, powers: &[u32])
     requires { ⌜ level ≤ 10 ⌝ }
     requires { ⌜ 2 ^ suc level ≤ length (now marks) ⌝ }
@@ -70,7 +70,7 @@ fn add_sums(part: &mut [u32], level: usize, unit: u32, inverse: u32)
     }
 }
 
-// Adds a digit of the logarithms to the last words. The first words stay.
+// Adds a digit of the logarithms to the last words. The first words stay; those between are open.
 pub fn add_digit(
     part: &mut [u32],
     level: usize,

@@ -1,7 +1,7 @@
-//! The library's algorithm tuned by hand, for a comparison: the same calls on the same buffers, giving the same words, with SSE2 and no more. What it does
+//! The library's calls tuned by hand, for a comparison: the same calls on the same buffers, giving the same words, with SSE2 and no more. What it does
 //! beyond plain.rs: products by `pmaddwd`, which are folded and not reduced (lanes.rs); two levels of mixing in one pass, and words settled in the last one
 //! (passes.rs); first passes straight out of the records, of the levels below, or of the image (store.rs, recovery.rs); weights as sums of logarithms
-//! (weights.rs); factors and logarithms out of tables (tables.rs).
+//! (weights.rs); the decoding of a stripe (decoding.rs), and of one of few blocks (small.rs); factors and logarithms out of tables (tables.rs).
 mod decoding;
 mod lanes;
 mod passes;

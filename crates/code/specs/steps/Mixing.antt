@@ -33,9 +33,6 @@ crossedRow c f (suc n) low high l = crossed c (f n) (low + n) (high + n) (crosse
 abbrev pub mixRow : (p width low high g : ℕ) → List ℕ → List ℕ
 mixRow p width low high g l = crossedRow (mixing p) (λ _. g) width low high l
 
-abbrev pub unmixRow : (p width low high g : ℕ) → List ℕ → List ℕ
-unmixRow p width low high g l = crossedRow (unmixing p) (λ _. g) width low high l
-
 abbrev pub sumRow : (p width low high : ℕ) → List ℕ → List ℕ
 sumRow p width low high l = crossedRow (summing p) (λ _. 1) width low high l
 

@@ -1,4 +1,4 @@
--- `coding::turn_row` meets its contract: each need is among the laws of the loop that scales a row of proofs/RowLaws. Assumes nothing.
+-- `coding::turn_row` meets its contract: each need is among the laws of the loop that scales a row of code/proofs/RowLaws. Assumes nothing.
 use Prim.Native.Nat.{_-_}
 use Rattle.code.proofs.RowLaws.{Scaling, scale-needs as needs}
 use Rattle.coding.proofs.turn_row.Statement.{statement}

@@ -38,7 +38,7 @@ factorAt p w k l ms i =
 abbrev pub factors : (p w k level : ℕ) → (marks : List Bool) → List ℕ
 factors p w k l ms = table (2 ^ suc l) (factorAt p w k l ms)
 
--- what stands behind the rows are their logarithms, of which these are the powers of g
+-- the powers of g at the logarithms, which stand behind the rows
 unfoldable pub raisedAt : (p g : ℕ) → (es : List ℕ) → (i : ℕ) → ℕ
 raisedAt p g es i = power p g (getD es i 0)
 
