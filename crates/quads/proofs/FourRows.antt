@@ -273,4 +273,4 @@ pub four-same : {q : Quad} {part₀ : List ℕ} {at far width t1 t2 : ℕ} {part
 four-same h = h .same
 
 -- what the needs of such a loop follow from
-pub ruleset four-needs = (four-start, four-end, four-same, needs)
+pub ruleset four-needs = (four-start, four-end, four-same, four-word, four-few, needs)

@@ -5,7 +5,7 @@ use native.Mathlib.Omega.{arith}
 use lib.ListN.{getD, length-set}
 use Rattle.field.specs.Residue.{times}
 use Rattle.quads.specs.steps.Quads.{mixingFour}
-use Rattle.quads.proofs.FourRows.{FourLoop, residue, four-word, four-turn, mixed-four, mixing-four-stores, four-needs as needs}
+use Rattle.quads.proofs.FourRows.{FourLoop, residue, four-turn, mixed-four, mixing-four-stores, four-needs as needs}
 use Rattle.quads.proofs.rows.quad_row.Statement.{statement}
 use Rattle.quads.proofs.rows.quad_row.Tie as tie
 
@@ -18,27 +18,6 @@ abbrev μ-loop : tie.MeasureT-loop
 -- PLACES: `x-at-y c` is the place x that stands before y
 abbrev test-at-third : tie.After-slack3 Inv-loop μ-loop → tie.In-loop Inv-loop μ-loop
 test-at-third c = c .before .before .before .before .before .before .before
-
-slack-requires : tie.Need-slack-requires Inv-loop μ-loop
-slack-requires c κs = (omega arith, four-word (c .before .before .before .loop .inv) _)
-
-slack-requires-2 : tie.Need-slack-requires-2 Inv-loop μ-loop
-slack-requires-2 c κs = (omega arith, four-word (c .before .before .before .before .before .loop .inv) _)
-
-slack-requires-3 : tie.Need-slack-requires-3 Inv-loop μ-loop
-slack-requires-3 c κs = (omega arith, four-word (c .before .before .before .before .before .before .before .loop .inv) _)
-
-sum-requires : tie.Need-sum-requires Inv-loop μ-loop
-sum-requires c κs = (four-word (test-at-third (c .before) .before .loop .inv) _, omega arith, omega arith, omega arith)
-
-turned-difference-requires : tie.Need-turned-difference-requires Inv-loop μ-loop
-turned-difference-requires c κs = (four-word (test-at-third (c .before .before) .before .loop .inv) _, omega arith, omega arith)
-
-difference-requires : tie.Need-difference-requires Inv-loop μ-loop
-difference-requires c κs = (four-word (test-at-third (c .before .before .before) .before .loop .inv) _, omega arith, omega arith, omega arith)
-
-turned-sum-requires : tie.Need-turned-sum-requires Inv-loop μ-loop
-turned-sum-requires c κs = (four-word (test-at-third (c .before .before .before .before) .before .loop .inv) _, omega arith, omega arith)
 
 loop-again : tie.Need-loop-again Inv-loop μ-loop
 loop-again c =
@@ -72,24 +51,24 @@ quad-row-spec =
     (λ c. search needs)
     (λ c. search needs)
     (λ c. search needs)
-    slack-requires
-    (λ c. search needs)
-    (λ c. search needs)
-    slack-requires-2
-    (λ c. search needs)
-    (λ c. search needs)
-    slack-requires-3
     (λ c κs. search needs)
-    sum-requires
     (λ c. search needs)
     (λ c. search needs)
-    turned-difference-requires
+    (λ c κs. search needs)
+    (λ c. search needs)
+    (λ c. search needs)
+    (λ c κs. search needs)
+    (λ c κs. search needs)
+    (λ c κs. search needs)
+    (λ c. search needs)
+    (λ c. search needs)
+    (λ c κs. search needs)
     (λ c. search needs)
     (λ c. simp length-set (omega arith))
-    difference-requires
+    (λ c κs. search needs)
     (λ c. search needs)
     (λ c. simp length-set (omega arith))
-    turned-sum-requires
+    (λ c κs. search needs)
     (λ c. search needs)
     (λ c. simp length-set (omega arith))
     (λ c. search needs)
