@@ -13,20 +13,6 @@ Inv-loop half₀ blocks width size at₀ b₀ half at b = BlockLoop half₀ bloc
 abbrev μ-loop : tie.MeasureT-loop
 μ-loop half₀ blocks width size at₀ b₀ half at b = blocks - b
 
-sum-row-requires : tie.Need-sum-row-requires Inv-loop μ-loop
-sum-row-requires c κs =
-    let at-test = c .before in
-    let i = at-test .before .loop .inv in
-    let s = at-test .before .before .before in
-    let at = at-test .before .loop .at in
-    let size = s .args .width + s .args .width in (
-      omega arith,
-      (
-        omega (arith, part-long at size (at-test .before .loop .half) (block-in i (at-test .loop-test .taken))),
-        part-words at size (omega arith) (i .words),
-      ),
-    )
-
 loop-again : tie.Need-loop-again Inv-loop μ-loop
 loop-again c =
     let at-row = c .before .before in
@@ -46,7 +32,7 @@ sum-each-spec =
     (λ c. search needs)
     (λ c. search needs)
     (λ c. search needs)
-    sum-row-requires
+    (λ c κs. search needs)
     (λ c. search needs)
     (λ c. search needs)
     loop-again
