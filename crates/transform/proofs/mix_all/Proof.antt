@@ -10,12 +10,7 @@ mix-narrow-requires c κs =
     let s = c .before .before .before .before in
     ((omega (arith, s .pre .0), narrow-few (s .pre .0) (c .before .if1 .taken)), s .pre .1)
 
-mix-rows-requires : tie.Need-mix-rows-requires
-mix-rows-requires c κs =
-    let s = c .before .before .before .before in
-    (omega (arith, s .pre .0), s .pre .1)
-
 pub mix-all-spec : {M : Type 1} → statement M
 mix-all-spec =
     tie.close
-    (tie.spec mix-narrow-requires mix-rows-requires (λ c. search needs) (λ c. search needs) (λ c. search needs) (λ c. search needs))
+    (tie.spec mix-narrow-requires (λ c κs. search needs) (λ c. search needs) (λ c. search needs) (λ c. search needs) (λ c. search needs))

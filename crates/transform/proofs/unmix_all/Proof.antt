@@ -10,12 +10,7 @@ unmix-narrow-requires c κs =
     let s = c .before .before .before .before in
     ((omega (arith, s .pre .0), narrow-few (s .pre .0) (c .before .if1 .taken)), s .pre .1)
 
-unmix-rows-requires : tie.Need-unmix-rows-requires
-unmix-rows-requires c κs =
-    let s = c .before .before .before .before in
-    (omega (arith, s .pre .0), s .pre .1)
-
 pub unmix-all-spec : {M : Type 1} → statement M
 unmix-all-spec =
     tie.close
-    (tie.spec unmix-narrow-requires unmix-rows-requires (λ c. search needs) (λ c. search needs) (λ c. search needs) (λ c. search needs))
+    (tie.spec unmix-narrow-requires (λ c κs. search needs) (λ c. search needs) (λ c. search needs) (λ c. search needs) (λ c. search needs))

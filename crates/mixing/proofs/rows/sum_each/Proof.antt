@@ -1,8 +1,7 @@
 -- `mixing::rows::sum_each` meets its contract, by the laws of the loop over blocks of code's proofs/Blocks. Assumes nothing.
-use Prim.Native.Nat.{_+_, _-_}
-use native.Mathlib.Omega.{arith}
+use Prim.Native.Nat.{_-_}
 use Rattle.code.specs.steps.Mixing.{sumRow}
-use Rattle.code.proofs.Blocks.{BlockLoop, block-in, part-long, part-words, blocks-turn, blocks-needs as needs}
+use Rattle.code.proofs.Blocks.{BlockLoop, blocks-turn, blocks-needs as needs}
 use Rattle.mixing.proofs.Crossing.{sums-block}
 use Rattle.mixing.proofs.rows.sum_each.Statement.{statement}
 use Rattle.mixing.proofs.rows.sum_each.Tie as tie
