@@ -3,8 +3,8 @@
 
 usage: tools/respell.py [--check] [FOLDER]     FOLDER is the top of a checkout; the folder above this file if none is given
 
-A name is the repository's own if a file of specs/ or proofs/ declares it, or binds it by `let`. Names that Rattle makes of the code (goals, and what stands
-behind them) and names of the kit's libraries are left. Where a law would get the name of a definition it ends in `_lem`. Words are turned whole: in crates/
+A name is the repository's own if a file of specs/ or proofs/ declares it or binds it. Names that Rattle makes of the code (goals, and what stands behind them)
+and names of the kit's libraries are left. Where a law would get the name of a definition it ends in `_lem`. Words are turned whole: in crates/
 everywhere but in strings, in documents inside backquotes. --check turns nothing, prints each own name that is not spelled so, and fails if there is one.
 """
 
@@ -19,7 +19,12 @@ DECLARES = re.compile(
     r"^(\s*)((?:(?:pub|abbrev|unfoldable|pattern)\s+)*)(" + NAME + r")((?:\s+" + NAME + r")*)\s*(?:\{[^}]*\})?\s*"
     r"(?:\([^:]*:[^)]*\)\s*|\{[^:]*:[^}]*\}\s*)*:(?:\s|$)"
 )
-LET = re.compile(r"\blet (" + NAME + r")")
+# names that are bound inside a line: by `let`, as a parameter, by a λ, by `as`, and as a set of rules
+BOUND = [
+    re.compile(r"\b(?:let|as|ruleset) (" + NAME + r")"),
+    re.compile(r"[({]((?:[A-Za-z][\w'-]*\s+)*[A-Za-z][\w'-]*)\s*:"),
+    re.compile(r"λ\s+((?:[A-Za-z][\w'-]*\s*)+)\."),
+]
 OPENS = re.compile(r"^\s*(?:(?:pub|abbrev|unfoldable)\s+)*(record|data|module)\b")
 # the files whose declarations are named by Rattle, after the code
 MADE = {"Answers.antt", "Invariants.antt", "Proof.antt"}
@@ -56,7 +61,7 @@ def declared(top):
             indent = len(line) - len(line.lstrip())
             while inside and indent <= inside[-1][0]:
                 inside.pop()
-            for name in LET.findall(line):
+            for name in (name for form in BOUND for names in form.findall(line) for name in names.split()):
                 kinds[name].add("local")
                 scope.add(name)
             found = DECLARES.match(line)

@@ -10,7 +10,7 @@ use lib.Seq.{length-take-le, get_or-take}
 use Rattle.field.specs.Polynomial.{horner, interpolate}
 use Rattle.field.specs.Words.{Words}
 use Rattle.field.proofs.Polynomials.{Distinct, interpolate_length, interpolate_words, interpolate_is}
-use Rattle.field.proofs.WordLists.{words_map, get_d_map}
+use Rattle.field.proofs.WordLists.{words_map, get_or_map}
 use Rattle.code.specs.Stripe.{coded}
 use Rattle.decoder.specs.Decoding.{survivors, point_at, value_at, decoded_column, agrees, consistent_column}
 use Rattle.code.specs.Transform.{bit_reversed}
@@ -77,7 +77,7 @@ module _ (p w k l t : ℕ) (ms : List Bool) (c : List ℕ) (S : Parameters p w k
   }
 
   point_is : (j : ℕ) → j < 2 ^ l → get_or (map (point_at p w k l) (firsts l ms)) j 0 ≡ point_at p w k l (get_or (survivors l ms) j 0)
-  point_is j m = get_d_map (point_at p w k l) (firsts l ms) j (omega (arith, long_firsts)) ∙ ap (point_at p w k l) (first_is j m)
+  point_is j m = get_or_map (point_at p w k l) (firsts l ms) j (omega (arith, long_firsts)) ∙ ap (point_at p w k l) (first_is j m)
 
   points_apart : Distinct (map (point_at p w k l) (firsts l ms))
   points_apart = record {
@@ -94,7 +94,7 @@ module _ (p w k l t : ℕ) (ms : List Bool) (c : List ℕ) (S : Parameters p w k
       ∙ interpolate_is p S.prime (map (point_at p w k l) (firsts l ms)) (map (value_at p w k l t c) (firsts l ms)) (long_points ∙ sym long_values)
       (words_map p h (point_at p w k l) (firsts l ms) (λ i n. point_lt p w k l S.prime.big (get_or (firsts l ms) i 0))) words_values points_apart j
       (omega (arith, long_points))
-      ∙ get_d_map (value_at p w k l t c) (firsts l ms) j (omega (arith, long_firsts)) ∙ ap (value_at p w k l t c) (first_is j m)
+      ∙ get_or_map (value_at p w k l t c) (firsts l ms) j (omega (arith, long_firsts)) ∙ ap (value_at p w k l t c) (first_is j m)
 
 -- a column that codes to the words at those positions is the one found
 decoded_same : (p w k l t : ℕ) (ms : List Bool) (c xs : List ℕ) → Parameters p w k l t → Enough l ms → Column p (2 ^ l) xs

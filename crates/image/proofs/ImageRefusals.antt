@@ -13,7 +13,7 @@ use Rattle.layout.specs.Refusals.{Tests, done, test, refusal}
 use Rattle.layout.proofs.Refusals.{test_holds, passes}
 use Rattle.field.proofs.Booleans.{first_true, second_true}
 use Rattle.image.specs.Erasures.{erasures_fit}
-use Rattle.image.specs.ImageTests.{image_tests as imageTestsOf}
+use Rattle.image.specs.ImageTests.{image_tests as image_tests_of}
 
 -- WHAT HOLDS if none of the three applies
 module _ (h : Header) (m e : List ℕ) (sizes : Bool) where
@@ -23,7 +23,7 @@ module _ (h : Header) (m e : List ℕ) (sizes : Bool) where
     pub others : sizes ≡ true
     pub erasures : erasures_fit h e ≡ true
 
-  pub whole : refusal (imageTestsOf h m e sizes done) ≡ 0 → Whole
+  pub whole : refusal (image_tests_of h m e sizes done) ≡ 0 → Whole
   whole z =
       let long = eqb (length m) (image_size h) in
       let a = passes (header_fits h) 1 (test (long && sizes) 2 (test (erasures_fit h e) 3 done)) z (omega arith) in
@@ -37,7 +37,7 @@ module _ (h : Header) (m e : List ℕ) (row out scratch : ℕ) where
 
   -- the three tests of a call with an output and a scratch, and others after them
   abbrev pub image_tests : Tests → Tests
-  image_tests rest = imageTestsOf h m e sizes_fit rest
+  image_tests rest = image_tests_of h m e sizes_fit rest
 
   pub record Lent : Type 0 where
     pub fits : header_fits h ≡ true

@@ -70,4 +70,4 @@ module _ {r b : Bool} (e : r ≡ b) where
         sizes_hold ez en = sym (test_holds 1 _ (header_holds h) ∙ test_holds 2 rest (equal_three x x' y y' z z' (ex ∙ es) (ey ∙ et) (ez ∙ eu)) ∙ en)
 
 -- what the needs of such a call follow from
-pub ruleset sizes-needs = (header_refused, header_holds, first_refused, second_refused, third_refused, sizes_hold, none_fails, rules)
+pub ruleset sizes_needs = (header_refused, header_holds, first_refused, second_refused, third_refused, sizes_hold, none_fails, rules)

@@ -39,7 +39,7 @@ pub fn range_at(st: Stripe, from: usize, room: usize) -> Range
 }
 
 // Decodes a range of columns in a part that has room for exactly these: 8 if a surviving word of any column is not of the field, 9 if no blocks have the
-// surviving words of the range, or 0. The part then holds the blocks' columns and zeros after them; else what is left in it is open.
+// surviving words of the range, or 0. After 0 the part holds the blocks' columns and zeros after them, after 9 zeros; after 8 it is open.
 pub fn decode_range<S: Source>(
     st: Stripe,
     source: S,
@@ -61,6 +61,7 @@ pub fn decode_range<S: Source>(
         part.new ≡
         columns_of st.width range.from range.cols (block_count st) (blocks_in st marks.now (rows_in st marks.now (S.words source))) ++
         replicate (block_count st * range.cols) 0 }
+    ensures part_after_9 { result ≡ 9 → part.new ≡ replicate (position_count st * range.cols) 0 }
 {
     if !image::loading::load(part, source, marks, st, range) {
         return 8;

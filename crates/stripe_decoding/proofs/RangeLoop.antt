@@ -26,7 +26,7 @@ use Rattle.judging.proofs.ColumnRanges.{consistent_range, length_columns, length
 use Rattle.range_decoding.specs.steps.Ranges.{RangeFits, is_consistent_range, range_number}
 use Rattle.range_laying.specs.declared.Content.{Content}
 use Rattle.range_laying.specs.steps.Blocks.{row_words, lay_blocks, laid_from, laid_range, Placed}
-use Rattle.range_laying.proofs.LaidRanges.{LaidTo, laid_start, laid_placed, laid_next, laid_all}
+use Rattle.range_laying.proofs.LaidRanges.{LaidTo, laid_start, laid_first, laid_placed, laid_next, laid_all}
 
 -- a column that is not consistent makes all of them so
 less_consistent : (p w k l t width : ℕ) (ms : List Bool) (r : List ℕ) (i n : ℕ) → i ≤ n → consistent_to p w k l t width ms r i ≡ false
@@ -122,6 +122,7 @@ module _ (c : Content) (st : Stripe) (ms : List Bool) (ws : List ℕ) where
     pub marked : MarksTo st (blocks st ms ws) from fits
     pub judged : fit ≡ all_hold fits (block_count st)
     pub laid : fit ≡ true → LaidTo c st (blocks st ms ws) from o₀ o
+    pub untouched : st.level < st.k → fit ≡ false → o ≡ o₀
 
   pub ranging_start : (o s : List ℕ) → StripeFits st → Ranging (length s) o o s (replicate {A = Bool} 1024 true) true 0
   unfolding consistent_to
@@ -137,6 +138,7 @@ module _ (c : Content) (st : Stripe) (ms : List Bool) (ws : List ℕ) where
         marked = marks_none st (blocks st ms ws) 1024 few;
         judged = sym (all_held_true (replicate {A = Bool} 1024 true) (block_count st) (λ j b. get_or-replicate {A = Bool} 1024 j true false (omega arith)));
         laid = λ e. laid_start c st (blocks st ms ws) o;
+        untouched = λ w e. refl;
       }
 
   module _ {room : ℕ} {o₀ o s : List ℕ} {fits : List Bool} {fit : Bool} {from : ℕ} (R : Ranging room o₀ o s fits fit from) where
@@ -145,6 +147,19 @@ module _ (c : Content) (st : Stripe) (ms : List Bool) (ws : List ℕ) where
       more_consistent : are_consistent (range.from + range.cols) ≡ (is_consistent_range st ms (rows st ms ws) range && are_consistent range.from)
       more_consistent = consistent_range (modulus_of st) (root_in st) st.k st.level st.first ms st.width (rows st ms ws) range.from range.cols
 
+      range_differs : is_consistent_range st ms (rows st ms ws) range ≡ false → is_consistent st ms (rows st ms ws) ≡ false
+      range_differs q =
+          less_consistent (modulus_of st) (root_in st) st.k st.level st.first st.width ms (rows st ms ws) (range.from + range.cols) st.width f.within
+          (more_consistent ∙ first_false (are_consistent range.from) q)
+
+      -- a level that has a range left is not laid yet
+      level_kept : StripeFits st → length o₀ ≡ 2 ^ st.k * row_words c st → st.level < st.k → o ≡ o₀
+      level_kept d m w = by fit refl
+        where
+          by : (b : Bool) → fit ≡ b → o ≡ o₀
+          by true e = (R.laid e).none (laid_first (R.laid e) d m w (omega (arith, f.begins, f.some, f.within)))
+          by false e = R.untouched w e
+
       -- a range that is refused: its number is the stripe's
       pub range_stops : Ready st ms → (number ≡ 0 → ⊥) → number ≡ decoded_number (decode_rows st ms ws)
       range_stops d z = by (refused e z)
@@ -152,11 +167,20 @@ module _ (c : Content) (st : Stripe) (ms : List Bool) (ws : List ℕ) where
           by : Refused (are_below (modulus_of st) (rows st ms ws)) (is_consistent_range st ms (rows st ms ws) range) number
               → number ≡ decoded_number (decode_rows st ms ws)
           by (by_eight b n) = n ∙ sym (ap decoded_number (stray st ms ws d b))
-          by (by_nine b q n) =
-              let r : is_consistent st ms (rows st ms ws) ≡ false =
-              less_consistent (modulus_of st) (root_in st) st.k st.level st.first st.width ms (rows st ms ws) (range.from + range.cols) st.width f.within
-              (more_consistent ∙ first_false (are_consistent range.from) q) in
-              n ∙ sym (ap decoded_number (differs st ms ws d b r))
+          by (by_nine b q n) = n ∙ sym (ap decoded_number (differs st ms ws d b (range_differs q)))
+
+      -- and a level's output is as it was
+      pub range_left : Ready st ms → (number ≡ 0 → ⊥) → length o₀ ≡ 2 ^ st.k * row_words c st → st.level < st.k
+          → o ≡ laid_from (lay_blocks c st) (decode_rows st ms ws) o₀
+      range_left d z m w = by (refused e z)
+        where
+          left : {n : ℕ} → decode_rows st ms ws ≡ failed n → o ≡ laid_from (lay_blocks c st) (decode_rows st ms ws) o₀
+          left q = level_kept d.fits m w ∙ sym (ap (λ (x : Decoded). laid_from (lay_blocks c st) x o₀) q)
+
+          by : Refused (are_below (modulus_of st) (rows st ms ws)) (is_consistent_range st ms (rows st ms ws) range) number
+              → o ≡ laid_from (lay_blocks c st) (decode_rows st ms ws) o₀
+          by (by_eight b n) = left (stray st ms ws d b)
+          by (by_nine b q n) = left (differs st ms ws d b (range_differs q))
 
       -- a range that is taken, its blocks' words l, and the marks after it
       module _ (z : number ≡ 0) {l : List ℕ} (q : l ≡ columns_of st.width range.from range.cols (block_count st) (blocks st ms ws))
@@ -179,15 +203,15 @@ module _ (c : Content) (st : Stripe) (ms : List Bool) (ws : List ℕ) where
         fit_before : fit' ≡ true → fit ≡ true
         fit_before t = R.judged ∙ held_before J (sym h ∙ t)
 
-        module _ (d : StripeFits st) (m : length o₀ ≡ 2 ^ st.k * row_words c st) (y : st.level < st.k → stripe_words st ≤ room) where
+        module _ (d : StripeFits st) (m : length o₀ ≡ 2 ^ st.k * row_words c st) (enough : st.level < st.k → stripe_words st ≤ room) where
           pub range_placed : fit' ≡ true → st.level < st.k → Placed c st range l o
           range_placed t w =
-              laid_placed (R.laid (fit_before t)) d m size range f.begins f.some f.within (λ v. f.whole (y v)) l q w
+              laid_placed (R.laid (fit_before t)) d m size range f.begins f.some f.within (λ v. f.whole (enough v)) l q w
               (λ j b. held_below marked_more (omega (arith, f.some)) (sym h ∙ t) j b w)
 
           pub range_taken : {o' s' : List ℕ} → length s' ≡ length s → length o' ≡ length o → (fit' ≡ true → o' ≡ laid_range c st range l o)
-              → Ranging room o₀ o' s' fits' fit' (from + range.cols)
-          range_taken {o'} {s'} n k x =
+              → (fit' ≡ false → o' ≡ o) → Ranging room o₀ o' s' fits' fit' (from + range.cols)
+          range_taken {o'} {s'} n k x y =
               let b = taken e z in
               let at : from + range.cols ≡ range.from + range.cols = ap (λ (i : ℕ). i + range.cols) (sym f.begins) in
               record {
@@ -200,7 +224,8 @@ module _ (c : Content) (st : Stripe) (ms : List Bool) (ws : List ℕ) where
                 marked = rw at marked_more;
                 judged = h;
                 laid = λ t.
-                    laid_next (R.laid (fit_before t)) d m size range f.begins f.some f.within (λ v. f.whole (y v)) l q (x t);
+                    laid_next (R.laid (fit_before t)) d m size range f.begins f.some f.within (λ v. f.whole (enough v)) l q (x t);
+                untouched = λ w t. y t ∙ level_kept d m w;
               }
 
     -- all ranges
@@ -227,3 +252,6 @@ module _ (c : Content) (st : Stripe) (ms : List Bool) (ws : List ℕ) where
           (length_decoded (modulus_of st) (root_in st) st.k st.level st.first ms st.width (rows st ms ws))
           (λ w j b. held_place (rw all_from at R.marked) (omega (arith, d.fits.thick)) (sym R.judged ∙ e) j b w)
           ∙ sym (ap (λ (x : Decoded). laid_from (lay_blocks c st) x o₀) (all_ranges e))
+
+      pub ranges_left : fit ≡ false → st.level < st.k → o ≡ laid_from (lay_blocks c st) (decode_rows st ms ws) o₀
+      ranges_left e w = R.untouched w e ∙ sym (ap (λ (x : Decoded). laid_from (lay_blocks c st) x o₀) (all_ranges e))

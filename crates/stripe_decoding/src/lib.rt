@@ -3,7 +3,7 @@
 
 pub mod decoding;
 pub mod fetching;
-mod ranges;
+pub mod ranges;
 
 use layout::Header;
 use range_laying::Content;

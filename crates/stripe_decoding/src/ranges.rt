@@ -24,8 +24,9 @@ fn store_factors(factors: &mut [u32], marks: &[bool], st: Stripe, scratch: &mut 
 }
 
 // Decodes a stripe and lays its blocks: 8, 9 or 10, or 0. The first range tells whether it is 8; only the last one tells that none is 9, so that 10 waits
-// for it. What is left of the scratch is open, and of the output where it is not 0.
-pub(crate) fn decode_and_lay<S: Source>(
+// for it. A level that is refused leaves the output as it was, since it is one range; what is left of the scratch is open, and of the output where the full
+// stripe is refused.
+pub fn decode_and_lay<S: Source>(
     content: Content,
     st: Stripe,
     source: S,
@@ -40,6 +41,7 @@ pub(crate) fn decode_and_lay<S: Source>(
     requires level_room { st.level < st.k → stripe_words st ≤ length scratch.old }
     ensures value { result ≡ decoded_number (decode_rows st marks.now (S.words source)) }
     ensures out_after { result ≡ 0 → out.new ≡ laid_from (lay_blocks content st) (decode_rows st marks.now (S.words source)) out.old }
+    ensures level_after { st.level < st.k → out.new ≡ laid_from (lay_blocks content st) (decode_rows st marks.now (S.words source)) out.old }
 {
     let positions = code::number::two_to(st.level + 1);
     let blocks = code::number::two_to(st.level);

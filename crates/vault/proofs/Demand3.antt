@@ -87,8 +87,8 @@ recovers_all o es m e O X = recovers X.leaves X.long X.words
         rw (header_after, image_after, vault_after, t.vault_is, t.model_is)
         (λ L long S.
         record {
-          call = λ out scratch outLong scratchLong.
-              found (round_header a) m e out scratch (header_fits_lem t.good) L.well_formed long outLong scratchLong (records_in a)
+          call = λ out scratch out_long scratch_long.
+              found (round_header a) m e out scratch (header_fits_lem t.good) L.well_formed long out_long scratch_long (records_in a)
               (recover_round t.good e m L.keeps S);
         })
 

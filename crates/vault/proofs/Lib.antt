@@ -9,6 +9,7 @@ pub mod LastWrites
 pub mod Laying
 pub mod Levels
 pub mod Loading
+pub mod Openings
 pub mod Origins
 pub mod Proved
 pub mod Rebuilding

@@ -10,6 +10,7 @@ use Rattle.vault.proofs.LastWrites.{last_is_record, else_at_start}
 use Rattle.vault.proofs.Origins.{origins_true, one_origin}
 use Rattle.vault.proofs.Blanks.{gives_eleven, else_as_earlier, five_not_blank, refused_stays, opens_iff, zeros_open, blank_refused, blank_kept}
 use Rattle.vault.proofs.Boundary.{part_is, none_named, none_explained}
+use Rattle.vault.proofs.Openings.{header_as_opened, records_as_opened, before_as_opened, last_as_opened, start_as_opened, refused_as_opened, kept_as_opened}
 use Rattle.vault.proofs.Worked.{worked, worked_blanks}
 
 pub proved : Promises
@@ -68,6 +69,15 @@ proved = record {
     blank_kept = blank_kept;
   };
   boundary = record { part_is = part_is; none_named = none_named; none_explained = none_explained };
+  openings = record {
+    header_as_opened = header_as_opened;
+    records_as_opened = records_as_opened;
+    before_as_opened = before_as_opened;
+    last_as_opened = last_as_opened;
+    start_as_opened = start_as_opened;
+    refused_as_opened = refused_as_opened;
+    kept_as_opened = kept_as_opened;
+  };
   worked = worked;
   worked_blanks = worked_blanks;
 }

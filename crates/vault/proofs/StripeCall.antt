@@ -149,10 +149,10 @@ pub call_gives : (h : Header) (m e : List ℕ) (l : ℕ) (bs : List ℕ) → hea
     → decode_stripe h m (erasures_in e) l ≡ decoded bs → Gives h m e l bs
 call_gives h m e l bs fits formed needed is = record {
   decodes = is;
-  call = λ out scratch image outLong scratchLong.
+  call = λ out scratch image out_long scratch_long.
       let A : Asked h m e l out scratch =
       test_holds 1 _ fits ∙ test_holds 2 _
-      (equal_three (length m) (image_size h) (length out) (out_size h) (length scratch) (scratch_size h) image outLong scratchLong)
+      (equal_three (length m) (image_size h) (length out) (out_size h) (length scratch) (scratch_size h) image out_long scratch_long)
       ∙ test_holds 3 _ formed ∙ test_holds 6 done (needed_passes h l needed) ∙ none_fails in (
         number_of h m e l out scratch A ∙ ap decoded_number is,
         words_of h m e l out scratch A ∙ ap (λ (d : Decoded). decoded_words d (out_size h)) is,

@@ -25,7 +25,7 @@ words_zero [] = true
 words_zero (w ∷ ws) = eqb w 0 && words_zero ws
 
 -- by 2, 4 and 5, which every write has had; `otherwise` where none of them applies
-abbrev pub judged : Model → (record-number : ℕ) → (block : List ℕ) → (otherwise : ℕ) → ℕ
+abbrev pub judged : Model → (record_number : ℕ) → (block : List ℕ) → (otherwise : ℕ) → ℕ
 judged x i b otherwise =
     elim (eqb (length b) x.s) [
       | true ↦ elim (ltb i (2 ^ x.k)) [ true ↦ elim (words_fit b) [ true ↦ otherwise | false ↦ 5 ] | false ↦ 4 ]

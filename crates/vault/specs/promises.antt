@@ -7,4 +7,5 @@ pub mod Losses
 pub mod Explaining
 pub mod Blanks
 pub mod Boundary
+pub mod Openings
 pub mod All

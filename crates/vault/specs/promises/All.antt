@@ -8,6 +8,7 @@ use Rattle.vault.specs.promises.Losses.{Losses}
 use Rattle.vault.specs.promises.Explaining.{Explaining}
 use Rattle.vault.specs.promises.Blanks.{Blanks}
 use Rattle.vault.specs.promises.Boundary.{Boundary}
+use Rattle.vault.specs.promises.Openings.{Openings}
 use Rattle.vault.specs.Worked.{Holds, examples, blank_examples}
 
 -- the three demands, what else is promised, and the worked examples
@@ -19,5 +20,6 @@ pub record Promises : Type 0 where
   pub explaining : Explaining
   pub blanks : Blanks
   pub boundary : Boundary
+  pub openings : Openings
   pub worked : Holds examples
   pub worked_blanks : Holds blank_examples

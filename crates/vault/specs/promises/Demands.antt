@@ -1,6 +1,6 @@
 -- WHAT THE VAULT PROMISES: the three demands, as lines that can be shown. The rooms beside this file have the words that these lines use, and what else is
--- promised: Decoding has Readable, Codes, HoldRecords, Decodes and Fails; Losses has Survives, SameRemains and Recovers; then Histories, Explaining, Blanks and
--- Boundary. All has the record of everything, whose one proof is `proved` of proofs/Proved. Assumes nothing.
+-- promised: Decoding has Readable, Codes, HoldRecords, Decodes and Fails; Losses has Survives, SameRemains and Recovers; then Histories, Explaining, Blanks,
+-- Boundary and Openings. All has the record of everything, whose one proof is `proved` of proofs/Proved. Assumes nothing.
 --
 -- SIGNS. First `f a`, h.k and ^ bind; then * and +, -; then ∷ and ++; then ≡, ≤, <; then ×, ⊎, ↔; then →; and `let` what follows it
 --   f a z             f of a and z, as f(a, z) elsewhere   h.k              the field k of h

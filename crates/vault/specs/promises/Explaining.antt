@@ -89,7 +89,7 @@ pub record HoldsWrite (h : Header) (l t : ℕ) : Type 0 where
   pub starts : first_of h l ≤ t
   pub ends : t < first_of h l + 2 ^ l
 
-abbrev pub Origin : Header → Model → (record-number stripe write : ℕ) → Type 0
+abbrev pub Origin : Header → Model → (record_number stripe write : ℕ) → Type 0
 Origin h x i l t = (LastWrite x i t × HoldsWrite h l t) ⊎ (NoWrite x i × (l ≡ h.k) × (t ≡ 0))
 
 -- where every needed stripe keeps half, the pair of each record is its origin, by the model's writes

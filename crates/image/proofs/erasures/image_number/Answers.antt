@@ -4,7 +4,7 @@ use Rattle.layout.specs.declared.Header.{Header}
 use Rattle.layout.specs.Header.{header_fits, image_size}
 use Rattle.layout.specs.Refusals.{done, test, refusal}
 use Rattle.layout.proofs.Bounds.{fits}
-use Rattle.layout.proofs.Refusals.{sizes-needs}
+use Rattle.layout.proofs.Refusals.{sizes_needs}
 use Rattle.image.specs.Erasures.{erasures_in, erasures_rise, erasures_fit}
 use Rattle.image.proofs.erasures.image_number.Goals as goal
 
@@ -22,7 +22,7 @@ module _ (h : Header) {size : ℕ} (e : size ≡ image_size h) where
     unfolding refusal
     erasures_fail t = rw (← e, ← eb, t)
 
-ruleset needs = (low, erasures_fit_lem, erasures_fail, sizes-needs)
+ruleset needs = (low, erasures_fit_lem, erasures_fail, sizes_needs)
 
 pub returns-then-not-header_fits : goal.returns-then-not-header_fits
 returns-then-not-header_fits c = search needs

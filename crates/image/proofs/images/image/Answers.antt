@@ -4,7 +4,7 @@ use Rattle.std.proofs.lemmas.List.Edits.{sets}
 use Rattle.layout.specs.declared.Header.{Header}
 use Rattle.layout.specs.Header.{header_fits, full_size, log_size, image_size}
 use Rattle.layout.proofs.Bounds.{fits}
-use Rattle.layout.proofs.Refusals.{sizes-needs, header_holds, sizes_hold, none_fails, if_taken_lem, if_refused}
+use Rattle.layout.proofs.Refusals.{sizes_needs, header_holds, sizes_hold, none_fails, if_taken_lem, if_refused}
 use Rattle.image.specs.Image.{bytes_of, image_of}
 use Rattle.image.specs.ImageCall.{image_number, image_leaves}
 use Rattle.image.proofs.WordBytes.{image_stored}
@@ -29,7 +29,7 @@ module _ (h : Header) (f g m : List ℕ) where
         let z : 0 ≡ image_number h f g m = sizes_hold er _ n es ef et eg eu em none_fails in
         ex ∙ rw ey (image_stored m f g long) ∙ sym (if_taken_lem (image_of f g) m (sym z))
 
-ruleset needs = (left_1, left_2, taken, sizes-needs)
+ruleset needs = (left_1, left_2, taken, sizes_needs)
 
 pub returns-then-not-header_fits-clause-value : goal.returns-then-not-header_fits-clause-value
 returns-then-not-header_fits-clause-value c = search needs

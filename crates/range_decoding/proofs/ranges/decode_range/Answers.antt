@@ -3,10 +3,11 @@
 use Rattle.std.proofs.Common.{sym, ap, ◌∙◌, ◌≡◌, ◌*◌, ◌++◌, ℕ, List, length, drop, lit<}
 use Rattle.code.specs.declared.Stripe.{Stripe}
 use Rattle.code.specs.declared.Range.{Range}
-use Rattle.code.specs.Stripe.{position_count, with_width}
+use Rattle.code.specs.Stripe.{modulus_of, root_in, position_count, with_width}
 use Rattle.code.proofs.RowLaws.{no_rest}
 use Rattle.decoder.specs.Decoding.{is_consistent}
 use Rattle.decoder.specs.steps.Decoder.{left_of}
+use Rattle.decoder.proofs.DecodeRows.{leaves_zeros}
 use Rattle.image.specs.steps.Loading.{columns_of}
 use Rattle.image.proofs.StripeLoads.{columns_words}
 use Rattle.range_decoding.proofs.RangeDecoding.{tested_once, number_eight, number_nine, number_zero, range_blocks}
@@ -53,3 +54,9 @@ returns-clause-value g c =
     let e = columns_alone a.st a.range _ _ c.requires.part_len c.load.ensures.part_after in
     sym (number_nine _ _ (sym found ∙ c.if-not-load.false)
     (sym (c.decode.ensures.value ∙ ap (is_consistent (with_width a.st a.range.cols) a.marks.now) e) ∙ c.if-decode.false))
+
+pub returns-clause-part_after_9 : goal.returns-clause-part_after_9
+returns-clause-part_after_9 g c _ =
+    let a = c.args in
+    c.decode.ensures.part_after
+    ∙ leaves_zeros (modulus_of a.st) (root_in a.st) a.st.k a.st.level a.st.first a.range.cols a.marks.now _ (sym c.decode.ensures.value ∙ c.if-decode.false)

@@ -67,26 +67,26 @@ module _ (h : Header) (r f g : List ℕ) (i : ℕ) (b : List ℕ) {n : ℕ} (e :
           unfolding refusal
           all_hold k = tested z l em ex ey true true false (lt-ltb i m w) d k
 
-ruleset write-tests = (refused, unequal, not_within, no_data, blank_block, all_hold, rules)
+ruleset write_rules = (refused, unequal, not_within, no_data, blank_block, all_hold, rules)
 
 pub returns-then-early-ne0 : goal.returns-then-early-ne0
-returns-then-early-ne0 c = search write-tests
+returns-then-early-ne0 c = search write_rules
 
 pub returns-then-block-header : goal.returns-then-block-header
-returns-then-block-header c = search write-tests
+returns-then-block-header c = search write_rules
 
 pub two_to-requires : goal.two_to-requires
 two_to-requires c =
     low_k c.args.header c.args.raw.now c.args.full.now c.args.log.now c.args.number c.args.block.now c.buffers_number-early.ensures c.if-early-ne0.false
 
 pub returns-then-outside : goal.returns-then-outside
-returns-then-outside c = search write-tests
+returns-then-outside c = search write_rules
 
 pub returns-then-not-fit : goal.returns-then-not-fit
-returns-then-not-fit c = search write-tests
+returns-then-not-fit c = search write_rules
 
 pub returns-then-blank : goal.returns-then-blank
-returns-then-blank c = search write-tests
+returns-then-blank c = search write_rules
 
 pub returns : goal.returns
-returns c = search write-tests
+returns c = search write_rules

@@ -2,8 +2,8 @@
 use Rattle.std.proofs.Common.{◌*◌, ◌∙◌, add-one}
 use Rattle.code.specs.Stripe.{block_count}
 use Rattle.judging.proofs.ColumnRanges.{length_columns}
-use Rattle.stripe_decoding.proofs.RangeLoop.{blocks, first_words, same_length, ranging_start, range_stops, range_placed, range_taken}
-use Rattle.stripe_decoding.proofs.RangeLoop.{ranges_ten, ranges_zero, ranges_laid}
+use Rattle.stripe_decoding.proofs.RangeLoop.{blocks, first_words, same_length, ranging_start, range_stops, range_left, range_placed, range_taken}
+use Rattle.stripe_decoding.proofs.RangeLoop.{ranges_ten, ranges_zero, ranges_laid, ranges_left}
 use Rattle.stripe_decoding.proofs.ranges.decode_and_lay.Goals.{then-fit, else-fit}
 use Rattle.stripe_decoding.proofs.ranges.decode_and_lay.Goals as goal
 
@@ -18,6 +18,13 @@ returns-then-number-ne0-clause-value g c =
     let f = rw R.sized at c.range_at-range.ensures in
     range_stops c.args.content c.args.st c.args.marks.now (g.S.Source.words c.args.source) R f c.decode_range-number.ensures.value c.requires.ready
     c.if-number-ne0.true
+
+pub returns-then-number-ne0-clause-level_after : goal.returns-then-number-ne0-clause-level_after
+returns-then-number-ne0-clause-level_after g c w =
+    let R = c.loop-from.invariant in
+    let f = rw R.sized at c.range_at-range.ensures in
+    range_left c.args.content c.args.st c.args.marks.now (g.S.Source.words c.args.source) R f c.decode_range-number.ensures.value c.requires.ready
+    c.if-number-ne0.true c.requires.out_len w
 
 pub lay_range-requires-clause-placed : goal.lay_range-requires-clause-placed
 lay_range-requires-clause-placed g c =
@@ -48,6 +55,7 @@ loop-from-preserved g c =
     (rw (c.two_to-positions.ensures, add-one) c.range_at-range.ensures.inside) c.decode_range-number.auto.part)
     c.if-fit.auto.out
     (λ t. elim c.if-fit.branch [ then-fit w ↦ w.out-is ∙ w.lay_range.ensures | else-fit w ↦ cc ])
+    (λ t. elim c.if-fit.branch [ then-fit w ↦ cc | else-fit w ↦ w.out-is ])
 
 pub returns-then-fit-2-clause-value : goal.returns-then-fit-2-clause-value
 returns-then-fit-2-clause-value g c =
@@ -63,3 +71,13 @@ pub returns-else-fit-2-clause-value : goal.returns-else-fit-2-clause-value
 returns-else-fit-2-clause-value g c =
     ranges_ten c.args.content c.args.st c.args.marks.now (g.S.Source.words c.args.source) c.loop-from.invariant c.loop-from-test.false c.requires.ready
     c.if-fit-2.false
+
+pub returns-then-fit-2-clause-level_after : goal.returns-then-fit-2-clause-level_after
+returns-then-fit-2-clause-level_after g c _ =
+    ranges_laid c.args.content c.args.st c.args.marks.now (g.S.Source.words c.args.source) c.loop-from.invariant c.loop-from-test.false c.requires.ready
+    c.if-fit-2.true c.requires.out_len
+
+pub returns-else-fit-2-clause-level_after : goal.returns-else-fit-2-clause-level_after
+returns-else-fit-2-clause-level_after g c w =
+    ranges_left c.args.content c.args.st c.args.marks.now (g.S.Source.words c.args.source) c.loop-from.invariant c.loop-from-test.false c.requires.ready
+    c.if-fit-2.false w
