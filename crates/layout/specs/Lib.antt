@@ -1,3 +1,4 @@
 pub mod Header
 pub mod Records
 pub mod Refusals
+pub mod ValidHeaders

@@ -1,5 +1,26 @@
--- The refusals of a call, and what it leaves of a buffer when it is refused. Assumes nothing: these are definitions.
-use Rattle.std.specs.Prelude.{Bool, true, false, ℕ, eqb}
+-- The refusals of a call, their numbers, and what it leaves of a buffer when it is refused. Assumes nothing: these are definitions.
+use Rattle.std.specs.Prelude.{Bool, true, false, ℕ, eqb, Result, Ok, Err}
+use Rattle.layout.specs.declared.refusal.Refusal.{Refusal}
+use Rattle.layout.specs.declared.refusal.Refusal.TheVariants.{HeaderRange, Length, ErasureList, RecordNumber, DataWord, NoStripe, TooFew, OutOfField, Inconsistent, NotRecords, Blank}
+
+-- THE TABLE OF REFUSALS (docs/FORMAT.md, section 10): the number of each
+abbrev pub number_of : Refusal → ℕ
+number_of HeaderRange = 1
+number_of Length = 2
+number_of ErasureList = 3
+number_of RecordNumber = 4
+number_of DataWord = 5
+number_of NoStripe = 6
+number_of TooFew = 7
+number_of OutOfField = 8
+number_of Inconsistent = 9
+number_of NotRecords = 10
+number_of Blank = 11
+
+-- the number of an answer: 0 if the call is taken
+abbrev pub answer_number : {A : Type 0} → Result A Refusal → ℕ
+answer_number (Ok x) = 0
+answer_number (Err e) = number_of e
 
 -- REFUSALS in rising number: the smallest that applies, 0 if none does
 pub data Tests : Type 0 where

@@ -1,45 +1,46 @@
 // Where stripes stand, their numbers, which there are, and the first empty level.
-ghost use Rattle.std.specs.Prelude.{◌≡◌, true, ◌^◌, ◌≤◌, ◌<◌, suc, ℕ};
-ghost use Rattle.layout.specs.Header.{header_fits, first_of, stripe_at, stripe_of, is_filled, has_stripe, first_empty};
+ghost use Rattle.std.specs.Prelude.{◌≡◌, ◌^◌, ◌≤◌, ◌<◌, suc, ℕ};
+ghost use Rattle.layout.specs.Header.{first_of, stripe_at, stripe_of, is_filled, has_stripe, first_empty};
 
-use crate::Header;
+use crate::{Header, ValidHeader};
 use code::Stripe;
 
-// The write number of a stripe's first block.
-fn first_of(header: Header, level: usize) -> usize
-    requires { (header_fits header ≡ true) × (level ≤ header.k) }
-    ensures { result ≡ first_of header level }
-{
-    if level == header.k as usize {
-        return 0;
+impl ValidHeader {
+    // The write number of a stripe's first block.
+    fn first_of(self, level: usize) -> usize
+        requires { level ≤ self.header.k }
+        ensures { result ≡ first_of self.header level }
+    {
+        if level == self.header.k as usize {
+            return 0;
+        }
+        let size = code::number::two_to(level + 1);
+        self.header.c as usize / size * size
     }
-    let size = code::number::two_to(level + 1);
-    header.c as usize / size * size
-}
 
-// Where a stripe begins in the image, in words.
-pub fn stripe_at(header: Header, level: usize) -> usize
-    requires { (header_fits header ≡ true) × (level ≤ header.k) }
-    ensures { result ≡ stripe_at header level }
-{
-    if level == header.k as usize {
-        return 0;
+    // Where a stripe begins in the image, in words.
+    pub fn stripe_at(self, level: usize) -> usize
+        requires { level ≤ self.header.k }
+        ensures { result ≡ stripe_at self.header level }
+    {
+        if level == self.header.k as usize {
+            return 0;
+        }
+        let rows = code::number::two_to(level + 1) - 2;
+        self.full_size() + rows * self.width()
     }
-    let rows = code::number::two_to(level + 1) - 2;
-    crate::sizes::full_size(header) + rows * (header.s as usize + 1)
-}
 
-// The numbers of a stripe.
-pub fn stripe_of(header: Header, level: usize) -> Stripe
-    requires { (header_fits header ≡ true) × (level ≤ header.k) }
-    ensures { result ≡ stripe_of header level }
-{
-    let k = header.k as usize;
-    Stripe {
-        level: level,
-        k: k,
-        first: first_of(header, level),
-        width: header.s as usize + 1,
+    // The numbers of a stripe.
+    pub fn stripe_of(self, level: usize) -> Stripe
+        requires { level ≤ self.header.k }
+        ensures { result ≡ stripe_of self.header level }
+    {
+        Stripe {
+            level,
+            k: self.header.k as usize,
+            first: self.first_of(level),
+            width: self.width(),
+        }
     }
 }
 
@@ -56,14 +57,7 @@ pub fn has_stripe(header: Header, stripe: u32) -> bool
     requires { header.k ≤ 10 }
     ensures { result ≡ has_stripe header stripe }
 {
-    let k = header.k;
-    if stripe == k {
-        return true;
-    }
-    if k <= stripe {
-        return false;
-    }
-    is_filled(header, stripe as usize)
+    stripe == header.k || (stripe < header.k && is_filled(header, stripe as usize))
 }
 
 // The first empty level, counted from 0: the lowest bit of c that is 0.

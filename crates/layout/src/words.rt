@@ -1,5 +1,5 @@
 // The loops over words that several calls share.
-ghost use Rattle.std.specs.Prelude.{◌≡◌, ◌+◌, ◌*◌, ◌≤◌, length, replicate};
+ghost use Rattle.std.specs.Prelude.{◌≡◌, ◌+◌, ◌*◌, ◌≤◌, length};
 ghost use Rattle.code.specs.steps.Storing.{stored, word_from};
 ghost use Rattle.layout.specs.Records.{are_data, is_blank, records_fit};
 
@@ -8,24 +8,19 @@ pub fn copy_row(out: &mut [u32], to: usize, words: &[u32], from: usize, count: u
     requires { (to + count ≤ length out.old) × (from + count ≤ length words.now) }
     ensures { out.new ≡ stored to (word_from words.now from) count out.old }
 {
-    for j in 0..count {
-        let x = from + j;
-        let y = to + j;
-        out[y] = words[x];
-    }
+    out[to..to + count].copy_from_slice(&words[from..from + count]);
 }
 
 // Test 5 of one record: whether these may be its data.
 pub fn all_data(words: &[u32]) -> bool
     ensures { result ≡ are_data words.now }
 {
+    // No early end: a loop that has none takes four words at a time.
     let mut fit = true;
-    let mut i = 0;
-    while i < words.len() {
-        if 65535 < words[i] {
+    for word in words {
+        if 65535 < *word {
             fit = false;
         }
-        i += 1;
     }
     fit
 }
@@ -34,14 +29,7 @@ pub fn all_data(words: &[u32]) -> bool
 pub fn is_blank(words: &[u32]) -> bool
     ensures { result ≡ is_blank words.now }
 {
-    let mut i = 0;
-    while i < words.len() {
-        if words[i] != 0 {
-            break;
-        }
-        i += 1;
-    }
-    i == words.len()
+    words.iter().all(|word| *word == 0)
 }
 
 // Test 5 of n records of s words: whether each holds such data. Most often all words do, which one pass over them shows.
@@ -52,24 +40,11 @@ pub fn records_fit(raw: &[u32], s: usize, n: usize) -> bool
     if all_data(raw) {
         return true;
     }
-    let mut at = 0;
     for i in 0..n {
-        let next = at + s;
-        if !all_data(&raw[at..next]) {
+        let at = i * s;
+        if !all_data(&raw[at..at + s]) {
             return false;
         }
-        at = next;
     }
     true
-}
-
-// Zeros.
-pub fn clear(part: &mut [u32])
-    ensures { part.new ≡ replicate (length part.old) 0 }
-{
-    let mut i = 0;
-    while i < part.len() {
-        part[i] = 0;
-        i += 1;
-    }
 }

@@ -1,15 +1,6 @@
 -- `layout::words::copy_row` meets its contract. Assumes nothing.
-use Rattle.std.proofs.Common.{refl}
-use Rattle.code.specs.steps.Storing.{word_from}
-use Rattle.code.proofs.RowLaws.{storing_start, storing_turn, storing_done}
+use Rattle.code.proofs.RowLaws.{stored_copy}
 use Rattle.layout.proofs.words.copy_row.Goals as goal
 
-pub loop-j-init : goal.loop-j-init
-loop-j-init c = storing_start _ _ _ _
-
-pub loop-j-preserved : goal.loop-j-preserved
-unfolding word_from
-loop-j-preserved c = storing_turn c.loop-j.invariant c.loop-j-test.true refl
-
 pub returns : goal.returns
-returns c = storing_done c.loop-j.invariant c.loop-j-test.false
+returns c = stored_copy c.args.to c.args.from c.args.count c.args.out.now c.args.words.now c.requires.0 c.requires.1 c.copy_from_slice.ensures.after
