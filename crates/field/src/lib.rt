@@ -17,8 +17,8 @@ fn difference(x: u32, y: u32) -> u32
     requires { (x < fermat.modulus) × (y ≤ fermat.modulus) }
     ensures { result ≡ minus fermat.modulus x y }
 {
-    let d = std::num::wrapping_sub_u32(x, y);
-    std::num::wrapping_add_u32(d, d / 2147483648 * MODULUS)
+    let d = x.wrapping_sub(y);
+    d.wrapping_add(d / 2147483648 * MODULUS)
 }
 
 pub fn add(x: u32, y: u32) -> u32
@@ -53,19 +53,18 @@ pub fn mul(x: u32, y: u32) -> u32
     requires { (x < fermat.modulus) × (y < fermat.modulus) }
     ensures { result ≡ times fermat.modulus x y }
 {
-    if x == 65536 {
-        if y == 65536 {
-            return 1;
-        }
+    if x == 65536 && y == 65536 {
+        1
+    } else {
+        reduce(x * y)
     }
-    reduce(x * y)
 }
 
 pub fn power(x: u32, e: u32) -> u32
     requires { x < fermat.modulus }
     ensures { result ≡ Power.power fermat.modulus x e }
 {
-    let mut acc: u32 = 1;
+    let mut acc = 1;
     let mut base = x;
     let mut rest = e;
     while rest != 0 {
@@ -73,7 +72,7 @@ pub fn power(x: u32, e: u32) -> u32
             acc = mul(acc, base);
         }
         base = mul(base, base);
-        rest = rest / 2;
+        rest /= 2;
     }
     acc
 }

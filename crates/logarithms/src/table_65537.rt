@@ -156,11 +156,26 @@ const LOGARITHMS: [u32; 2048] = [
     55402, 50314, 36490, 36612, 51597, 2850, 41072, 47026, 54129, 59262, 11340, 8242, 19994, 42274,
 ];
 
-// The table, for a caller to make once and lend.
+// The table, all of which is stored on the stack where it is made.
 pub fn logarithms() -> [u32; 2048]
     ensures { result ≡ log_table }
 {
     LOGARITHMS
+}
+
+// The whole table, as it is lent to what looks up its entries.
+#[derive(Drop)]
+pub struct LogTable {
+    pub entries: [u32; 2048],
+    ghost is_table: { entries ≡ log_table },
+}
+
+impl LogTable {
+    pub fn new() -> Self {
+        LogTable {
+            entries: logarithms(),
+        }
+    }
 }
 
 const THREES: [u32; 32] = [
@@ -169,7 +184,7 @@ const THREES: [u32; 32] = [
     28720, 20623,
 ];
 
-// 3^0, 3^1, .., 3^31: the last digits of `power_of_three`.
+// 3^0, 3^1, .., 3^31: the powers of the last digits of `PowersOfThree`.
 pub fn threes() -> [u32; 32]
     ensures { result ≡ powers_of fermat.modulus fermat.generator 32 }
 {

@@ -11,6 +11,6 @@ square = refl
 pub returns-then-y-eq65536 : goal.returns-then-y-eq65536
 returns-then-y-eq65536 c = square ∙ sym (ap₂ (times 65537) c.if-x-eq65536.true c.if-y-eq65536.true)
 
-pub returns : goal.returns
+pub returns-else-x-eq65536 : goal.returns-else-x-eq65536
 unfolding times
-returns c = c.reduce.ensures
+returns-else-x-eq65536 c = c.reduce.ensures

@@ -9,5 +9,5 @@ pub record Inv (k t r rest i : ℕ) : Type 0 where
   pub small : r < 2 ^ i
   pub whole : r * 2 ^ (k - i) + Transform.reversed (k - i) rest ≡ Transform.reversed k t
 
-abbrev pub invariant-loop-i : goal.invariant-loop-i
-invariant-loop-i l = Inv l.fn.k l.fn.t l.r l.rest l.i
+abbrev pub invariant-loop : goal.invariant-loop
+invariant-loop l = Inv l.fn.k l.fn.t l.r l.rest l.counter
