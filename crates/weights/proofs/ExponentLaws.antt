@@ -8,6 +8,7 @@ use native.Mathlib.Decide.{dec_lt}
 use native.Mathlib.Omega.{arith}
 use borrow.Author.Tests.{eq-eqb, ne_eqb}
 use lib.ListN.{get_or}
+use Rattle.std.specs.Int.{from_bool}
 use Rattle.field.proofs.Unity.{two_div}
 use Rattle.field.proofs.PowerTables.{entry_lt}
 use Rattle.logarithms.specs.Logarithms.{log_table}
@@ -57,6 +58,12 @@ log_of_less_is l d h = ap (λ (n : ℕ). get_or log_table (n * (1024 / 2 ^ l)) 0
 pub log_of_less_lt : (l d : ℕ) → log_of_less l d < 65536
 unfolding log_of_less
 log_of_less_lt l d = log_lt _
+
+-- it is the number that a mark converts to
+pub flag_is : (b : Bool) → from_bool b ≡ flag b
+unfolding flag
+flag_is true = refl
+flag_is false = refl
 
 -- a flag is 0 or 1
 pub flag_le : (b : Bool) → flag b ≤ 1

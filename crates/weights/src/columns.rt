@@ -1,53 +1,52 @@
 // Columns of a word for each position, by the exponents of the positions' points in bit-reversed order: the marks, a digit of the logarithms, and their mixing.
 ghost use Rattle.std.specs.Prelude.{◌≡◌, ◌++◌, suc, ◌+◌, ◌^◌, ◌≤◌, ◌<◌, length, take, drop};
-ghost use Rattle.field.specs.Field.{fermat, power_table};
+ghost use Rattle.field.specs.Field.{fermat};
 ghost use Rattle.field.specs.Words.{Words};
 ghost use Rattle.code.specs.Transform.{bit_reversed};
 ghost use Rattle.code.specs.Convolution.{products};
-ghost use Rattle.logarithms.specs.Logarithms.{log_table};
 ghost use Rattle.weights.specs.steps.Digits.{flags, digits, crossed_column, sum_rows};
 
-use crate::exponents;
+use crate::exponents::Positions;
+use code::table_65537::PowerTable;
+use logarithms::table_65537::LogTable;
 
 // The marks, 1 where a position is erased.
-pub fn load_flags(column: &mut [u32], marks: &[bool], level: usize)
-    requires level_bound { level ≤ 10 }
-    requires level_in_bounds { 2 ^ suc level ≤ length marks.now }
-    requires column_len { length column.old ≡ 2 ^ suc level }
-    ensures { column.new ≡ bit_reversed (suc level) (flags level marks.now) }
+pub fn load_flags(column: &mut [u32], marks: &[bool], at: Positions)
+    requires marks_len { 2 ^ suc at.level ≤ length marks.now }
+    requires column_len { length column.old ≡ 2 ^ suc at.level }
+    ensures { column.new ≡
+        bit_reversed (suc at.level) (flags at.level marks.now) }
 {
-    let count = exponents::positions(level);
+    let count = at.count();
     for j in 0..count {
-        let i = exponents::position(exponents::reversed(j, level), level);
-        column[j] = exponents::flag(marks[i]);
+        let i = at.position(at.reversed(j));
+        column[j] = u32::from(marks[i]);
     }
 }
 
 // A digit of the logarithms of u^d - 1, for all exponents d.
-fn load_digits(column: &mut [u32], level: usize, unit: u32, table: &[u32])
-    requires level_bound { (level ≤ 10) × (0 < unit) }
-    requires column_len { length column.old ≡ 2 ^ suc level }
-    requires table_value { table.now ≡ log_table }
-    ensures { column.new ≡ bit_reversed (suc level) (digits level unit) }
+fn load_digits(column: &mut [u32], at: Positions, unit: u32, table: &LogTable)
+    requires unit_bound { 0 < unit }
+    requires column_len { length column.old ≡ 2 ^ suc at.level }
+    ensures { column.new ≡ bit_reversed (suc at.level) (digits at.level unit) }
 {
-    let count = exponents::positions(level);
+    let count = at.count();
     for j in 0..count {
-        column[j] = exponents::log_of_less(exponents::reversed(j, level), level, table) / unit % 64;
+        column[j] = at.log_of_less(at.reversed(j), table) / unit % 64;
     }
 }
 
-// All mixing of a column, which is rows of one word, or its inverse, but for a factor 2^(level + 1).
-pub fn cross(column: &mut [u32], level: usize, powers: &[u32], unmixing: bool)
-    requires level_bound { level ≤ 10 }
-    requires column_len { length column.old ≡ 2 ^ suc level }
-    requires powers_value { powers.now ≡ power_table }
+// All mixing of a column, which is rows of one word, or its inverse, but for a factor 2^(level + 1). Each caller knows which: a trait with an impl for either
+// would be longer than the flag.
+pub fn cross(column: &mut [u32], at: Positions, powers: &PowerTable, unmixing: bool)
+    requires column_len { length column.old ≡ 2 ^ suc at.level }
     requires words { Words fermat.modulus column.old }
-    ensures { column.new ≡ crossed_column unmixing level column.old }
+    ensures { column.new ≡ crossed_column unmixing at.level column.old }
 {
     if unmixing {
-        transform::small_rows::unmix_small_rows(column, level + 1, 1, powers);
+        transform::small_rows::unmix_small_rows(column, at.level + 1, 1, powers);
     } else {
-        transform::small_rows::mix_small_rows(column, level + 1, 1, powers);
+        transform::small_rows::mix_small_rows(column, at.level + 1, 1, powers);
     }
 }
 
@@ -65,16 +64,16 @@ fn multiply(part: &mut [u32], count: usize)
 }
 
 // The sums of a digit for all positions, behind the mixed marks.
-pub fn store_sums(part: &mut [u32], level: usize, unit: u32, powers: &[u32], table: &[u32])
-    requires level_bound { (level ≤ 10) × (0 < unit) }
-    requires part_len { length part.old ≡ 2 ^ suc level + 2 ^ suc level }
-    requires powers_value { (powers.now ≡ power_table) × (table.now ≡ log_table) }
-    requires words { Words fermat.modulus (take (2 ^ suc level) part.old) }
-    ensures { part.new ≡ take (2 ^ suc level) part.old ++ sum_rows level unit (take (2 ^ suc level) part.old) }
+pub fn store_sums(part: &mut [u32], at: Positions, unit: u32, powers: &PowerTable, table: &LogTable)
+    requires unit_bound { 0 < unit }
+    requires part_len { length part.old ≡ 2 ^ suc at.level + 2 ^ suc at.level }
+    requires words { Words fermat.modulus (take (2 ^ suc at.level) part.old) }
+    ensures { part.new ≡
+        take (2 ^ suc at.level) part.old ++ sum_rows at.level unit (take (2 ^ suc at.level) part.old) }
 {
-    let count = exponents::positions(level);
-    load_digits(&mut part[count..], level, unit, table);
-    cross(&mut part[count..], level, powers, false);
+    let count = at.count();
+    load_digits(&mut part[count..], at, unit, table);
+    cross(&mut part[count..], at, powers, false);
     multiply(part, count);
-    cross(&mut part[count..], level, powers, true);
+    cross(&mut part[count..], at, powers, true);
 }

@@ -25,14 +25,14 @@ module _ (l : ℕ) (c : List ℕ) (e : length c ≡ 2 ^ suc l) where
 
 pub unmix_small_rows-requires-clause-level_bound : goal.unmix_small_rows-requires-clause-level_bound
 unmix_small_rows-requires-clause-level_bound c =
-    (omega arith, omega (arith, ap (λ (k : ℕ). 2 ^ k) (add-one c.args.level), pow_mono {i = c.args.level} {j = 10} c.requires.level_bound))
+    (omega arith, omega (arith, ap (λ (k : ℕ). 2 ^ k) (add-one c.args.at.level), pow_mono {i = c.args.at.level} {j = 10} c.args.at.few))
 
 pub mix_small_rows-requires-clause-level_bound : goal.mix_small_rows-requires-clause-level_bound
 mix_small_rows-requires-clause-level_bound c =
-    (omega arith, omega (arith, ap (λ (k : ℕ). 2 ^ k) (add-one c.args.level), pow_mono {i = c.args.level} {j = 10} c.requires.level_bound))
+    (omega arith, omega (arith, ap (λ (k : ℕ). 2 ^ k) (add-one c.args.at.level), pow_mono {i = c.args.at.level} {j = 10} c.args.at.few))
 
 pub returns-then-unmixing : goal.returns-then-unmixing
-returns-then-unmixing c = rw c.if-unmixing.true (c.unmix_small_rows.ensures ∙ unmixed_is c.args.level c.args.column.now c.requires.column_len)
+returns-then-unmixing c = rw c.if-unmixing.true (c.unmix_small_rows.ensures ∙ unmixed_is c.args.at.level c.args.column.now c.requires.column_len)
 
 pub returns-else-unmixing : goal.returns-else-unmixing
-returns-else-unmixing c = rw c.if-unmixing.false (c.mix_small_rows.ensures ∙ mixed_is c.args.level c.args.column.now c.requires.column_len)
+returns-else-unmixing c = rw c.if-unmixing.false (c.mix_small_rows.ensures ∙ mixed_is c.args.at.level c.args.column.now c.requires.column_len)

@@ -7,14 +7,14 @@ use Rattle.weights.proofs.columns.load_digits.Goals as goal
 pub loop-j-init : goal.loop-j-init
 loop-j-init c = load_start _ _ _ _
 
-pub log_of_less-requires-clause-level_bound : goal.log_of_less-requires-clause-level_bound
-log_of_less-requires-clause-level_bound c =
-    (c.requires.level_bound.0, omega (arith, c.reversed.ensures, reversed_lt (suc c.args.level) c.loop-j.j))
+pub log_of_less-requires : goal.log_of_less-requires
+log_of_less-requires c =
+    omega (arith, c.reversed.ensures, reversed_lt (suc c.args.at.level) c.loop-j.j)
 
 pub loop-j-preserved : goal.loop-j-preserved
 loop-j-preserved c =
     load_turn c.loop-j.invariant c.loop-j-test.true
-    (digit_loaded c.args.level c.args.unit c.loop-j.j c.reversed.ensures c.log_of_less.ensures)
+    (digit_loaded c.args.at.level c.args.unit c.loop-j.j c.reversed.ensures c.log_of_less.ensures)
 
 pub returns : goal.returns
-returns c = load_done c.loop-j.invariant c.loop-j-test.false c.positions-count.ensures c.requires.column_len
+returns c = load_done c.loop-j.invariant c.loop-j-test.false c.count-count.ensures c.requires.column_len

@@ -4,4 +4,4 @@ use Rattle.weights.proofs.ColumnLaws.{Loading}
 use Rattle.weights.proofs.columns.load_digits.Given as goal
 
 abbrev pub invariant-loop-j : goal.invariant-loop-j
-invariant-loop-j l = Loading l.level (digits l.level l.unit) l.count l.fn.column l.column l.j
+invariant-loop-j l = Loading l.at.level (digits l.at.level l.unit) l.count l.fn.column l.column l.j

@@ -1,7 +1,7 @@
 -- `weights::columns::load_flags` meets its contract, by the laws of the loop that loads (proofs/ColumnLaws). Assumes nothing.
-use Rattle.std.proofs.Common.{suc, ◌^◌, ◌<◌, arith}
+use Rattle.std.proofs.Common.{suc, ◌^◌, ◌<◌, ◌∙◌, arith}
 use Rattle.code.proofs.Shapes.{reversed_lt}
-use Rattle.weights.proofs.ExponentLaws.{position_lt}
+use Rattle.weights.proofs.ExponentLaws.{position_lt, flag_is}
 use Rattle.weights.proofs.ColumnLaws.{load_start, load_turn, load_done, flag_loaded}
 use Rattle.weights.proofs.columns.load_flags.Goals as goal
 
@@ -9,17 +9,17 @@ pub loop-j-init : goal.loop-j-init
 loop-j-init c = load_start _ _ _ _
 
 pub position-i-requires : goal.position-i-requires
-position-i-requires c = (c.requires.level_bound, omega (arith, c.reversed.ensures, reversed_lt (suc c.args.level) c.loop-j.j))
+position-i-requires c = omega (arith, c.reversed.ensures, reversed_lt (suc c.args.at.level) c.loop-j.j)
 
 pub bounds-marks-i : goal.bounds-marks-i
 bounds-marks-i c =
-    let inside : c.reversed.result < 2 ^ suc c.args.level = omega (arith, c.reversed.ensures, reversed_lt (suc c.args.level) c.loop-j.j) in
-    omega (arith, c.position-i.ensures, position_lt c.args.level c.reversed.result inside)
+    let inside : c.reversed.result < 2 ^ suc c.args.at.level = omega (arith, c.reversed.ensures, reversed_lt (suc c.args.at.level) c.loop-j.j) in
+    omega (arith, c.position-i.ensures, position_lt c.args.at.level c.reversed.result inside)
 
 pub loop-j-preserved : goal.loop-j-preserved
 loop-j-preserved c =
     load_turn c.loop-j.invariant c.loop-j-test.true
-    (flag_loaded c.args.level c.args.marks.now c.loop-j.j c.reversed.ensures c.position-i.ensures c.flag.ensures)
+    (flag_loaded c.args.at.level c.args.marks.now c.loop-j.j c.reversed.ensures c.position-i.ensures (c.from.ensures ∙ flag_is _))
 
 pub returns : goal.returns
-returns c = load_done c.loop-j.invariant c.loop-j-test.false c.positions-count.ensures c.requires.column_len
+returns c = load_done c.loop-j.invariant c.loop-j-test.false c.count-count.ensures c.requires.column_len

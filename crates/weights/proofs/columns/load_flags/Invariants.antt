@@ -4,4 +4,4 @@ use Rattle.weights.proofs.ColumnLaws.{Loading}
 use Rattle.weights.proofs.columns.load_flags.Given as goal
 
 abbrev pub invariant-loop-j : goal.invariant-loop-j
-invariant-loop-j l = Loading l.level (flags l.level l.marks) l.count l.fn.column l.column l.j
+invariant-loop-j l = Loading l.at.level (flags l.at.level l.marks) l.count l.fn.column l.column l.j

@@ -73,21 +73,21 @@ module _ (l unit n : ℕ) (u x : List ℕ) (count : n ≡ 2 ^ suc l) (long : len
 
 pub cross-requires-clause-words : goal.cross-requires-clause-words
 cross-requires-clause-words c =
-    mix_words c.args.level c.args.unit c.positions-count.result c.args.part.now c.load_digits.new.column c.positions-count.ensures
+    mix_words c.args.at.level c.args.unit c.count-count.result c.args.part.now c.load_digits.new.column c.count-count.ensures
     c.requires.part_len c.load_digits.ensures
 
 pub multiply-requires-clause-words : goal.multiply-requires-clause-words
 multiply-requires-clause-words c =
-    multiply_words c.args.level c.args.unit c.positions-count.result c.args.part.now c.load_digits.new.column c.positions-count.ensures
+    multiply_words c.args.at.level c.args.unit c.count-count.result c.args.part.now c.load_digits.new.column c.count-count.ensures
     c.requires.part_len c.load_digits.ensures c.cross.new.column c.cross.ensures c.requires.words
 
 pub cross-requires-2-clause-words : goal.cross-requires-2-clause-words
 cross-requires-2-clause-words c =
-    unmix_words c.args.level c.args.unit c.positions-count.result c.args.part.now c.load_digits.new.column c.positions-count.ensures
+    unmix_words c.args.at.level c.args.unit c.count-count.result c.args.part.now c.load_digits.new.column c.count-count.ensures
     c.requires.part_len c.load_digits.ensures c.cross.new.column c.cross.ensures c.multiply.new.part c.multiply.ensures
 
 pub returns : goal.returns
 returns c =
-    sums_stored c.args.level c.args.unit c.positions-count.result c.args.part.now c.load_digits.new.column c.positions-count.ensures
+    sums_stored c.args.at.level c.args.unit c.count-count.result c.args.part.now c.load_digits.new.column c.count-count.ensures
     c.requires.part_len c.load_digits.ensures c.cross.new.column c.cross.ensures c.multiply.new.part c.multiply.ensures
     c.cross-2.new.column c.cross-2.ensures

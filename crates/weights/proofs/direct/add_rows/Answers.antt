@@ -23,20 +23,20 @@ pub loop-j-init : goal.loop-j-init
 loop-j-init c = c.requires.sums
 
 pub overflow_sub-ahead : goal.overflow_sub-ahead
-overflow_sub-ahead c = exponent_le c.loop-j.invariant c.positions-count.ensures c.loop-j-test.true c.exponent-f.ensures
+overflow_sub-ahead c = exponent_le c.loop-j.invariant c.count-count.ensures c.loop-j-test.true c.exponent-f.ensures
 
 pub add_row-requires-clause-by_index : goal.add_row-requires-clause-by_index
 add_row-requires-clause-by_index c =
-    fits c.loop-j.invariant c.positions-count.ensures c.loop-j-test.true c.exponent-f.ensures c.requires.level_bound
+    fits c.loop-j.invariant c.count-count.ensures c.loop-j-test.true c.exponent-f.ensures c.args.at.few
 
 pub loop-j-preserved : goal.loop-j-preserved
 loop-j-preserved c =
     elim c.if-marks-j.branch [
-      | then-marks-j w ↦ subst (Sums c.args.level c.args.marks.now (c.loop-j.j + 1)) (sym w.part-is)
-          (added c.loop-j.invariant c.positions-count.ensures c.loop-j-test.true w.exponent-f.ensures (omega arith) w.if-marks-j.true w.add_row.ensures)
-      | else-marks-j w ↦ subst (Sums c.args.level c.args.marks.now (c.loop-j.j + 1)) (sym w.part-is) (row_skipped c.loop-j.invariant w.if-marks-j.false)
+      | then-marks-j w ↦ subst (Sums c.args.at.level c.args.marks.now (c.loop-j.j + 1)) (sym w.part-is)
+          (added c.loop-j.invariant c.count-count.ensures c.loop-j-test.true w.exponent-f.ensures (omega arith) w.if-marks-j.true w.add_row.ensures)
+      | else-marks-j w ↦ subst (Sums c.args.at.level c.args.marks.now (c.loop-j.j + 1)) (sym w.part-is) (row_skipped c.loop-j.invariant w.if-marks-j.false)
     ]
 
 pub returns : goal.returns
 returns c =
-    subst (λ (k : ℕ). Sums c.args.level c.args.marks.now k c.loop-j.part) {x = c.loop-j.j} {y = 2 ^ suc c.args.level} (omega arith) c.loop-j.invariant
+    subst (λ (k : ℕ). Sums c.args.at.level c.args.marks.now k c.loop-j.part) {x = c.loop-j.j} {y = 2 ^ suc c.args.at.level} (omega arith) c.loop-j.invariant

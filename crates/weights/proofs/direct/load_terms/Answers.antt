@@ -14,4 +14,4 @@ loop-d-preserved c = storing_turn c.loop-d.invariant c.loop-d-test.true c.log_of
 pub returns : goal.returns
 returns c =
     storing_done c.loop-d.invariant c.loop-d-test.false
-    ∙ ap₂ (λ (k n : ℕ). stored k (log_of_less c.args.level) n c.args.part.now) c.positions-count.ensures c.positions-count.ensures
+    ∙ ap₂ (λ (k n : ℕ). stored k (log_of_less c.args.at.level) n c.args.part.now) c.count-count.ensures c.count-count.ensures

@@ -16,16 +16,16 @@ pub loop-i-init : goal.loop-i-init
 loop-i-init c = storing_start _ _ _ _
 
 pub offset_bounds-part-from : goal.offset_bounds-part-from
-offset_bounds-part-from c = omega (arith, c.requires.room, sum_in c.args.level c.positions-count.ensures c.loop-i-test.true c.exponent-from.ensures)
+offset_bounds-part-from c = omega (arith, c.requires.room, sum_in c.args.at.level c.count-count.ensures c.loop-i-test.true c.exponent-from.ensures)
 
 pub bounds-part-from : goal.bounds-part-from
-bounds-part-from c = omega (arith, c.requires.room, sum_in c.args.level c.positions-count.ensures c.loop-i-test.true c.exponent-from.ensures)
+bounds-part-from c = omega (arith, c.requires.room, sum_in c.args.at.level c.count-count.ensures c.loop-i-test.true c.exponent-from.ensures)
 
 pub overflow_add-logs : goal.overflow_add-logs
 overflow_add-logs c =
     omega (
       arith,
-      c.requires.by_index c.exponent-from.result (sum_in c.args.level c.positions-count.ensures c.loop-i-test.true c.exponent-from.ensures),
+      c.requires.by_index c.exponent-from.result (sum_in c.args.at.level c.count-count.ensures c.loop-i-test.true c.exponent-from.ensures),
     )
 
 pub loop-i-preserved : goal.loop-i-preserved
@@ -37,4 +37,4 @@ loop-i-preserved c =
 pub returns : goal.returns
 returns c =
     storing_done c.loop-i.invariant c.loop-i-test.false
-    ∙ ap (λ (m : ℕ). stored 0 (direct_at c.args.level c.args.shared c.args.part.now) m c.args.logs.now) c.positions-count.ensures
+    ∙ ap (λ (m : ℕ). stored 0 (direct_at c.args.at.level c.args.shared c.args.part.now) m c.args.logs.now) c.count-count.ensures

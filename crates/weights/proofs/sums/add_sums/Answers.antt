@@ -17,48 +17,48 @@ product_le : {unit x : ℕ} (g y : ℕ) → unit ≤ 4096 → x ≡ times 65537 
 product_le g y b e = mul-le-mul {n₂ = 4096} {m₂ = 65536} b (omega (arith, e, times_lt 65537 (omega arith) g y))
 
 pub inverse-inverse-requires : goal.inverse-inverse-requires
-inverse-inverse-requires c = omega (arith, c.positions-count.ensures, pow_mono {i = suc c.args.level} {j = 11} (omega arith))
+inverse-inverse-requires c = omega (arith, c.count-count.ensures, pow_mono {i = suc c.args.at.level} {j = 11} (omega arith))
 
 pub loop-i-init : goal.loop-i-init
 loop-i-init c = storing_start _ _ _ _
 
 pub overflow_add-from : goal.overflow_add-from
-overflow_add-from c = omega (arith, reversed_lt (suc c.args.level) c.exponent.result)
+overflow_add-from c = omega (arith, reversed_lt (suc c.args.at.level) c.exponent.result)
 
 pub offset_bounds-part-from : goal.offset_bounds-part-from
-offset_bounds-part-from c = omega (arith, reversed_lt (suc c.args.level) c.exponent.result)
+offset_bounds-part-from c = omega (arith, reversed_lt (suc c.args.at.level) c.exponent.result)
 
 pub bounds-part-from : goal.bounds-part-from
-bounds-part-from c = omega (arith, reversed_lt (suc c.args.level) c.exponent.result)
+bounds-part-from c = omega (arith, reversed_lt (suc c.args.at.level) c.exponent.result)
 
 pub mul-requires : goal.mul-requires
 mul-requires c = (
-  rw c.inverse-inverse.ensures (inverse_lt 65537 (omega arith) c.positions-count.result),
-  row_lt c.args.level c.positions-count.ensures c.args.part.now c.reversed.result
-      (omega (arith, c.reversed.ensures, reversed_lt (suc c.args.level) c.exponent.result)) c.requires.words,
+  rw c.inverse-inverse.ensures (inverse_lt 65537 (omega arith) c.count-count.result),
+  row_lt c.args.at.level c.count-count.ensures c.args.part.now c.reversed.result
+      (omega (arith, c.reversed.ensures, reversed_lt (suc c.args.at.level) c.exponent.result)) c.requires.words,
 )
 
 pub overflow_mul-logs : goal.overflow_mul-logs
 overflow_mul-logs c =
     omega (
       arith,
-      product_le c.inverse-inverse.result (get_or c.args.part.now (c.positions-count.result + c.reversed.result) 0) c.requires.level_bound.1 c.mul.ensures,
+      product_le c.inverse-inverse.result (get_or c.args.part.now (c.count-count.result + c.reversed.result) 0) c.requires.unit_bound c.mul.ensures,
     )
 
 pub overflow_add-logs : goal.overflow_add-logs
 overflow_add-logs c =
     omega (
       arith,
-      product_le c.inverse-inverse.result (get_or c.args.part.now (c.positions-count.result + c.reversed.result) 0) c.requires.level_bound.1 c.mul.ensures,
-      word_lt c.args.level c.positions-count.ensures c.loop-i.invariant c.loop-i-test.true c.requires.words_2,
+      product_le c.inverse-inverse.result (get_or c.args.part.now (c.count-count.result + c.reversed.result) 0) c.requires.unit_bound c.mul.ensures,
+      word_lt c.args.at.level c.count-count.ensures c.loop-i.invariant c.loop-i-test.true c.requires.words_2,
     )
 
 pub loop-i-preserved : goal.loop-i-preserved
 loop-i-preserved c =
-    adding_turn c.args.level c.positions-count.ensures c.args.unit c.args.part.now c.loop-i.invariant c.loop-i-test.true
+    adding_turn c.args.at.level c.count-count.ensures c.args.unit c.args.part.now c.loop-i.invariant c.loop-i-test.true
     c.inverse-inverse.ensures c.exponent.ensures c.reversed.ensures c.mul.ensures
 
 pub returns : goal.returns
 returns c =
     storing_done c.loop-i.invariant c.loop-i-test.false
-    ∙ ap (λ (m : ℕ). stored 0 (added_at c.args.level c.args.unit c.args.part.now c.args.logs.now) m c.args.logs.now) c.positions-count.ensures
+    ∙ ap (λ (m : ℕ). stored 0 (added_at c.args.at.level c.args.unit c.args.part.now c.args.logs.now) m c.args.logs.now) c.count-count.ensures

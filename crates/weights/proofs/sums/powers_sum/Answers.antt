@@ -4,7 +4,7 @@ use lib.Pow.{pow_mono}
 use Rattle.logarithms.specs.Weights.{exponent_at, log_of_power}
 use Rattle.weights.specs.steps.Digits.{flag, powers_to}
 use Rattle.logarithms.proofs.Weights.{exponent_lt}
-use Rattle.weights.proofs.ExponentLaws.{log_of_power_lt, flag_times_le}
+use Rattle.weights.proofs.ExponentLaws.{log_of_power_lt, flag_times_le, flag_is}
 use Rattle.weights.proofs.sums.powers_sum.Invariants.{Inv}
 use Rattle.weights.proofs.sums.powers_sum.Goals as goal
 
@@ -37,13 +37,13 @@ loop-i-init c = record { is = sym (none _ _); small = omega arith }
 
 pub log_of_power-requires : goal.log_of_power-requires
 log_of_power-requires c =
-    (c.requires.level_bound, omega (arith, c.exponent.ensures, exponent_lt c.args.level c.loop-i.i (omega arith)))
+    omega (arith, c.exponent.ensures, exponent_lt c.args.at.level c.loop-i.i (omega arith))
 
 pub overflow_mul-sum : goal.overflow_mul-sum
 overflow_mul-sum c =
     omega (
       arith,
-      term_lt c.args.level c.loop-i.i c.args.marks.now c.requires.level_bound c.positions-count.ensures c.loop-i-test.true c.flag.ensures
+      term_lt c.args.at.level c.loop-i.i c.args.marks.now c.args.at.few c.count-count.ensures c.loop-i-test.true (c.from.ensures ∙ flag_is _)
           c.exponent.ensures c.log_of_power.ensures,
     )
 
@@ -51,14 +51,14 @@ pub overflow_add-sum : goal.overflow_add-sum
 overflow_add-sum c =
     omega (
       arith,
-      sum_fits c.args.level c.loop-i.i c.args.marks.now c.requires.level_bound c.positions-count.ensures c.loop-i-test.true c.flag.ensures
+      sum_fits c.args.at.level c.loop-i.i c.args.marks.now c.args.at.few c.count-count.ensures c.loop-i-test.true (c.from.ensures ∙ flag_is _)
           c.exponent.ensures c.log_of_power.ensures c.loop-i.invariant.small,
     )
 
 pub loop-i-preserved : goal.loop-i-preserved
 loop-i-preserved c =
-    turn c.args.level c.loop-i.i c.args.marks.now c.requires.level_bound c.positions-count.ensures c.loop-i-test.true c.flag.ensures
+    turn c.args.at.level c.loop-i.i c.args.marks.now c.args.at.few c.count-count.ensures c.loop-i-test.true (c.from.ensures ∙ flag_is _)
     c.exponent.ensures c.log_of_power.ensures c.loop-i.invariant
 
 pub returns : goal.returns
-returns c = c.loop-i.invariant.is ∙ ap (powers_to c.args.level c.args.marks.now) (omega arith)
+returns c = c.loop-i.invariant.is ∙ ap (powers_to c.args.at.level c.args.marks.now) (omega arith)

@@ -6,7 +6,7 @@ use Rattle.field.specs.Words.{Words, table}
 use Rattle.code.specs.Rows.{Column}
 use Rattle.code.specs.Transform.{bit_reversed}
 use Rattle.code.specs.steps.Storing.{stored, always}
-use Rattle.code.proofs.RowLaws.{Parts, lent_front, put_front}
+use Rattle.code.proofs.RowLaws.{Parts, lent_front, put_front, stored_fill}
 use Rattle.weights.specs.steps.Digits.{Holds, flags, mixed_column, mixed_flags, powers_to}
 use Rattle.weights.proofs.ColumnLaws.{flags_column, loaded_column, mixed_column_lem}
 use Rattle.weights.proofs.PartLaws.{first_stored, rest_stored}
@@ -47,11 +47,13 @@ module _ (l n : ℕ) (ms : List Bool) (u x : List ℕ) (count : n ≡ 2 ^ suc l)
 
 pub cross-requires-clause-words : goal.cross-requires-clause-words
 cross-requires-clause-words c =
-    mix_words c.args.level c.positions-count.result c.args.marks.now c.args.part.now c.load_flags.new.column c.positions-count.ensures
+    mix_words c.args.at.level c.count-count.result c.args.marks.now c.args.part.now c.load_flags.new.column c.count-count.ensures
     c.requires.room c.load_flags.ensures
 
 pub returns : goal.returns
 returns c =
-    started c.args.level c.positions-count.result c.args.marks.now c.args.part.now c.load_flags.new.column c.positions-count.ensures
+    started c.args.at.level c.count-count.result c.args.marks.now c.args.part.now c.load_flags.new.column c.count-count.ensures
     c.requires.room c.load_flags.ensures c.cross.new.column c.cross.ensures c.args.logs.now c.powers_sum.ensures
-    (omega (arith, c.positions-count.ensures, c.requires.logs_len)) c.fill.ensures
+    (omega (arith, c.count-count.ensures, c.requires.logs_len))
+    (stored_fill c.count-count.result (c.powers_sum.result % 65536) c.args.logs.now (omega (arith, c.count-count.ensures, c.requires.logs_len))
+    (c.fill.ensures.after (λ y e. e)))

@@ -1,0 +1,18 @@
+-- `weights::exponents::Positions::log_of_less` meets its contract: the entry is inside the table. Assumes nothing.
+use Rattle.std.proofs.Common.{List, ℕ, ◌*◌, ◌/◌, length, get_or, sym, ap, ap₂, ◌∙◌, arith}
+use Rattle.logarithms.proofs.Logarithms.{length_logs}
+use Rattle.weights.proofs.ExponentLaws.{entry_in, log_of_less_is}
+use Rattle.weights.proofs.exponents.Positions.log_of_less.Goals as goal
+
+pub bounds-table-d : goal.bounds-table-d
+bounds-table-d c =
+    omega (
+      arith,
+      ap (λ (n : ℕ). c.args.d * (1024 / n)) c.two_to.ensures,
+      entry_in c.args.self.level c.args.d c.args.self.few c.requires,
+    )
+
+pub returns : goal.returns
+returns c =
+    ap₂ (λ (l : List ℕ) (n : ℕ). get_or l (c.args.d * (1024 / n)) 0) c.args.table.now.is_table c.two_to.ensures
+    ∙ sym (log_of_less_is c.args.self.level c.args.d c.requires)
