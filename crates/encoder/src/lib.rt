@@ -1,143 +1,122 @@
 // Coding of a stripe (docs/FORMAT.md, section 4) in place, on a slice that the caller lends, and the steps that decoding shares.
 #![tactic(auto)]
 
-ghost use Rattle.std.specs.Prelude.{◌≡◌, ◌++◌, ℕ, ◌+◌, ◌-◌, ◌≤◌, ◌<◌, length, get_or, take};
+pub mod factors;
+
+ghost use Rattle.std.specs.Prelude.{◌≡◌, ◌++◌, ◌⊎◌, ℕ, ◌+◌, ◌≤◌, ◌<◌, length, get_or, take};
 ghost use Rattle.field.specs.Power.{inverse};
-ghost use Rattle.field.specs.Field.{power_table};
+ghost use Rattle.field.specs.Field.{fermat};
 ghost use Rattle.field.specs.Words.{Words};
 ghost use Rattle.code.specs.Rows.{lifted};
 ghost use Rattle.code.specs.Transform.{transform, untransform, turned};
-ghost use Rattle.code.specs.Stripe.{Numbers, modulus_of, root_in, block_count, block_words, coded_stripe};
+ghost use Rattle.code.specs.Stripe.{modulus_of, root_in, block_count, block_words, coded_stripe};
 ghost use Rattle.code.specs.steps.Storing.{stored, scaled_word, scale_row};
 
-use code::Stripe;
+use code::ValidStripe;
+use code::table_65537::PowerTable;
+use factors::{Factor, ShortWord};
 
 // All mixing of a half of a stripe.
-pub fn mix_all(half: &mut [u32], st: Stripe, powers: &[u32])
-    requires numbers { Numbers st }
-    requires half_len { length half.old ≡ block_words st }
-    requires powers_value { powers.now ≡ power_table }
-    requires words { Words (modulus_of st) half.old }
+pub fn mix_all(half: &mut [u32], st: ValidStripe, powers: &PowerTable)
+    requires half_len { length half.old ≡ block_words st.stripe }
+    requires words { Words (modulus_of st.stripe) half.old }
     ensures { half.new ≡
-        lifted st.width (block_count st) (block_count st) (transform (modulus_of st) (root_in st) st.k st.level) half.old }
+        lifted st.stripe.width (block_count st.stripe) (block_count st.stripe)
+        (transform (modulus_of st.stripe) (root_in st.stripe) st.stripe.k st.stripe.level) half.old }
 {
-    transform::mix_all(half, st.level, st.width, powers);
+    transform::mix_all(half, st.stripe.level, st.stripe.width, powers);
 }
 
 // The inverse of all mixing of a half of a stripe, but for the factor 2^level.
-pub fn unmix_all(half: &mut [u32], st: Stripe, powers: &[u32])
-    requires numbers { Numbers st }
-    requires half_len { length half.old ≡ block_words st }
-    requires powers_value { powers.now ≡ power_table }
-    requires words { Words (modulus_of st) half.old }
+pub fn unmix_all(half: &mut [u32], st: ValidStripe, powers: &PowerTable)
+    requires half_len { length half.old ≡ block_words st.stripe }
+    requires words { Words (modulus_of st.stripe) half.old }
     ensures { half.new ≡
-        lifted st.width (block_count st) (block_count st)
-        (untransform (modulus_of st) (inverse (modulus_of st) (root_in st)) st.k st.level) half.old }
+        lifted st.stripe.width (block_count st.stripe) (block_count st.stripe)
+        (untransform (modulus_of st.stripe) (inverse (modulus_of st.stripe) (root_in st.stripe)) st.stripe.k st.stripe.level) half.old }
 {
-    transform::unmix_all(half, st.level, st.width, powers);
+    transform::unmix_all(half, st.stripe.level, st.stripe.width, powers);
 }
 
 // Multiplies the row from index `at` on by `g`.
-pub fn scale_row(part: &mut [u32], at: usize, st: Stripe, g: u32)
-    requires width_in_bounds { at + st.width ≤ length part.old }
-    requires g_lt_modulus { g < modulus_of st }
-    requires words { Words (modulus_of st) part.old }
-    ensures { part.new ≡ scale_row (modulus_of st) st.width at g part.old }
+pub fn scale_row<F: Factor>(part: &mut [u32], at: usize, width: usize, g: F)
+    requires width_in_bounds { at + width ≤ length part.old }
+    requires words { Words fermat.modulus part.old }
+    ensures { part.new ≡ scale_row fermat.modulus width at (F.value g) part.old }
 {
-    let width = st.width;
     for j in 0..width {
         let x = at + j;
-        part[x] = field::mul(g, part[x]);
+        part[x] = g.product(part[x]);
     }
 }
 
-// Multiplies the row from index `at` on by `g`, which is not -1.
-fn turn_row(part: &mut [u32], at: usize, st: Stripe, g: u32)
-    requires width_in_bounds { at + st.width ≤ length part.old }
-    requires g_bound { g < modulus_of st - 1 }
-    requires words { Words (modulus_of st) part.old }
-    ensures { part.new ≡ scale_row (modulus_of st) st.width at g part.old }
+// The row from index `from` on times `g`, in the place of the row at `to`: of a row that it does not reach, or of one that begins no later.
+pub fn scale_row_over<F: Factor>(part: &mut [u32], from: usize, to: usize, width: usize, g: F)
+    requires apart { (from + width ≤ to) ⊎ (to ≤ from) }
+    requires width_bound { (from + width ≤ length part.old) × (to + width ≤ length part.old) }
+    requires by_index { (j : ℕ) → j < width → get_or part.old (from + j) 0 < fermat.modulus }
+    ensures { part.new ≡ stored to (scaled_word fermat.modulus from (F.value g) part.old) width part.old }
 {
-    let width = st.width;
-    for j in 0..width {
-        let x = at + j;
-        part[x] = field::short_65537::mul(g, part[x]);
-    }
-}
-
-// The row from index `from` on times `g`, which is not -1, in the place of the row at `to`, behind it.
-fn turn_row_over(part: &mut [u32], from: usize, to: usize, st: Stripe, g: u32)
-    requires width_bound { (from + st.width ≤ to) × (to + st.width ≤ length part.old) }
-    requires g_bound { g < modulus_of st - 1 }
-    requires by_index { (j : ℕ) → j < st.width → get_or part.old (from + j) 0 < modulus_of st }
-    ensures { part.new ≡ stored to (scaled_word (modulus_of st) from g part.old) st.width part.old }
-{
-    let width = st.width;
     for j in 0..width {
         let x = from + j;
         let y = to + j;
-        part[y] = field::short_65537::mul(g, part[x]);
+        part[y] = g.product(part[x]);
     }
 }
 
 // Turns the first half of the rows, over the second half: the row of write t is multiplied by w^rev(t), where w is the stripe's root. That is entry rev(t)
 // times 1024 / n of the powers, which is t with its ten bits reversed.
-fn turn_over(part: &mut [u32], st: Stripe, powers: &[u32])
-    requires numbers { Numbers st }
-    requires part_len { length part.old ≡ block_words st + block_words st }
-    requires powers_value { powers.now ≡ power_table }
-    requires words { Words (modulus_of st) (take (block_words st) part.old) }
-    ensures { part.new ≡ take (block_words st) part.old ++
-        lifted st.width (block_count st) (block_count st)
-        (turned (modulus_of st) (root_in st) st.k st.first) (take (block_words st) part.old) }
+fn turn_over(part: &mut [u32], st: ValidStripe, powers: &PowerTable)
+    requires part_len { length part.old ≡ block_words st.stripe + block_words st.stripe }
+    requires words { Words (modulus_of st.stripe) (take (block_words st.stripe) part.old) }
+    ensures { part.new ≡ take (block_words st.stripe) part.old ++
+        lifted st.stripe.width (block_count st.stripe) (block_count st.stripe)
+        (turned (modulus_of st.stripe) (root_in st.stripe) st.stripe.k st.stripe.first) (take (block_words st.stripe) part.old) }
 {
-    // locals of their own, since the loop's invariant speaks of them
-    let first = st.first;
-    let k = st.k;
-    let width = st.width;
-    let rows = code::number::two_to(st.level);
+    let first = st.stripe.first;
+    let width = st.stripe.width;
+    let rows = st.block_count();
     let half = rows * width;
-    let mut from = 0;
     for j in 0..rows {
+        let from = j * width;
         let e = code::number::reversed(10, first + j) as usize;
-        turn_row_over(part, from, half + from, st, powers[e]);
-        from += width;
+        let g = ShortWord {
+            value: powers.entries[e],
+        };
+        scale_row_over(part, from, half + from, width, g);
     }
 }
 
 // Turns a half of the rows back, in its place: by the powers of entry 2047, the inverse of entry 1.
-pub fn turn_back(part: &mut [u32], st: Stripe, powers: &[u32])
-    requires numbers { Numbers st }
-    requires part_len { length part.old ≡ block_words st }
-    requires powers_value { powers.now ≡ power_table }
-    requires words { Words (modulus_of st) part.old }
+pub fn turn_back(part: &mut [u32], st: ValidStripe, powers: &PowerTable)
+    requires part_len { length part.old ≡ block_words st.stripe }
+    requires words { Words (modulus_of st.stripe) part.old }
     ensures { part.new ≡
-        lifted st.width (block_count st) (block_count st)
-        (turned (modulus_of st) (inverse (modulus_of st) (root_in st)) st.k st.first) part.old }
+        lifted st.stripe.width (block_count st.stripe) (block_count st.stripe)
+        (turned (modulus_of st.stripe) (inverse (modulus_of st.stripe) (root_in st.stripe)) st.stripe.k st.stripe.first) part.old }
 {
-    // locals of their own, since the loop's invariant speaks of them
-    let first = st.first;
-    let k = st.k;
-    let width = st.width;
-    let rows = code::number::two_to(st.level);
-    let mut at = 0;
+    let first = st.stripe.first;
+    let width = st.stripe.width;
+    let rows = st.block_count();
     for j in 0..rows {
+        let at = j * width;
         let e = code::number::reversed(10, first + j) as usize * 2047;
-        turn_row(part, at, st, powers[e % 2048]);
-        at += width;
+        let g = ShortWord {
+            value: powers.entries[e % 2048],
+        };
+        scale_row(part, at, width, g);
     }
 }
 
 // Codes the blocks in the first half of the rows: X where they stand, and Y behind it. Y is turned first, while the blocks stand. What stands in the second
 // half does not matter.
-pub fn code(part: &mut [u32], st: Stripe)
-    requires numbers { Numbers st }
-    requires part_len { length part.old ≡ block_words st + block_words st }
-    requires words { Words (modulus_of st) (take (block_words st) part.old) }
-    ensures { part.new ≡ coded_stripe st (take (block_words st) part.old) }
+pub fn code(part: &mut [u32], st: ValidStripe)
+    requires part_len { length part.old ≡ block_words st.stripe + block_words st.stripe }
+    requires words { Words (modulus_of st.stripe) (take (block_words st.stripe) part.old) }
+    ensures { part.new ≡ coded_stripe st.stripe (take (block_words st.stripe) part.old) }
 {
-    let half = code::number::two_to(st.level) * st.width;
-    let powers = code::table_65537::powers();
+    let half = st.block_count() * st.stripe.width;
+    let powers = PowerTable::new();
     turn_over(part, st, &powers);
     mix_all(&mut part[..half], st, &powers);
     mix_all(&mut part[half..], st, &powers);

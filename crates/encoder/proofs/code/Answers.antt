@@ -63,11 +63,11 @@ module _ (st : Stripe) (n : ℕ) (u v x : List ℕ) (half_is : n ≡ block_words
 
 pub mix_all-requires-2-clause-words : goal.mix_all-requires-2-clause-words
 mix_all-requires-2-clause-words c =
-    mix_words c.args.st (c.two_to.result * c.args.st.width) c.args.part.now c.turn_over.new.part c.mix_all.new.half
-    (ap (λ (n : ℕ). n * c.args.st.width) c.two_to.ensures) c.requires.part_len c.turn_over.ensures c.mix_all.ensures
+    mix_words c.args.st.stripe (c.block_count.result * c.args.st.stripe.width) c.args.part.now c.turn_over.new.part c.mix_all.new.half
+    (ap (λ (n : ℕ). n * c.args.st.stripe.width) c.block_count.ensures) c.requires.part_len c.turn_over.ensures c.mix_all.ensures
 
 pub returns : goal.returns
 returns c =
-    all_coded c.args.st (c.two_to.result * c.args.st.width) c.args.part.now c.turn_over.new.part c.mix_all.new.half
-    (ap (λ (n : ℕ). n * c.args.st.width) c.two_to.ensures) c.requires.part_len c.turn_over.ensures c.mix_all.ensures c.mix_all-2.new.half
+    all_coded c.args.st.stripe (c.block_count.result * c.args.st.stripe.width) c.args.part.now c.turn_over.new.part c.mix_all.new.half
+    (ap (λ (n : ℕ). n * c.args.st.stripe.width) c.block_count.ensures) c.requires.part_len c.turn_over.ensures c.mix_all.ensures c.mix_all-2.new.half
     c.mix_all-2.ensures

@@ -3,13 +3,13 @@ use Rattle.code.proofs.RowLaws.{scale_start, scale_word, scale_turn, scale_end}
 use Rattle.encoder.proofs.scale_row.Goals as goal
 
 pub loop-j-init : goal.loop-j-init
-loop-j-init c = scale_start _ _ _ _ _
+loop-j-init g c = scale_start _ _ _ _ _
 
-pub mul-requires : goal.mul-requires
-mul-requires c = (c.requires.g_lt_modulus, scale_word c.requires.words c.loop-j.invariant)
+pub product-requires : goal.product-requires
+product-requires g c = scale_word c.requires.words c.loop-j.invariant
 
 pub loop-j-preserved : goal.loop-j-preserved
-loop-j-preserved c = scale_turn c.loop-j.invariant c.loop-j-test.true c.mul.ensures
+loop-j-preserved g c = scale_turn c.loop-j.invariant c.loop-j-test.true c.product.ensures
 
 pub returns : goal.returns
-returns c = scale_end c.loop-j.invariant c.loop-j-test.false
+returns g c = scale_end c.loop-j.invariant c.loop-j-test.false

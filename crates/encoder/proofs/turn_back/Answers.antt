@@ -1,13 +1,13 @@
 -- `encoder::turn_back` meets its contract: a turn scales a row by its factor, and all rows scaled are turned back (proofs/Turning). Assumes nothing.
 use Rattle.std.proofs.Common.{◌≡◌, List, ℕ, ◌+◌, ◌*◌, ◌≤◌, ◌<◌, length, sym, ap, ◌∙◌, arith}
-use Rattle.std.proofs.Math.Nat.{zero-add, mod-lt}
+use Rattle.std.proofs.Math.Nat.{zero-add, zero-mul, mod-lt}
 use lib.Dec.{lit<}
 use lib.Seq.{take_all}
 use Rattle.field.specs.Power.{inverse}
 use Rattle.field.specs.Field.{fermat, root_of}
-use Rattle.field.proofs.PowerTables.{length_table_of_powers}
 use Rattle.code.specs.Rows.{lifted}
 use Rattle.code.specs.Transform.{turned}
+use Rattle.code.proofs.Lifting.{row_next}
 use Rattle.code.proofs.RowLaws.{stored_last, StoringRows, storing_rows_start, storing_rows_room, storing_rows_done, scaled_rows_word}
 use Rattle.code.proofs.RowLaws.{scaling_words, scaling_turn}
 use Rattle.encoder.proofs.Turning.{factor, back_entry, turned_rows}
@@ -30,31 +30,32 @@ all_turned first k width w {m} {u = u} h b e l =
     ∙ ap (λ (x : ℕ). lifted width x x (turned 65537 w k first) u) e
 
 pub loop-j-init : goal.loop-j-init
-loop-j-init c = storing_rows_start _ _ _ _ _
+loop-j-init c = rw (zero-mul c.args.st.stripe.width) (storing_rows_start 0 _ _ _ _)
+
+pub overflow_mul-at : goal.overflow_mul-at
+overflow_mul-at c = omega (arith, room c.loop-j.invariant c.loop-j-test.true c.block_count-rows.ensures c.requires.part_len)
 
 pub bounds-powers-e : goal.bounds-powers-e
-bounds-powers-e c = rw (ap length c.requires.powers_value ∙ length_table_of_powers) (mod-lt _ (lit< tt))
+bounds-powers-e c = mod-lt _ (lit< tt)
 
-pub turn_row-requires-clause-width_in_bounds : goal.turn_row-requires-clause-width_in_bounds
-turn_row-requires-clause-width_in_bounds c = room c.loop-j.invariant c.loop-j-test.true c.two_to-rows.ensures c.requires.part_len
+pub invariant_of-g : goal.invariant_of-g
+invariant_of-g c = record {
+  is_short = (back_entry c.args.st.numbers c.block_count-rows.ensures c.loop-j-test.true c.args.powers.now.is_table c.reversed.ensures).short;
+}
 
-pub turn_row-requires-clause-g_bound : goal.turn_row-requires-clause-g_bound
-turn_row-requires-clause-g_bound c =
-    (back_entry c.requires.numbers c.two_to-rows.ensures c.loop-j-test.true c.requires.powers_value c.reversed.ensures).short
+pub scale_row-requires-clause-width_in_bounds : goal.scale_row-requires-clause-width_in_bounds
+scale_row-requires-clause-width_in_bounds c = room c.loop-j.invariant c.loop-j-test.true c.block_count-rows.ensures c.requires.part_len
 
-pub turn_row-requires-clause-words : goal.turn_row-requires-clause-words
-turn_row-requires-clause-words c = scaling_words 65537 _ _ c.loop-j.invariant (lit< tt) c.requires.words
-
-pub overflow_add-at : goal.overflow_add-at
-overflow_add-at c = omega (arith, room c.loop-j.invariant c.loop-j-test.true c.two_to-rows.ensures c.requires.part_len)
+pub scale_row-requires-clause-words : goal.scale_row-requires-clause-words
+scale_row-requires-clause-words c = scaling_words 65537 _ _ c.loop-j.invariant (lit< tt) c.requires.words
 
 pub loop-j-preserved : goal.loop-j-preserved
 loop-j-preserved c =
-    scaling_turn 65537 _ _ c.loop-j.invariant c.loop-j-test.true
-    (back_entry c.requires.numbers c.two_to-rows.ensures c.loop-j-test.true c.requires.powers_value c.reversed.ensures).is
-    c.turn_row.ensures
+    rw (row_next c.loop-j.j c.args.st.stripe.width) (scaling_turn 65537 _ _ c.loop-j.invariant c.loop-j-test.true
+    (back_entry c.args.st.numbers c.block_count-rows.ensures c.loop-j-test.true c.args.powers.now.is_table c.reversed.ensures).is
+    c.scale_row.ensures)
 
 pub returns : goal.returns
 returns c =
-    all_turned c.args.st.first c.args.st.k c.args.st.width (inverse 65537 (root_of fermat c.args.st.k)) c.loop-j.invariant
-    c.loop-j-test.false c.two_to-rows.ensures c.requires.part_len
+    all_turned c.args.st.stripe.first c.args.st.stripe.k c.args.st.stripe.width (inverse 65537 (root_of fermat c.args.st.stripe.k)) c.loop-j.invariant
+    c.loop-j-test.false c.block_count-rows.ensures c.requires.part_len

@@ -6,4 +6,4 @@ use Rattle.encoder.proofs.unmix_all.Goals as goal
 pub returns : goal.returns
 returns c =
     c.unmix_all.ensures
-    ∙ rows_untransform c.args.st.width c.args.st.k c.args.st.level c.args.half.now c.requires.numbers.within c.requires.numbers.small
+    ∙ rows_untransform c.args.st.stripe.width c.args.st.stripe.k c.args.st.stripe.level c.args.half.now c.args.st.numbers.within c.args.st.numbers.small
