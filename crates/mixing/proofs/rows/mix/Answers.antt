@@ -1,5 +1,6 @@
 -- `mixing::rows::mix` meets its contract, by the laws of the loop over rows of proofs/Crossing. Assumes nothing.
-use Rattle.mixing.proofs.Crossing.{rows_start, rows_turn, rows_end, mixing_stores, mixing_crosses}
+use Rattle.mixing.specs.steps.Stores.{mixing_stores}
+use Rattle.mixing.proofs.Crossing.{rows_start, rows_turn, rows_end, mixing_crosses}
 use Rattle.mixing.proofs.rows.mix.Goals as goal
 
 pub loop-i-init : goal.loop-i-init
