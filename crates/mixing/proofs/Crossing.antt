@@ -2,6 +2,7 @@
 -- nothing.
 use mathlib.Core.Path.{◌≡◌, refl, sym, ap, ap₂, ◌∙◌, subst}
 use mathlib.Core.Logic.{⊎_elim, ◌≢◌}
+use mathlib.Core.Bool.{Bool, true, false}
 use mathlib.Core.List.{List}
 use Prim.Native.Nat.{ℕ, zero, suc, ◌+◌, ◌-◌, ◌*◌, ◌/◌, ◌%◌, ◌≤◌, ◌<◌}
 use native.Mathlib.Nat.{eq-or-lt_of_le, add-zero, zero-add, add-suc, add-mul, zero-mul, one-mul}
@@ -20,7 +21,7 @@ use Rattle.field.proofs.WordLists.{words_set}
 use Rattle.code.specs.Rows.{column, lifted}
 use Rattle.code.specs.Transform.{mixed_halves, unmixed}
 use Rattle.code.specs.steps.Mixing.{Crossing, mixing, unmixing, summing, crossed, crossed_row, sum_row, RowFactors, factor_at}
-use Rattle.mixing.specs.steps.Stores.{Stores, mixing_stores, unmixing_stores}
+use Rattle.mixing.specs.steps.Words.{crossing_of}
 use Rattle.code.proofs.Shapes.{mixed_low, mixed_high, unmixed_low, unmixed_high}
 use Rattle.code.proofs.Blocks.{OnBlock}
 use Rattle.code.proofs.Lifting.{column_at, length_column, is_lifted}
@@ -31,6 +32,15 @@ product_word g y e = rw e (times_lt 65537 (omega arith) g y)
 
 pub difference_word : (x y : ℕ) {r : ℕ} → r ≡ minus 65537 x y → r < 65537
 difference_word x y e = rw e (minus_lt 65537 (omega arith) x y)
+
+-- both words stored are words of the field
+pub record Stores (p : ℕ) (c : Crossing) : Type 0 where
+  pub low_lt : (g a b : ℕ) → c.low g a b < p
+  pub high_lt : (g a b : ℕ) → c.high g a b < p
+
+pub crossing_stores : (unmixing : Bool) → Stores 65537 (crossing_of unmixing 65537)
+crossing_stores false = record { low_lt = λ g a b. plus_lt 65537 (omega arith) a _; high_lt = λ g a b. minus_lt 65537 (omega arith) a _ }
+crossing_stores true = record { low_lt = λ g a b. plus_lt 65537 (omega arith) a b; high_lt = λ g a b. times_lt 65537 (omega arith) g _ }
 
 pub summing_stores : Stores 65537 (summing 65537)
 summing_stores = record { low_lt = λ g a b. plus_lt 65537 (omega arith) a b; high_lt = λ g a b. minus_lt 65537 (omega arith) a b }

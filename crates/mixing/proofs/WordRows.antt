@@ -15,8 +15,7 @@ use Rattle.code.specs.Rows.{lifted}
 use Rattle.code.specs.steps.Mixing.{Crossing, crossed_row, RowFactors, ShortFactors, repeated_at, factor_at, each_block}
 use Rattle.code.specs.steps.Storing.{stored, always}
 use Rattle.code.proofs.RowLaws.{length_stored, stored_at, stored_is}
-use Rattle.mixing.specs.steps.Stores.{Stores}
-use Rattle.mixing.proofs.Crossing.{Crosses, length_row, words_row, words_lifted}
+use Rattle.mixing.proofs.Crossing.{Stores, Crosses, length_row, words_row, words_lifted}
 use Rattle.code.proofs.Blocks.{OnBlock, each_same, each_rows}
 
 -- a part that is filled with one word

@@ -1,9 +1,8 @@
 // Crossings of two words, mixing and unmixing, and what they are crossed under: a factor, and the factors of a row's words.
-ghost use Rattle.std.specs.Prelude.{◌≡◌, ℕ, ◌-◌, ◌<◌, length, get_or};
+ghost use Rattle.std.specs.Prelude.{◌≡◌, ℕ, ◌-◌, ◌<◌, Bool, true, false, length, get_or};
 ghost use Rattle.field.specs.Residue.{times};
 ghost use Rattle.field.specs.Field.{fermat};
-ghost use Rattle.code.specs.steps.Mixing.{Crossing, mixing, unmixing};
-ghost use Rattle.mixing.specs.steps.Stores.{Stores, mixing_stores, unmixing_stores};
+ghost use Rattle.mixing.specs.steps.Words.{crossing_of};
 
 /// What a word is multiplied by.
 pub trait Factor: Copy {
@@ -90,42 +89,38 @@ impl Factors for Own<'_> {
     }
 }
 
-/// How two words are crossed under a factor.
+/// Which way words are crossed: mixing, or unmixing.
 pub trait Direction {
-    ghost crossing: { Crossing };
+    ghost unmixing: { Bool };
 
+    // What is stored in the place of two words.
     fn cross<F: Factor>(g: F, a: u32, b: u32) -> (u32, u32)
         requires { (a < fermat.modulus) × (b < fermat.modulus) }
-        ensures { (result.0 ≡ crossing.low (F.value g) a b) × (result.1 ≡ crossing.high (F.value g) a b) };
-
-    ghost stores: { Stores fermat.modulus crossing };
+        ensures low { result.0 ≡ (crossing_of unmixing fermat.modulus).low (F.value g) a b }
+        ensures high { result.1 ≡ (crossing_of unmixing fermat.modulus).high (F.value g) a b };
 }
 
-/// The product is added and subtracted.
+/// Sum and difference of one word and the product of the other.
 pub struct Mixing;
 
-/// Mixing undone: the sum, and the product of the difference.
+/// The inverse of mixing, but for a factor of 2: the sum, and the product of the difference.
 pub struct Unmixing;
 
 impl Direction for Mixing {
-    ghost crossing = { mixing fermat.modulus };
+    ghost unmixing = { false };
 
     #[inline(always)]
     fn cross<F: Factor>(g: F, a: u32, b: u32) -> (u32, u32) {
         let t = g.product(b);
         (field::add(a, t), field::sub(a, t))
     }
-
-    ghost stores = { mixing_stores };
 }
 
 impl Direction for Unmixing {
-    ghost crossing = { unmixing fermat.modulus };
+    ghost unmixing = { true };
 
     #[inline(always)]
     fn cross<F: Factor>(g: F, a: u32, b: u32) -> (u32, u32) {
         (field::add(a, b), g.product(field::sub(a, b)))
     }
-
-    ghost stores = { unmixing_stores };
 }

@@ -5,6 +5,7 @@ ghost use Rattle.field.specs.Words.{Words};
 ghost use Rattle.code.specs.Rows.{lifted};
 ghost use Rattle.code.specs.Transform.{mixed_halves};
 ghost use Rattle.code.specs.steps.Mixing.{crossed_row, sum_row, mix_row, RowFactors, each_block};
+ghost use Rattle.mixing.specs.steps.Words.{crossing_of};
 
 use crate::direction::{Direction, Factors, Mixing, One, Power, Same};
 
@@ -20,7 +21,7 @@ pub(crate) fn cross_row<D: Direction, F: Factors>(
     requires width_in_bounds { high + width ≤ length part.old }
     requires covered { (word : ℕ) → word < width → F.covers factors word }
     requires words { Words fermat.modulus part.old }
-    ensures { part.new ≡ crossed_row D.crossing (F.value factors) width low high part.old }
+    ensures { part.new ≡ crossed_row (crossing_of D.unmixing fermat.modulus) (F.value factors) width low high part.old }
 {
     for j in 0..width {
         let x = low + j;
