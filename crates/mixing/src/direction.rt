@@ -61,7 +61,7 @@ pub struct Same<F: Factor>(pub F);
 
 /// A factor for each word, none of them -1.
 #[derive(Clone, Copy)]
-pub struct Own<'a>(pub &'a [u32]);
+pub struct PerWord<'a>(pub &'a [u32]);
 
 impl<F: Factor> Factors for Same<F> {
     type Each = F;
@@ -76,7 +76,7 @@ impl<F: Factor> Factors for Same<F> {
     }
 }
 
-impl Factors for Own<'_> {
+impl Factors for PerWord<'_> {
     type Each = Power;
 
     ghost value = { λ s word. get_or s.0.now word 0 };

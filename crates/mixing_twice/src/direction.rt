@@ -7,21 +7,21 @@ ghost use Rattle.mixing_twice.specs.steps.Quads.{four_of};
 use mixing::direction::{Direction, Factor, Mixing, One, Power, Unmixing};
 
 /// A factor whose product with a word can be left unreduced, for a product that is only summed.
-pub trait SumFactor: Factor {
+pub trait UnreducedFactor: Factor {
     // The product, but for a multiple of p.
     fn unreduced_product(self, y: u32) -> u32
         requires { y < fermat.modulus }
         ensures { (result ≤ 131072) × (result % fermat.modulus ≡ times fermat.modulus (Self.value self) y) };
 }
 
-impl SumFactor for One {
+impl UnreducedFactor for One {
     #[inline(always)]
     fn unreduced_product(self, y: u32) -> u32 {
         y
     }
 }
 
-impl SumFactor for Power {
+impl UnreducedFactor for Power {
     #[inline(always)]
     fn unreduced_product(self, y: u32) -> u32 {
         crate::four_65537::unreduced_mul(self.g, y)
@@ -30,7 +30,7 @@ impl SumFactor for Power {
 
 /// The factors of four words: t1, t2 and their product.
 #[derive(Drop)]
-pub struct Three<F: SumFactor> {
+pub struct ThreeFactors<F: UnreducedFactor> {
     pub t1: F,
     pub t2: F,
     pub t3: F,
@@ -40,8 +40,8 @@ pub struct Three<F: SumFactor> {
 /// A direction in which two levels are crossed at once.
 pub trait TwoLevels: Direction {
     // What two levels make of four words, one of each of four rows.
-    fn cross_four<F: SumFactor>(
-        t: &Three<F>,
+    fn cross_four<F: UnreducedFactor>(
+        t: &ThreeFactors<F>,
         a: u32,
         b: u32,
         c: u32,
@@ -57,8 +57,8 @@ pub trait TwoLevels: Direction {
 // Words 0 and 1, 2 and 3 under t1; then 0 and 2 under t2, 1 and 3 under t2 times a square root of -1.
 impl TwoLevels for Mixing {
     #[inline(always)]
-    fn cross_four<F: SumFactor>(
-        t: &Three<F>,
+    fn cross_four<F: UnreducedFactor>(
+        t: &ThreeFactors<F>,
         a: u32,
         b: u32,
         c: u32,
@@ -80,8 +80,8 @@ impl TwoLevels for Mixing {
 // Words 0 and 2 under t2, 1 and 3 under t2 times a square root of -1; then 0 and 1, 2 and 3 under t1.
 impl TwoLevels for Unmixing {
     #[inline(always)]
-    fn cross_four<F: SumFactor>(
-        t: &Three<F>,
+    fn cross_four<F: UnreducedFactor>(
+        t: &ThreeFactors<F>,
         a: u32,
         b: u32,
         c: u32,

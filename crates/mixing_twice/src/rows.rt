@@ -8,15 +8,15 @@ ghost use Rattle.mixing_twice.specs.steps.Quads.{quad_row, EntryFactors, QuadFac
 
 use mixing::direction::{One, Power};
 
-use crate::direction::{SumFactor, Three, TwoLevels};
+use crate::direction::{UnreducedFactor, ThreeFactors, TwoLevels};
 
 // Crosses `width` words of four rows, `far` apart, under the factors t.
-fn cross_rows<D: TwoLevels, F: SumFactor>(
+fn cross_rows<D: TwoLevels, F: UnreducedFactor>(
     part: &mut [u32],
     at: usize,
     far: usize,
     width: usize,
-    t: &Three<F>,
+    t: &ThreeFactors<F>,
 )
     requires width_in_bounds { at + far + far + far + width ≤ length part.old }
     requires words { Words fermat.modulus part.old }
@@ -51,12 +51,12 @@ fn cross_by<D: TwoLevels>(
         quad_row (four_of D.unmixing) (get_or powers.now (2 * e % 2048) 0) (get_or powers.now (e % 2048) 0) far width at part.old }
 {
     if e == 0 {
-        cross_rows::<D, One>(part, at, far, width, &Three { t1: One, t2: One, t3: One });
+        cross_rows::<D, One>(part, at, far, width, &ThreeFactors { t1: One, t2: One, t3: One });
     } else {
         let t1 = Power { g: powers[2 * e % 2048] };
         let t2 = Power { g: powers[e % 2048] };
         let t3 = Power { g: powers[3 * e % 2048] };
-        cross_rows::<D, Power>(part, at, far, width, &Three { t1, t2, t3 });
+        cross_rows::<D, Power>(part, at, far, width, &ThreeFactors { t1, t2, t3 });
     }
 }
 
