@@ -43,7 +43,7 @@ impl Factor for Power {
 }
 
 /// The factors of the words of a row.
-pub trait Factors: Copy {
+pub(crate) trait Factors: Copy {
     type Each: Factor;
 
     ghost value: { Self → (word : ℕ) → ℕ };
@@ -57,11 +57,11 @@ pub trait Factors: Copy {
 
 /// One factor for all words.
 #[derive(Clone, Copy)]
-pub struct Same<F: Factor>(pub F);
+pub(crate) struct Same<F: Factor>(pub F);
 
 /// A factor for each word, none of them -1.
 #[derive(Clone, Copy)]
-pub struct PerWord<'a>(pub &'a [u32]);
+pub(crate) struct PerWord<'a>(pub &'a [u32]);
 
 impl<F: Factor> Factors for Same<F> {
     type Each = F;

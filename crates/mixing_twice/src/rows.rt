@@ -6,9 +6,8 @@ ghost use Rattle.code.specs.Rows.{lifted};
 ghost use Rattle.code.specs.steps.Mixing.{each_block};
 ghost use Rattle.mixing_twice.specs.steps.Quads.{quad_row, EntryFactors, QuadFactors, four_of, turn_of, twice};
 
+use crate::direction::{ThreeFactors, TwoLevels, UnreducedFactor};
 use mixing::direction::{One, Power};
-
-use crate::direction::{UnreducedFactor, ThreeFactors, TwoLevels};
 
 // Crosses `width` words of four rows, `far` apart, under the factors t.
 fn cross_rows<D: TwoLevels, F: UnreducedFactor>(
@@ -51,11 +50,27 @@ fn cross_by<D: TwoLevels>(
         quad_row (four_of D.unmixing) (get_or powers.now (2 * e % 2048) 0) (get_or powers.now (e % 2048) 0) far width at part.old }
 {
     if e == 0 {
-        cross_rows::<D, One>(part, at, far, width, &ThreeFactors { t1: One, t2: One, t3: One });
+        cross_rows::<D, One>(
+            part,
+            at,
+            far,
+            width,
+            &ThreeFactors {
+                t1: One,
+                t2: One,
+                t3: One,
+            },
+        );
     } else {
-        let t1 = Power { g: powers[2 * e % 2048] };
-        let t2 = Power { g: powers[e % 2048] };
-        let t3 = Power { g: powers[3 * e % 2048] };
+        let t1 = Power {
+            g: powers[2 * e % 2048],
+        };
+        let t2 = Power {
+            g: powers[e % 2048],
+        };
+        let t3 = Power {
+            g: powers[3 * e % 2048],
+        };
         cross_rows::<D, Power>(part, at, far, width, &ThreeFactors { t1, t2, t3 });
     }
 }

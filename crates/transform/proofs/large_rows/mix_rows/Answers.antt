@@ -10,10 +10,10 @@ loop-pair-init c =
     let q = c.requires in
     elim c.if-level-eq1.branch [
       | then-level-eq1 w ↦ rw (w.half-is, w.if-level-eq1.true)
-      (first_turn _ _ (omega arith) q.level_bound q.half_len w.two_to.ensures w.sum_each.auto.half w.sum_each.ensures q.words)
+          (first_turn _ _ (omega arith) q.level_bound q.half_len w.two_to.ensures w.sum_each.auto.half w.sum_each.ensures q.words)
       | else-level-eq1 w ↦
-      let z : c.args.level % 2 + 0 ≡ 0 = omega arith in
-      rw (w.half-is, z) (mix_start q.level_bound q.half_len q.words)
+          let z : c.args.level % 2 + 0 ≡ 0 = omega arith in
+          rw (w.half-is, z) (mix_start q.level_bound q.half_len q.words)
     ]
 
 pub cross_each-requires-clause-half_len : goal.cross_each-requires-clause-half_len
