@@ -18,16 +18,6 @@ use Rattle.code.proofs.RowLaws.{length_stored, stored_at, stored_is}
 use Rattle.mixing.proofs.Crossing.{Stores, Crosses, length_row, words_row, words_lifted}
 use Rattle.code.proofs.Blocks.{OnBlock, each_same, each_rows}
 
--- a part that is filled with one word
-pub filled : (at n g : ℕ) (l ys : List ℕ) → at + n ≤ length l → ys ≡ replicate (length (take (at + n - at) (drop at l))) g
-    → put_mid at (at + n - at) l ys ≡ stored at (always g) n l
-unfolding always
-filled at n g l ys h e =
-    let d : at + n - at ≡ n = omega arith in
-    let lent : length (take n (drop at l)) ≡ n = length-take-le n (drop at l) (rw length-drop (omega arith)) in
-    let words : replicate n g ≡ table n (always g) = is_table (replicate n g) n (always g) (length-replicate n g) (λ k b. get_or-replicate n k g 0 b) in
-    rw (e, d, lent, words, drop-drop) (sym (stored_is at (always g) n l h ∙ append_assoc (take at l) (table n (always g)) (drop (at + n) l)))
-
 -- a level crossed word by word, each under the factor of its row
 pub words_block : {c : Crossing} → Stores 65537 c → (fs : List ℕ) (n : ℕ) → OnBlock 65537 (n + n) (crossed_row c (factor_at fs) n 0 n)
 words_block {c} s fs n = record {
