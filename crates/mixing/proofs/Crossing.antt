@@ -2,6 +2,7 @@
 -- nothing.
 use mathlib.Core.Path.{◌≡◌, refl, sym, ap, ap₂, ◌∙◌, subst}
 use mathlib.Core.Logic.{⊎_elim, ◌≢◌}
+use mathlib.Core.Bool.{Bool, true, false}
 use mathlib.Core.List.{List}
 use Prim.Native.Nat.{ℕ, zero, suc, ◌+◌, ◌-◌, ◌*◌, ◌/◌, ◌%◌, ◌≤◌, ◌<◌}
 use native.Mathlib.Nat.{eq-or-lt_of_le, add-zero, zero-add, add-suc, add-mul, zero-mul, one-mul}
@@ -20,6 +21,7 @@ use Rattle.field.proofs.WordLists.{words_set}
 use Rattle.code.specs.Rows.{column, lifted}
 use Rattle.code.specs.Transform.{mixed_halves, unmixed}
 use Rattle.code.specs.steps.Mixing.{Crossing, mixing, unmixing, summing, crossed, crossed_row, sum_row, RowFactors, factor_at}
+use Rattle.mixing.specs.steps.Words.{crossing_of}
 use Rattle.code.proofs.Shapes.{mixed_low, mixed_high, unmixed_low, unmixed_high}
 use Rattle.code.proofs.Blocks.{OnBlock}
 use Rattle.code.proofs.Lifting.{column_at, length_column, is_lifted}
@@ -36,11 +38,9 @@ pub record Stores (p : ℕ) (c : Crossing) : Type 0 where
   pub low_lt : (g a b : ℕ) → c.low g a b < p
   pub high_lt : (g a b : ℕ) → c.high g a b < p
 
-pub mixing_stores : Stores 65537 (mixing 65537)
-mixing_stores = record { low_lt = λ g a b. plus_lt 65537 (omega arith) a _; high_lt = λ g a b. minus_lt 65537 (omega arith) a _ }
-
-pub unmixing_stores : Stores 65537 (unmixing 65537)
-unmixing_stores = record { low_lt = λ g a b. plus_lt 65537 (omega arith) a b; high_lt = λ g a b. times_lt 65537 (omega arith) g _ }
+pub crossing_stores : (unmixing : Bool) → Stores 65537 (crossing_of unmixing 65537)
+crossing_stores false = record { low_lt = λ g a b. plus_lt 65537 (omega arith) a _; high_lt = λ g a b. minus_lt 65537 (omega arith) a _ }
+crossing_stores true = record { low_lt = λ g a b. plus_lt 65537 (omega arith) a b; high_lt = λ g a b. times_lt 65537 (omega arith) g _ }
 
 pub summing_stores : Stores 65537 (summing 65537)
 summing_stores = record { low_lt = λ g a b. plus_lt 65537 (omega arith) a b; high_lt = λ g a b. minus_lt 65537 (omega arith) a b }
@@ -107,14 +107,6 @@ module _ {c : Crossing} {part₀ : List ℕ} {low high width : ℕ} {f : ℕ →
         words = words_crossed (omega arith) k (f j) (low + j) (high + j) h.words;
         now = rw add-one (ap (crossed c (f j) (low + j) (high + j)) h.now);
       })
-
--- a turn of the loop over the first words and those behind them
-pub words_turn : {c : Crossing} {part₀ : List ℕ} {size : ℕ} {f : ℕ → ℕ} {part : List ℕ} {j r s : ℕ} → Stores 65537 c → RowLoop c part₀ 0 size size f part j
-    → j < size → r ≡ c.low (f j) (get_or part j 0) (get_or part (size + j) 0) → s ≡ c.high (f j) (get_or part j 0) (get_or part (size + j) 0)
-    → RowLoop c part₀ 0 size size f (set (set part j r) (size + j) s) (j + 1)
-words_turn {j = j} {r} {s} k h lt er es =
-    let z : 0 + j ≡ j = zero-add j in
-    rw z at (row_turn {r = r} {s = s} k h lt (rw z er) (rw z es))
 
 -- the words k and half + k crossed for k below n, each under its factor: what the two loops come to
 unfoldable pub pairs : (c : Crossing) → (f : ℕ → ℕ) → (half n : ℕ) → List ℕ → List ℕ
@@ -267,60 +259,44 @@ sums_block width = record {
 }
 
 -- THE LOOP OVER ROWS: the first i rows are crossed, under powers of entry `step` of a table
-pub record RowsLoop (c : Crossing) (part₀ : List ℕ) (m width : ℕ) (powers : List ℕ) (step : ℕ) (part : List ℕ) (e i low high : ℕ) : Type 0 where
+pub record RowsLoop (c : Crossing) (part₀ : List ℕ) (m width : ℕ) (powers : List ℕ) (step : ℕ) (part : List ℕ) (i : ℕ) : Type 0 where
   pub turns : i ≤ m
   pub same : length part ≡ length part₀
   pub long : length part₀ ≡ m * width + m * width
   pub words : Words 65537 part
-  pub e_is : e ≡ i * step
-  pub low_is : low ≡ i * width
-  pub high_is : high ≡ m * width + i * width
   pub now : part ≡ pairs c (factor (get_or powers step 0) width) (m * width) (i * width) part₀
 
 module _ {c : Crossing} {part₀ : List ℕ} {m width : ℕ} {powers : List ℕ} {step : ℕ} where
-  pub rows_start : length part₀ ≡ (m + m) * width → Words 65537 part₀ → RowsLoop c part₀ m width powers step part₀ 0 0 0 (m * width)
+  pub rows_start : length part₀ ≡ (m + m) * width → Words 65537 part₀ → RowsLoop c part₀ m width powers step part₀ 0
   unfolding pairs
   rows_start e w = record {
     turns = omega arith;
     same = refl;
     long = e ∙ add-mul m m width;
     words = w;
-    e_is = sym (zero-mul step);
-    low_is = sym (zero-mul width);
-    high_is = omega (arith, zero-mul width);
     now = rw zero-mul refl;
   }
 
-  -- row i's factor, since i is below m: which power it is
-  factor_is : {part : List ℕ} {e i low high : ℕ} → RowFactors 65537 m step powers → RowsLoop c part₀ m width powers step part e i low high → i < m
-      → get_or powers (e % 2048) 0 ≡ power 65537 (get_or powers step 0) i
-  factor_is f h lt = rw h.e_is (f.entry _ lt)
-
-  pub rows_turn : {part part' : List ℕ} {e i low high : ℕ} → Stores 65537 c → RowFactors 65537 m step powers
-      → RowsLoop c part₀ m width powers step part e i low high → i < m
-      → part' ≡ crossed_row c (λ _. get_or powers (e % 2048) 0) width low high part
-      → RowsLoop c part₀ m width powers step part' (e + step) (i + 1) (low + width) (high + width)
-  rows_turn {part} {part'} {e} {i} {low} {high} s f h lt ep =
+  pub rows_turn : {part part' : List ℕ} {i : ℕ} → Stores 65537 c → RowFactors 65537 m step powers → RowsLoop c part₀ m width powers step part i → i < m
+      → part' ≡ crossed_row c (λ _. get_or powers (i * step % 2048) 0) width (i * width) (m * width + i * width) part
+      → RowsLoop c part₀ m width powers step part' (i + 1)
+  rows_turn {part} {part'} {i} s f h lt ep =
       let v = get_or powers step 0 in
-      let g = get_or powers (e % 2048) 0 in
+      let g = get_or powers (i * step % 2048) 0 in
       let n : (i + 1) * width ≡ i * width + width = omega arith in
       let r : crossed_row c (λ _. power 65537 v i) width (i * width) (m * width + i * width) (pairs c (factor v width) (m * width) (i * width) part₀) ≡ pairs c
       (factor v width) (m * width) (i * width + width) part₀ =
       row_pairs c (factor v width) (m * width) (power 65537 v i) width (i * width) part₀ (λ j b. ap (power 65537 v) (digits_div i b)) in
       record {
         turns = omega arith;
-        same = ap length ep ∙ length_row c (λ _. g) width low high part ∙ h.same;
+        same = ap length ep ∙ length_row c (λ _. g) width (i * width) (m * width + i * width) part ∙ h.same;
         long = h.long;
-        words = rw ep (words_row (omega arith) s (λ _. g) width low high h.words);
-        e_is = omega arith;
-        low_is = omega arith;
-        high_is = omega arith;
-        now = ep ∙ ap (λ (x : ℕ). crossed_row c (λ _. x) width low high part) (factor_is f h lt) ∙ rw (h.low_is, h.high_is, h.now, n) r;
+        words = rw ep (words_row (omega arith) s (λ _. g) width (i * width) (m * width + i * width) h.words);
+        now = ep ∙ ap (λ (x : ℕ). crossed_row c (λ _. x) width (i * width) (m * width + i * width) part) (f.entry i lt) ∙ rw (h.now, n) r;
       }
 
-  pub rows_end : {d : List ℕ → List ℕ} {part : List ℕ} {e i low high : ℕ} → Crosses c (get_or powers step 0) m d
-      → RowsLoop c part₀ m width powers step part e i low high → m ≤ i
+  pub rows_end : {d : List ℕ → List ℕ} {part : List ℕ} {i : ℕ} → Crosses c (get_or powers step 0) m d → RowsLoop c part₀ m width powers step part i → m ≤ i
       → part ≡ lifted width (m + m) (m + m) d part₀
-  rows_end {d} {part} {e} {i} t h le =
+  rows_end {d} {part} {i} t h le =
       let q : i ≡ m = omega arith in
       (rw q at h.now) ∙ all_pairs c (get_or powers step 0) m width d t part₀ h.long

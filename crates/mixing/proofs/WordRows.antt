@@ -1,24 +1,22 @@
 -- A level crossed word by word, each under the factor of its row, which is repeated: the blocks, and the factors. Assumes nothing.
-use mathlib.Core.Path.{◌≡◌, ap, ◌∙◌}
-use mathlib.Core.Bool.{Bool, true, false}
-use mathlib.Core.List.{List}
-use Prim.Native.Nat.{ℕ, zero, suc, ◌+◌, ◌*◌, ◌/◌, ◌≤◌, ◌<◌}
+use mathlib.Core.Path.{◌≡◌, sym, ap, ◌∙◌}
+use mathlib.Core.List.{List, append_assoc}
+use Prim.Native.Nat.{ℕ, zero, suc, ◌+◌, ◌*◌, ◌-◌, ◌/◌, ◌≤◌, ◌<◌}
 use native.Mathlib.Nat.{zero-add, add-mul, mul-zero, div-lt_iff_lt-mul}
 use native.Mathlib.Omega.{arith}
-use lib.ListN.{length, get_or}
+use borrow.Rule.Slice.PartMut.{put_mid}
+use lib.ListN.{length, get_or, take, drop, replicate, length-drop, length-replicate}
+use lib.Seq.{length-take-le, drop-drop}
+use Rattle.std.proofs.lemmas.List.{get_or-replicate}
 use Rattle.field.specs.Power.{power}
+use Rattle.field.specs.Words.{table}
+use Rattle.field.proofs.WordLists.{is_table}
 use Rattle.code.specs.Rows.{lifted}
 use Rattle.code.specs.steps.Mixing.{Crossing, crossed_row, RowFactors, ShortFactors, repeated_at, factor_at, each_block}
-use Rattle.code.specs.steps.Storing.{stored}
-use Rattle.code.proofs.RowLaws.{length_stored, stored_at}
-use Rattle.mixing.specs.steps.Words.{crossing_of}
-use Rattle.mixing.proofs.Crossing.{Stores, Crosses, mixing_stores, unmixing_stores, length_row, words_row, words_lifted}
+use Rattle.code.specs.steps.Storing.{stored, always}
+use Rattle.code.proofs.RowLaws.{length_stored, stored_at, stored_is}
+use Rattle.mixing.proofs.Crossing.{Stores, Crosses, length_row, words_row, words_lifted}
 use Rattle.code.proofs.Blocks.{OnBlock, each_same, each_rows}
-
--- mixing and unmixing
-pub crossing_stores : (unmixing : Bool) → Stores 65537 (crossing_of unmixing 65537)
-crossing_stores false = mixing_stores
-crossing_stores true = unmixing_stores
 
 -- a level crossed word by word, each under the factor of its row
 pub words_block : {c : Crossing} → Stores 65537 c → (fs : List ℕ) (n : ℕ) → OnBlock 65537 (n + n) (crossed_row c (factor_at fs) n 0 n)

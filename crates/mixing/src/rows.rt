@@ -1,52 +1,38 @@
 // Mixing of rows in place, a row at a time.
-ghost use Rattle.std.specs.Prelude.{◌≡◌, ◌+◌, ◌*◌, ◌-◌, ◌%◌, ◌≤◌, ◌<◌, length, get_or};
+ghost use Rattle.std.specs.Prelude.{◌≡◌, ◌+◌, ◌*◌, ◌-◌, ◌%◌, ◌≤◌, ◌<◌, ℕ, length, get_or};
 ghost use Rattle.field.specs.Field.{fermat};
 ghost use Rattle.field.specs.Words.{Words};
 ghost use Rattle.code.specs.Rows.{lifted};
 ghost use Rattle.code.specs.Transform.{mixed_halves};
-ghost use Rattle.code.specs.steps.Mixing.{sum_row, mix_row, RowFactors, each_block};
+ghost use Rattle.code.specs.steps.Mixing.{crossed_row, sum_row, mix_row, RowFactors, each_block};
+ghost use Rattle.mixing.specs.steps.Words.{crossing_of};
 
-// The sums of `width` words from index `low` and as many from index `high` in the place of the former, the differences in the place of the latter: mixing
-// and unmixing under the factor 1, with no product.
-fn sum_row(part: &mut [u32], low: usize, high: usize, width: usize)
+use crate::direction::{Direction, Factors, Mixing, One, Power, Same};
+
+// Crosses `width` words from index `low` with as many from index `high`, each pair under its factor.
+pub(crate) fn cross_row<D: Direction, F: Factors>(
+    part: &mut [u32],
+    low: usize,
+    high: usize,
+    width: usize,
+    factors: F,
+)
     requires width_bound { low + width ≤ high }
     requires width_in_bounds { high + width ≤ length part.old }
+    requires covered { (word : ℕ) → word < width → F.covers factors word }
     requires words { Words fermat.modulus part.old }
-    ensures { part.new ≡ sum_row fermat.modulus width low high part.old }
+    ensures { part.new ≡ crossed_row (crossing_of D.unmixing fermat.modulus) (F.value factors) width low high part.old }
 {
-    let mut j = 0;
-    while j < width {
+    for j in 0..width {
         let x = low + j;
         let y = high + j;
-        let a = part[x];
-        let b = part[y];
-        part[x] = field::add(a, b);
-        part[y] = field::sub(a, b);
-        j += 1;
+        let (a, b) = D::cross(factors.of(j), part[x], part[y]);
+        part[x] = a;
+        part[y] = b;
     }
 }
 
-// Mixes `width` words from index `low` with as many from index `high`, under the factor `g`, by a product a word.
-fn mix_row_by(part: &mut [u32], low: usize, high: usize, width: usize, g: u32)
-    requires width_bound { low + width ≤ high }
-    requires width_in_bounds { high + width ≤ length part.old }
-    requires g_bound { g < fermat.modulus - 1 }
-    requires words { Words fermat.modulus part.old }
-    ensures { part.new ≡ mix_row fermat.modulus width low high g part.old }
-{
-    let mut j = 0;
-    while j < width {
-        let x = low + j;
-        let y = high + j;
-        let a = part[x];
-        let t = field::short_65537::mul(g, part[y]);
-        part[x] = field::add(a, t);
-        part[y] = field::sub(a, t);
-        j += 1;
-    }
-}
-
-// The same; no product where the factor is 1.
+// Mixes `width` words from index `low` with as many from index `high`, under the factor `g`; no product where it is 1.
 fn mix_row(part: &mut [u32], low: usize, high: usize, width: usize, g: u32)
     requires width_bound { low + width ≤ high }
     requires width_in_bounds { high + width ≤ length part.old }
@@ -55,9 +41,9 @@ fn mix_row(part: &mut [u32], low: usize, high: usize, width: usize, g: u32)
     ensures { part.new ≡ mix_row fermat.modulus width low high g part.old }
 {
     if g == 1 {
-        sum_row(part, low, high, width);
+        cross_row::<Mixing, Same<One>>(part, low, high, width, Same(One));
     } else {
-        mix_row_by(part, low, high, width, g);
+        cross_row::<Mixing, Same<Power>>(part, low, high, width, Same(Power { g }));
     }
 }
 
@@ -70,16 +56,10 @@ pub fn mix(part: &mut [u32], m: usize, width: usize, powers: &[u32], step: usize
     ensures { part.new ≡
         lifted width (m + m) (m + m) (mixed_halves fermat.modulus (get_or powers.now step 0) m) part.old }
 {
-    let mut e = 0;
-    let mut i = 0;
-    let mut low = 0;
-    let mut high = m * width;
-    while i < m {
-        mix_row(part, low, high, width, powers[e % 2048]);
-        e += step;
-        low += width;
-        high += width;
-        i += 1;
+    let half = m * width;
+    for i in 0..m {
+        let low = i * width;
+        mix_row(part, low, half + low, width, powers[i * step % 2048]);
     }
 }
 
@@ -91,10 +71,8 @@ pub fn sum_each(half: &mut [u32], blocks: usize, width: usize)
     ensures { half.new ≡ each_block blocks (width + width) (sum_row fermat.modulus width 0 width) half.old }
 {
     let size = width + width;
-    let mut at = 0;
     for b in 0..blocks {
-        let to = at + size;
-        sum_row(&mut half[at..to], 0, width, width);
-        at = to;
+        let at = b * size;
+        cross_row::<Mixing, Same<One>>(&mut half[at..at + size], 0, width, width, Same(One));
     }
 }

@@ -42,7 +42,7 @@ four_stores false = mixing_four_stores 65281
 four_stores true = unmixing_four_stores 256
 
 -- what is a product modulo p is congruent to it
-pub residue : {r x : ℕ} → r % 65537 ≡ x → Cong 65537 r x
+residue : {r x : ℕ} → r % 65537 ≡ x → Cong 65537 r x
 residue {r} e = trans~ (sym~ (mod~ 65537 r)) (of_eq 65537 e)
 
 -- MIXING: y, z, w are the products, but for multiples of p; i is 256 (z - w) + 1024
@@ -52,19 +52,14 @@ pub record Slacks (a b c d t1 t2 y z w i : ℕ) : Type 0 where
   pub third : Cong 65537 w (times 65537 (times 65537 t1 t2) d)
   pub shift : Cong 65537 (i + 256 * w) (256 * z + 1024)
 
--- a word is once itself
-pub once : (x : ℕ) → x < 65537 → x ≡ times 65537 1 x
-once x h = sym (times_comm 65537 (omega arith) 1 x ∙ times_one 65537 (omega arith) x h)
-
--- words themselves where all factors are 1
-pub ones : {a b c d i : ℕ} → b < 65537 → c < 65537 → d < 65537 → Cong 65537 (i + 256 * d) (256 * c + 1024) → Slacks a b c d 1 1 b c d i
-ones {a} {b} {c} {d} hb hc hd e =
-    record {
-      first = of_eq 65537 (once b hb);
-      second = of_eq 65537 (once c hc);
-      third = of_eq 65537 (once d hd ∙ ap (λ (t : ℕ). times 65537 t d) (once 1 (omega arith)));
-      shift = e;
-    }
+pub slacks : {a b c d t1 t2 t3 y z w i : ℕ} → y % 65537 ≡ times 65537 t1 b → z % 65537 ≡ times 65537 t2 c → w % 65537 ≡ times 65537 t3 d
+    → t3 ≡ times 65537 t1 t2 → (i + 256 * w) % 65537 ≡ (256 * z + 1024) % 65537 → Slacks a b c d t1 t2 y z w i
+slacks {d = d} ey ez ew e3 k = record {
+  first = residue ey;
+  second = residue ez;
+  third = residue (ew ∙ ap (λ (t : ℕ). times 65537 t d) e3);
+  shift = record { eq = k };
+}
 
 -- 65281 is -256
 minus_root : Cong 65537 (65281 + 256) 0
@@ -83,20 +78,20 @@ shifted_difference a i r y z w k e =
     (trans~ (of_eq 65537 {y = r + y + i + (256 * z + 1024)} (omega arith)) (trans~ (add~ e (sym~ k)) (of_eq 65537 (omega arith))))
 
 module _ {a b c d t1 t2 y z w i : ℕ} (k : Slacks a b c d t1 t2 y z w i) where
-  is_mixed0 : {r : ℕ} → r < 65537 → Cong 65537 r (a + y + (z + w)) → r ≡ (mixing_four 65537 65281).out0 t1 t2 a b c d
-  is_mixed0 {r} h e =
+  pub is_mixed0 : {r : ℕ} → (r < 65537) × (r % 65537 ≡ (a + y + (z + w)) % 65537) → r ≡ (mixing_four 65537 65281).out0 t1 t2 a b c d
+  is_mixed0 {r} h =
       from 65537 (omega arith)
-      (fact (v 1) (v r) (v a ⊞ v y ⊞ (v z ⊞ v w)) e
+      (fact (v 1) (v r) (v a ⊞ v y ⊞ (v z ⊞ v w)) (record { eq = h.1 })
       (fact (v 1) (v y) (v t1 ⊗ v b) k.first (fact (v 1) (v z) (v t2 ⊗ v c) k.second (fact (v 1) (v w) (v t1 ⊗ v t2 ⊗ v d) k.third none))))
-      (v r) (v a ⊕ v t1 ⊗ v b ⊕ v t2 ⊗ (v c ⊕ v t1 ⊗ v d)) h (omega arith) (omega arith)
+      (v r) (v a ⊕ v t1 ⊗ v b ⊕ v t2 ⊗ (v c ⊕ v t1 ⊗ v d)) h.0 (omega arith) (omega arith)
 
-  is_mixed2 : {r : ℕ} → r < 65537 → Cong 65537 (r + (z + w)) (a + y) → r ≡ (mixing_four 65537 65281).out2 t1 t2 a b c d
-  is_mixed2 {r} h e =
+  pub is_mixed2 : {r : ℕ} → (r < 65537) × ((r + (z + w)) % 65537 ≡ (a + y) % 65537) → r ≡ (mixing_four 65537 65281).out2 t1 t2 a b c d
+  is_mixed2 {r} h =
       from 65537 (omega arith)
-      (fact (v 1) (v r ⊞ (v z ⊞ v w)) (v a ⊞ v y) e
+      (fact (v 1) (v r ⊞ (v z ⊞ v w)) (v a ⊞ v y) (record { eq = h.1 })
       (fact (v 1) (v y) (v t1 ⊗ v b) k.first
       (fact (v 1) (v t2 ⊗ v c) (v z) (sym~ k.second) (fact (v 1) (v t1 ⊗ v t2 ⊗ v d) (v w) (sym~ k.third) none))))
-      (v r) (v a ⊕ v t1 ⊗ v b ⊖ v t2 ⊗ (v c ⊕ v t1 ⊗ v d)) h (omega arith) (omega arith)
+      (v r) (v a ⊕ v t1 ⊗ v b ⊖ v t2 ⊗ (v c ⊕ v t1 ⊗ v d)) h.0 (omega arith) (omega arith)
 
   -- s + 256 is 0
   root : (s r : ℕ) → Cong 65537 (s + 256) 0 → r < 65537 → Cong 65537 (r + y + 256 * z) (a + 256 * w)
@@ -123,83 +118,45 @@ module _ {a b c d t1 t2 y z w i : ℕ} (k : Slacks a b c d t1 t2 y z w i) where
       (fact (v t2 ⊗ (v t1 ⊗ v d)) (v 0) (v s ⊞ v 256) (sym~ es) none))))))
       (v r) (v a ⊖ v t1 ⊗ v b ⊖ v t2 ⊗ v s ⊗ (v c ⊖ v t1 ⊗ v d)) h (omega arith) (omega arith)
 
-  is_mixed1 : {r : ℕ} → r < 65537 → Cong 65537 (r + y + i) (a + 1024) → r ≡ (mixing_four 65537 65281).out1 t1 t2 a b c d
-  is_mixed1 {r} h e = root 65281 r minus_root h (shifted_difference a i r y z w k.shift e)
+  pub is_mixed1 : {r : ℕ} → (r < 65537) × ((r + y + i) % 65537 ≡ (a + 1024) % 65537) → r ≡ (mixing_four 65537 65281).out1 t1 t2 a b c d
+  is_mixed1 {r} h = root 65281 r minus_root h.0 (shifted_difference a i r y z w k.shift (record { eq = h.1 }))
 
-  is_mixed3 : {r : ℕ} → r < 65537 → Cong 65537 (r + y + 1024) (a + i) → r ≡ (mixing_four 65537 65281).out3 t1 t2 a b c d
-  is_mixed3 {r} h e = unroot 65281 r minus_root h (shifted_sum a i r y z w k.shift e)
+  pub is_mixed3 : {r : ℕ} → (r < 65537) × ((r + y + 1024) % 65537 ≡ (a + i) % 65537) → r ≡ (mixing_four 65537 65281).out3 t1 t2 a b c d
+  is_mixed3 {r} h = unroot 65281 r minus_root h.0 (shifted_sum a i r y z w k.shift (record { eq = h.1 }))
 
 -- UNMIXING: sums of the words, and then the products; i is 256 (b - d) + 1024
 module _ (a b c d t1 t2 : ℕ) where
-  is_unmixed0 : (r : ℕ) → r < 65537 → Cong 65537 r (a + c + (b + d)) → r ≡ (unmixing_four 65537 256).out0 t1 t2 a b c d
-  is_unmixed0 r h e =
-      from 65537 (omega arith) (fact (v 1) (v r) (v a ⊞ v c ⊞ (v b ⊞ v d)) e none) (v r) (v a ⊕ v c ⊕ (v b ⊕ v d)) h (omega arith) (omega arith)
-
-  is_unmixed1 : (r : ℕ) → Cong 65537 (r + (b + d)) (a + c) → times 65537 t1 r ≡ (unmixing_four 65537 256).out1 t1 t2 a b c d
-  is_unmixed1 r e =
-      from 65537 (omega arith) (fact (v t1) (v r ⊞ (v b ⊞ v d)) (v a ⊞ v c) e none) (v t1 ⊗ v r) (v t1 ⊗ (v a ⊕ v c ⊖ (v b ⊕ v d))) (omega arith) (omega arith)
+  pub is_unmixed0 : {r : ℕ} → (r < 65537) × (r % 65537 ≡ (a + c + (b + d)) % 65537) → r ≡ (unmixing_four 65537 256).out0 t1 t2 a b c d
+  is_unmixed0 {r} h =
+      from 65537 (omega arith) (fact (v 1) (v r) (v a ⊞ v c ⊞ (v b ⊞ v d)) (record { eq = h.1 }) none) (v r) (v a ⊕ v c ⊕ (v b ⊕ v d)) h.0 (omega arith)
       (omega arith)
 
-  is_unmixed2 : (i r : ℕ) → Cong 65537 (i + 256 * d) (256 * b + 1024) → Cong 65537 (r + c + 1024) (a + i)
-      → times 65537 t2 r ≡ (unmixing_four 65537 256).out2 t1 t2 a b c d
-  is_unmixed2 i r k e =
-      from 65537 (omega arith) (fact (v t2) (v r ⊞ v c ⊞ v 256 ⊠ v d) (v a ⊞ v 256 ⊠ v b) (shifted_sum a i r c b d k e) none) (v t2 ⊗ v r)
-      (v t2 ⊗ (v a ⊖ v c) ⊕ v t2 ⊗ v 256 ⊗ (v b ⊖ v d)) (omega arith) (omega arith) (omega arith)
+  pub is_unmixed1 : {r s : ℕ} → (s < 65537) × ((s + (b + d)) % 65537 ≡ (a + c) % 65537) → r ≡ times 65537 t1 s
+      → r ≡ (unmixing_four 65537 256).out1 t1 t2 a b c d
+  is_unmixed1 {s = s} h m =
+      m ∙ from 65537 (omega arith) (fact (v t1) (v s ⊞ (v b ⊞ v d)) (v a ⊞ v c) (record { eq = h.1 }) none) (v t1 ⊗ v s)
+      (v t1 ⊗ (v a ⊕ v c ⊖ (v b ⊕ v d))) (omega arith) (omega arith)
+      (omega arith)
 
-  is_unmixed3 : (i t3 r : ℕ) → t3 ≡ times 65537 t1 t2 → Cong 65537 (i + 256 * d) (256 * b + 1024) → Cong 65537 (r + c + i) (a + 1024)
-      → times 65537 t3 r ≡ (unmixing_four 65537 256).out3 t1 t2 a b c d
-  is_unmixed3 i t3 r e3 k e =
-      ap (λ (t : ℕ). times 65537 t r) e3
-      ∙ from 65537 (omega arith) (fact (v t1 ⊗ v t2) (v r ⊞ v c ⊞ v 256 ⊠ v b) (v a ⊞ v 256 ⊠ v d) (shifted_difference a i r c b d k e) none)
-      (v t1 ⊗ v t2 ⊗ v r)
-      (v t1 ⊗ (v t2 ⊗ (v a ⊖ v c) ⊖ v t2 ⊗ v 256 ⊗ (v b ⊖ v d))) (omega arith) (omega arith) (omega arith)
+  module _ (i : ℕ) (k : (i + 256 * d) % 65537 ≡ (256 * b + 1024) % 65537) where
+    shift : Cong 65537 (i + 256 * d) (256 * b + 1024)
+    shift = record { eq = k }
 
--- the words r0 to r3 are what is to be stored at x, x + far, x + far + far and x + far + far + far
-pub record Crossed (q : Quad) (t1 t2 : ℕ) (part : List ℕ) (x far r0 r1 r2 r3 : ℕ) : Type 0 where
-  pub is0 : r0 ≡ q.out0 t1 t2 (get_or part x 0) (get_or part (x + far) 0) (get_or part (x + far + far) 0) (get_or part (x + far + far + far) 0)
-  pub is1 : r1 ≡ q.out1 t1 t2 (get_or part x 0) (get_or part (x + far) 0) (get_or part (x + far + far) 0) (get_or part (x + far + far + far) 0)
-  pub is2 : r2 ≡ q.out2 t1 t2 (get_or part x 0) (get_or part (x + far) 0) (get_or part (x + far + far) 0) (get_or part (x + far + far + far) 0)
-  pub is3 : r3 ≡ q.out3 t1 t2 (get_or part x 0) (get_or part (x + far) 0) (get_or part (x + far + far) 0) (get_or part (x + far + far + far) 0)
+    pub is_unmixed2 : {r s : ℕ} → (s < 65537) × ((s + c + 1024) % 65537 ≡ (a + i) % 65537) → r ≡ times 65537 t2 s
+        → r ≡ (unmixing_four 65537 256).out2 t1 t2 a b c d
+    is_unmixed2 {s = s} h m =
+        let e : Cong 65537 (s + c + 1024) (a + i) = record { eq = h.1 } in
+        m ∙ from 65537 (omega arith) (fact (v t2) (v s ⊞ v c ⊞ v 256 ⊠ v d) (v a ⊞ v 256 ⊠ v b) (shifted_sum a i s c b d shift e) none) (v t2 ⊗ v s)
+        (v t2 ⊗ (v a ⊖ v c) ⊕ v t2 ⊗ v 256 ⊗ (v b ⊖ v d)) (omega arith) (omega arith) (omega arith)
 
-crossed_is : {q : Quad} {t1 t2 : ℕ} {part : List ℕ} {x far r0 r1 r2 r3 : ℕ} → Crossed q t1 t2 part x far r0 r1 r2 r3
-    → set_four far x r0 r1 r2 r3 part ≡ quad_at q t1 t2 far x part
-unfolding quad_at
-crossed_is k = rw (k.is0, k.is1, k.is2, k.is3) refl
-
--- by what the sums and differences of crate::four give
-module _ {part : List ℕ} {x far t1 t2 : ℕ} where
-  pub mixed_four : {y z w i r0 r1 r2 r3 : ℕ}
-      → Slacks (get_or part x 0) (get_or part (x + far) 0) (get_or part (x + far + far) 0) (get_or part (x + far + far + far) 0) t1 t2 y z w i
-      → (r0 < 65537) × (r0 % 65537 ≡ (get_or part x 0 + y + (z + w)) % 65537)
-      → (r1 < 65537) × ((r1 + y + i) % 65537 ≡ (get_or part x 0 + 1024) % 65537)
-      → (r2 < 65537) × ((r2 + (z + w)) % 65537 ≡ (get_or part x 0 + y) % 65537)
-      → (r3 < 65537) × ((r3 + y + 1024) % 65537 ≡ (get_or part x 0 + i) % 65537)
-      → Crossed (mixing_four 65537 65281) t1 t2 part x far r0 r1 r2 r3
-  mixed_four k h0 h1 h2 h3 = record {
-    is0 = is_mixed0 k h0.0 (record { eq = h0.1 });
-    is1 = is_mixed1 k h1.0 (record { eq = h1.1 });
-    is2 = is_mixed2 k h2.0 (record { eq = h2.1 });
-    is3 = is_mixed3 k h3.0 (record { eq = h3.1 });
-  }
-
-  pub unmixed_four : {i t3 s0 s1 s2 s3 r1 r2 r3 : ℕ} → t3 ≡ times 65537 t1 t2
-      → (i ≤ 66304) × ((i + 256 * get_or part (x + far + far + far) 0) % 65537 ≡ (256 * get_or part (x + far) 0 + 1024) % 65537)
-      → (s0 < 65537)
-      × (s0 % 65537 ≡ (get_or part x 0 + get_or part (x + far + far) 0 + (get_or part (x + far) 0 + get_or part (x + far + far + far) 0)) % 65537)
-      → (s1 < 65537)
-      × ((s1 + (get_or part (x + far) 0 + get_or part (x + far + far + far) 0)) % 65537 ≡ (get_or part x 0 + get_or part (x + far + far) 0) % 65537)
-      → (s2 < 65537) × ((s2 + get_or part (x + far + far) 0 + 1024) % 65537 ≡ (get_or part x 0 + i) % 65537)
-      → (s3 < 65537) × ((s3 + get_or part (x + far + far) 0 + i) % 65537 ≡ (get_or part x 0 + 1024) % 65537)
-      → r1 ≡ times 65537 t1 s1 → r2 ≡ times 65537 t2 s2 → r3 ≡ times 65537 t3 s3
-      → Crossed (unmixing_four 65537 256) t1 t2 part x far s0 r1 r2 r3
-  unmixed_four {i} {t3} {s0} {s1} {s2} {s3} e3 k h0 h1 h2 h3 m1 m2 m3 =
-      let shift : Cong 65537 (i + 256 * get_or part (x + far + far + far) 0) (256 * get_or part (x + far) 0 + 1024) = record { eq = k.1 } in
-      record {
-        is0 = is_unmixed0 _ _ _ _ t1 t2 s0 h0.0 (record { eq = h0.1 });
-        is1 = m1 ∙ is_unmixed1 _ _ _ _ t1 t2 s1 (record { eq = h1.1 });
-        is2 = m2 ∙ is_unmixed2 _ _ _ _ t1 t2 i s2 shift (record { eq = h2.1 });
-        is3 = m3 ∙ is_unmixed3 _ _ _ _ t1 t2 i t3 s3 e3 shift (record { eq = h3.1 });
-      }
+    pub is_unmixed3 : {r s t3 : ℕ} → (s < 65537) × ((s + c + i) % 65537 ≡ (a + 1024) % 65537) → r ≡ times 65537 t3 s → t3 ≡ times 65537 t1 t2
+        → r ≡ (unmixing_four 65537 256).out3 t1 t2 a b c d
+    is_unmixed3 {s = s} h m e3 =
+        let e : Cong 65537 (s + c + i) (a + 1024) = record { eq = h.1 } in
+        m ∙ ap (λ (t : ℕ). times 65537 t s) e3
+        ∙ from 65537 (omega arith) (fact (v t1 ⊗ v t2) (v s ⊞ v c ⊞ v 256 ⊠ v b) (v a ⊞ v 256 ⊠ v d) (shifted_difference a i s c b d shift e) none)
+        (v t1 ⊗ v t2 ⊗ v s)
+        (v t1 ⊗ (v t2 ⊗ (v a ⊖ v c) ⊖ v t2 ⊗ v 256 ⊗ (v b ⊖ v d))) (omega arith) (omega arith) (omega arith)
 
 -- one crossing more, and a row
 module _ {q : Quad} (s : StoresFour 65537 q) (t1 t2 far : ℕ) where
@@ -224,6 +181,10 @@ unfolding quad_row
 length_row q t1 t2 far zero at l = refl
 length_row q t1 t2 far (suc n) at l = length_at q t1 t2 far (at + n) _ ∙ length_row q t1 t2 far n at l
 
+-- one of four words that are stored at x, x + far, ..
+abbrev four : ((t1 t2 a b c d : ℕ) → ℕ) → (t1 t2 : ℕ) → (part : List ℕ) → (x far : ℕ) → ℕ
+four out t1 t2 part x far = out t1 t2 (get_or part x 0) (get_or part (x + far) 0) (get_or part (x + far + far) 0) (get_or part (x + far + far + far) 0)
+
 -- THE LOOP OVER FOUR ROWS: their first j words are crossed
 pub record FourLoop (q : Quad) (part₀ : List ℕ) (at far width t1 t2 : ℕ) (part : List ℕ) (j : ℕ) : Type 0 where
   pub turns : j ≤ width
@@ -237,17 +198,14 @@ module _ {q : Quad} {part₀ : List ℕ} {at far width t1 t2 : ℕ} where
   four_start w = record { turns = omega arith; same = refl; words = w; now = refl }
 
   pub four_turn : {part : List ℕ} {j r0 r1 r2 r3 : ℕ} → StoresFour 65537 q → FourLoop q part₀ at far width t1 t2 part j → j < width
-      → Crossed q t1 t2 part (at + j) far r0 r1 r2 r3 → FourLoop q part₀ at far width t1 t2 (set_four far (at + j) r0 r1 r2 r3 part) (j + 1)
-  unfolding quad_row
-  four_turn {part} {j} {r0} {r1} {r2} {r3} s h lt k =
-      rw (crossed_is k) (record {
+      → r0 ≡ four q.out0 t1 t2 part (at + j) far → r1 ≡ four q.out1 t1 t2 part (at + j) far → r2 ≡ four q.out2 t1 t2 part (at + j) far
+      → r3 ≡ four q.out3 t1 t2 part (at + j) far → FourLoop q part₀ at far width t1 t2 (set_four far (at + j) r0 r1 r2 r3 part) (j + 1)
+  unfolding quad_row quad_at
+  four_turn {part} {j} {r0} {r1} {r2} {r3} s h lt e0 e1 e2 e3 =
+      let e : set_four far (at + j) r0 r1 r2 r3 part ≡ quad_at q t1 t2 far (at + j) part = rw (e0, e1, e2, e3) refl in
+      rw e (record {
         turns = omega arith;
         same = length_at q t1 t2 far (at + j) part ∙ h.same;
         words = words_at s t1 t2 far (at + j) h.words;
         now = rw add-one (ap (quad_at q t1 t2 far (at + j)) h.now);
       })
-
--- a word of a loop's part, as the sums and differences ask for it
-module _ {q : Quad} {part₀ : List ℕ} {at far width t1 t2 : ℕ} {part : List ℕ} {j : ℕ} (h : FourLoop q part₀ at far width t1 t2 part j) where
-  pub four_word : (x : ℕ) → get_or part x 0 < 65537
-  four_word x = h.words.word x

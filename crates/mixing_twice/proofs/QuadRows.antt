@@ -235,43 +235,37 @@ module _ (q : Quad) (v m width : ℕ) (d : List ℕ → List ℕ) (t : CrossesFo
           subst (Same j) s (quad_at3 (i - (m + m + m)) j (omega arith) b)
 
 -- THE LOOP OVER ROWS: the first i rows of each of the four parts are crossed, under powers of entry `step` of a table
-pub record QuadsLoop (q : Quad) (part₀ : List ℕ) (m width : ℕ) (powers : List ℕ) (step : ℕ) (part : List ℕ) (e i at : ℕ) : Type 0 where
+pub record QuadsLoop (q : Quad) (part₀ : List ℕ) (m width : ℕ) (powers : List ℕ) (step : ℕ) (part : List ℕ) (i : ℕ) : Type 0 where
   pub turns : i ≤ m
   pub same : length part ≡ length part₀
   pub long : length part₀ ≡ m * width + m * width + (m * width + m * width)
   pub words : Words 65537 part
-  pub e_is : e ≡ i * step
-  pub at_is : at ≡ i * width
   pub now : part ≡ quads_to q (get_or powers step 0) width (m * width) (i * width) part₀
 
 module _ {q : Quad} {part₀ : List ℕ} {m width : ℕ} {powers : List ℕ} {step : ℕ} where
-  pub quads_start : length part₀ ≡ (m + m + (m + m)) * width → Words 65537 part₀ → QuadsLoop q part₀ m width powers step part₀ 0 0 0
+  pub quads_start : length part₀ ≡ (m + m + (m + m)) * width → Words 65537 part₀ → QuadsLoop q part₀ m width powers step part₀ 0
   unfolding quads_to
   quads_start e w = record {
     turns = omega arith;
     same = refl;
     long = e ∙ omega arith;
     words = w;
-    e_is = sym (zero-mul step);
-    at_is = sym (zero-mul width);
     now = rw zero-mul refl;
   }
 
-  module _ {part : List ℕ} {e i at : ℕ} (h : QuadsLoop q part₀ m width powers step part e i at) where
+  module _ {part : List ℕ} {i : ℕ} (h : QuadsLoop q part₀ m width powers step part i) where
     pub quads_turn : {part' : List ℕ} {s : ℕ} → StoresFour 65537 q → QuadFactors 65537 s m step powers → i < m
-        → part' ≡ quad_row q (get_or powers (2 * e % 2048) 0) (get_or powers (e % 2048) 0) (m * width) width at part
-        → QuadsLoop q part₀ m width powers step part' (e + step) (i + 1) (at + width)
+        → part' ≡ quad_row q (get_or powers (2 * (i * step) % 2048) 0) (get_or powers (i * step % 2048) 0) (m * width) width (i * width) part
+        → QuadsLoop q part₀ m width powers step part' (i + 1)
     quads_turn {part'} s f lt ep =
         let v = get_or powers step 0 in
         let n : (i + 1) * width ≡ i * width + width = omega arith in
         record {
           turns = omega arith;
-          same = ap length ep ∙ length_row q _ _ (m * width) width at part ∙ h.same;
+          same = ap length ep ∙ length_row q _ _ (m * width) width (i * width) part ∙ h.same;
           long = h.long;
-          words = rw ep (words_row s _ _ (m * width) width at h.words);
-          e_is = omega (arith, h.e_is);
-          at_is = omega (arith, h.at_is);
-          now = ep ∙ rw (h.e_is, f.first i, f.second i, h.at_is, h.now, n) (row_quads q v width (m * width) i width part₀ (omega arith));
+          words = rw ep (words_row s _ _ (m * width) width (i * width) h.words);
+          now = ep ∙ rw (f.first i, f.second i, h.now, n) (row_quads q v width (m * width) i width part₀ (omega arith));
         }
 
     pub quads_end : {d : List ℕ → List ℕ} → CrossesFour q (get_or powers step 0) m d → m ≤ i

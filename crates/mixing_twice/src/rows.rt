@@ -1,198 +1,114 @@
 // Two levels of mixing, and of unmixing, in one pass over four rows.
 ghost use Rattle.std.specs.Prelude.{◌≡◌, ◌+◌, ◌*◌, ◌-◌, ◌%◌, ◌≤◌, ◌<◌, length, get_or};
-ghost use Rattle.field.specs.Residue.{times};
 ghost use Rattle.field.specs.Field.{fermat};
 ghost use Rattle.field.specs.Words.{Words};
 ghost use Rattle.code.specs.Rows.{lifted};
 ghost use Rattle.code.specs.steps.Mixing.{each_block};
-ghost use Rattle.mixing_twice.specs.steps.Quads.{mixing_four, unmixing_four, quad_row, EntryFactors, QuadFactors, four_of, turn_of, twice};
+ghost use Rattle.mixing_twice.specs.steps.Quads.{quad_row, EntryFactors, QuadFactors, four_of, turn_of, twice};
 
-// Mixes `width` words of four rows, `far` apart: rows 0 and 1, 2 and 3 under t1; then 0 and 2 under t2, 1 and 3 under t2 times a square root of -1. t3 is t1
-// times t2.
-fn quad_row(part: &mut [u32], at: usize, far: usize, width: usize, t1: u32, t2: u32, t3: u32)
+use crate::direction::{ThreeFactors, TwoLevels, UnreducedFactor};
+use mixing::direction::{One, Power};
+
+// Crosses `width` words of four rows, `far` apart, under the factors t.
+fn cross_rows<D: TwoLevels, F: UnreducedFactor>(
+    part: &mut [u32],
+    at: usize,
+    far: usize,
+    width: usize,
+    t: &ThreeFactors<F>,
+)
     requires width_in_bounds { at + far + far + far + width ≤ length part.old }
-    requires t1_bound { (t1 < fermat.modulus - 1) × (t2 < fermat.modulus - 1) × (t3 < fermat.modulus - 1) }
-    requires t3_value { t3 ≡ times fermat.modulus t1 t2 }
     requires words { Words fermat.modulus part.old }
-    ensures { part.new ≡ quad_row (mixing_four fermat.modulus 65281) t1 t2 far width at part.old }
+    ensures { part.new ≡ quad_row (four_of D.unmixing) (F.value t.now.t1) (F.value t.now.t2) far width at part.old }
 {
-    let mut j = 0;
-    while j < width {
+    for j in 0..width {
         let x0 = at + j;
         let x1 = x0 + far;
         let x2 = x1 + far;
         let x3 = x2 + far;
-        let a = part[x0];
-        let y = crate::four_65537::unreduced_mul(t1, part[x1]);
-        let z = crate::four_65537::unreduced_mul(t2, part[x2]);
-        let w = crate::four_65537::unreduced_mul(t3, part[x3]);
-        let turned = crate::four_65537::shifted(z, w);
-        part[x0] = crate::four_65537::sum(a, y, z, w);
-        part[x1] = crate::four_65537::turned_difference(a, y, turned);
-        part[x2] = crate::four_65537::difference(a, y, z, w);
-        part[x3] = crate::four_65537::turned_sum(a, y, turned);
-        j += 1;
+        let (a, b, c, d) = D::cross_four(t, part[x0], part[x1], part[x2], part[x3]);
+        part[x0] = a;
+        part[x1] = b;
+        part[x2] = c;
+        part[x3] = d;
     }
 }
 
-// The same where all factors are 1: no product.
-fn quad_first_row(part: &mut [u32], at: usize, far: usize, width: usize)
-    requires width_in_bounds { at + far + far + far + width ≤ length part.old }
-    requires words { Words fermat.modulus part.old }
-    ensures { part.new ≡ quad_row (mixing_four fermat.modulus 65281) 1 1 far width at part.old }
-{
-    let mut j = 0;
-    while j < width {
-        let x0 = at + j;
-        let x1 = x0 + far;
-        let x2 = x1 + far;
-        let x3 = x2 + far;
-        let a = part[x0];
-        let y = part[x1];
-        let z = part[x2];
-        let w = part[x3];
-        let turned = crate::four_65537::shifted(z, w);
-        part[x0] = crate::four_65537::sum(a, y, z, w);
-        part[x1] = crate::four_65537::turned_difference(a, y, turned);
-        part[x2] = crate::four_65537::difference(a, y, z, w);
-        part[x3] = crate::four_65537::turned_sum(a, y, turned);
-        j += 1;
-    }
-}
-
-// Unmixes `width` words of four rows, `far` apart: rows 0 and 2 under t2, 1 and 3 under t2 times a square root of -1; then 0 and 1, 2 and 3 under t1. t3 is t1
-// times t2.
-fn unquad_row(part: &mut [u32], at: usize, far: usize, width: usize, t1: u32, t2: u32, t3: u32)
-    requires width_in_bounds { at + far + far + far + width ≤ length part.old }
-    requires t1_bound { (t1 < fermat.modulus - 1) × (t2 < fermat.modulus - 1) × (t3 < fermat.modulus - 1) }
-    requires t3_value { t3 ≡ times fermat.modulus t1 t2 }
-    requires words { Words fermat.modulus part.old }
-    ensures { part.new ≡ quad_row (unmixing_four fermat.modulus 256) t1 t2 far width at part.old }
-{
-    let mut j = 0;
-    while j < width {
-        let x0 = at + j;
-        let x1 = x0 + far;
-        let x2 = x1 + far;
-        let x3 = x2 + far;
-        let a = part[x0];
-        let b = part[x1];
-        let c = part[x2];
-        let d = part[x3];
-        let turned = crate::four_65537::shifted(b, d);
-        part[x0] = crate::four_65537::sum(a, c, b, d);
-        part[x1] = field::short_65537::mul(t1, crate::four_65537::difference(a, c, b, d));
-        part[x2] = field::short_65537::mul(t2, crate::four_65537::turned_sum(a, c, turned));
-        part[x3] = field::short_65537::mul(t3, crate::four_65537::turned_difference(a, c, turned));
-        j += 1;
-    }
-}
-
-// The same where all factors are 1: no product.
-fn unquad_first_row(part: &mut [u32], at: usize, far: usize, width: usize)
-    requires width_in_bounds { at + far + far + far + width ≤ length part.old }
-    requires words { Words fermat.modulus part.old }
-    ensures { part.new ≡ quad_row (unmixing_four fermat.modulus 256) 1 1 far width at part.old }
-{
-    let mut j = 0;
-    while j < width {
-        let x0 = at + j;
-        let x1 = x0 + far;
-        let x2 = x1 + far;
-        let x3 = x2 + far;
-        let a = part[x0];
-        let b = part[x1];
-        let c = part[x2];
-        let d = part[x3];
-        let turned = crate::four_65537::shifted(b, d);
-        part[x0] = crate::four_65537::sum(a, c, b, d);
-        part[x1] = crate::four_65537::difference(a, c, b, d);
-        part[x2] = crate::four_65537::turned_sum(a, c, turned);
-        part[x3] = crate::four_65537::turned_difference(a, c, turned);
-        j += 1;
-    }
-}
-
-// Crosses four rows under entries of the powers, mixing or `unmixing` them; no product where these are entry 0.
-fn cross_by(
+// Crosses four rows under entries of the powers; no product where these are entry 0.
+fn cross_by<D: TwoLevels>(
     part: &mut [u32],
     at: usize,
     far: usize,
     width: usize,
     powers: &[u32],
     e: usize,
-    unmixing: bool,
 )
     requires width_in_bounds { at + far + far + far + width ≤ length part.old }
     requires entry_factors { EntryFactors fermat.modulus e powers.now }
     requires words { Words fermat.modulus part.old }
     ensures { part.new ≡
-        quad_row (four_of unmixing) (get_or powers.now (2 * e % 2048) 0) (get_or powers.now (e % 2048) 0) far width at
-        part.old }
+        quad_row (four_of D.unmixing) (get_or powers.now (2 * e % 2048) 0) (get_or powers.now (e % 2048) 0) far width at part.old }
 {
-    let t1 = powers[2 * e % 2048];
-    let t2 = powers[e % 2048];
-    let t3 = powers[3 * e % 2048];
-    if unmixing {
-        if e == 0 {
-            unquad_first_row(part, at, far, width);
-        } else {
-            unquad_row(part, at, far, width, t1, t2, t3);
-        }
+    if e == 0 {
+        cross_rows::<D, One>(
+            part,
+            at,
+            far,
+            width,
+            &ThreeFactors {
+                t1: One,
+                t2: One,
+                t3: One,
+            },
+        );
     } else {
-        if e == 0 {
-            quad_first_row(part, at, far, width);
-        } else {
-            quad_row(part, at, far, width, t1, t2, t3);
-        }
+        let t1 = Power {
+            g: powers[2 * e % 2048],
+        };
+        let t2 = Power {
+            g: powers[e % 2048],
+        };
+        let t3 = Power {
+            g: powers[3 * e % 2048],
+        };
+        cross_rows::<D, Power>(part, at, far, width, &ThreeFactors { t1, t2, t3 });
     }
 }
 
-// Mixes 4m rows, or unmixes them, two levels at once. Row i's factors are powers of v, entry `step` of the powers: entries 2i, i and 3i steps on, around the
-// table.
-fn cross(part: &mut [u32], m: usize, width: usize, powers: &[u32], step: usize, unmixing: bool)
+// Crosses 4m rows, two levels at once. Row i's factors are powers of v, entry `step` of the powers: entries 2i, i and 3i steps on, around the table.
+fn cross<D: TwoLevels>(part: &mut [u32], m: usize, width: usize, powers: &[u32], step: usize)
     requires part_len { length part.old ≡ (m + m + (m + m)) * width }
-    requires quad_factors { QuadFactors fermat.modulus (turn_of unmixing) m step powers.now }
+    requires quad_factors { QuadFactors fermat.modulus (turn_of D.unmixing) m step powers.now }
     requires words { Words fermat.modulus part.old }
     ensures { part.new ≡
-        lifted width (m + m + (m + m)) (m + m + (m + m)) (twice unmixing fermat.modulus (get_or powers.now step 0) m) part.old }
+        lifted width (m + m + (m + m)) (m + m + (m + m)) (twice D.unmixing fermat.modulus (get_or powers.now step 0) m) part.old }
 {
-    let far = m * width;
-    let mut e = 0;
-    let mut i = 0;
-    let mut at = 0;
-    while i < m {
-        cross_by(part, at, far, width, powers, e, unmixing);
-        e += step;
-        at += width;
-        i += 1;
+    for i in 0..m {
+        cross_by::<D>(part, i * width, m * width, width, powers, i * step);
     }
 }
 
-// Mixes each of `blocks` blocks of 4m rows, or unmixes them, two levels at once.
-pub fn cross_each(
+// Crosses each of `blocks` blocks of 4m rows, two levels at once.
+pub fn cross_each<D: TwoLevels>(
     half: &mut [u32],
     blocks: usize,
     m: usize,
     width: usize,
     powers: &[u32],
     step: usize,
-    unmixing: bool,
 )
     requires half_len { length half.old ≡ blocks * ((m + m + (m + m)) * width) }
     requires width_bound { (m + m + (m + m)) * width < 9223372036854775808 }
     requires m_bound { m < 4294967296 }
-    requires quad_factors { QuadFactors fermat.modulus (turn_of unmixing) m step powers.now }
+    requires quad_factors { QuadFactors fermat.modulus (turn_of D.unmixing) m step powers.now }
     requires words { Words fermat.modulus half.old }
     ensures { half.new ≡
         each_block blocks ((m + m + (m + m)) * width)
-        (lifted width (m + m + (m + m)) (m + m + (m + m)) (twice unmixing fermat.modulus (get_or powers.now step 0) m)) half.old }
+        (lifted width (m + m + (m + m)) (m + m + (m + m)) (twice D.unmixing fermat.modulus (get_or powers.now step 0) m)) half.old }
 {
     let size = (m + m + (m + m)) * width;
-    let mut at = 0;
     for b in 0..blocks {
-        let to = at + size;
-        cross(&mut half[at..to], m, width, powers, step, unmixing);
-        at = to;
+        let at = b * size;
+        cross::<D>(&mut half[at..at + size], m, width, powers, step);
     }
 }

@@ -19,14 +19,12 @@ use Rattle.code.proofs.Blocks.{Level, level_at_lem, pow_down, words_each, each_r
 use Rattle.code.proofs.Blocks.{rows_id, rows_one, both, rows_then, rows_double, mixing_block}
 
 -- what holds after l levels: each block of 2 ^ l rows is transformed
-pub record MixLoop (half₀ : List ℕ) (level width : ℕ) (half : List ℕ) (blocks m l : ℕ) : Type 0 where
+pub record MixLoop (half₀ : List ℕ) (level width : ℕ) (half : List ℕ) (l : ℕ) : Type 0 where
   pub turns : l ≤ level
   pub few : level ≤ 11
   pub long : length half₀ ≡ 2 ^ level * width
   pub same : length half ≡ length half₀
   pub words : Words 65537 half
-  pub blocks_is : blocks ≡ 2 ^ (level - l)
-  pub m_is : m ≡ 2 ^ l
   pub now : half ≡ each_rows width (2 ^ (level - l)) (2 ^ l) (transform 65537 (root_of fermat level) level l) half₀
 
 -- both halves of a column transformed, and mixed
@@ -54,55 +52,44 @@ mix_level width root k l b rows h =
     ∙ rows_then width b (m + m) (both t m) f (transform 65537 root k (suc l)) rows h (λ c e. (mixed_both root k l c e).0) (λ c e. (mixed_both root k l c e).1)
     ∙ ap (λ (n : ℕ). each_rows width b n (transform 65537 root k (suc l)) rows) {x = m + m} {y = 2 ^ suc l} (omega arith)
 
-pub mix_start : {half₀ : List ℕ} {level width blocks : ℕ} → level ≤ 11 → length half₀ ≡ 2 ^ level * width → Words 65537 half₀
-    → blocks ≡ 2 ^ level → MixLoop half₀ level width half₀ blocks 1 0
+pub mix_start : {half₀ : List ℕ} {level width : ℕ} → level ≤ 11 → length half₀ ≡ 2 ^ level * width → Words 65537 half₀ → MixLoop half₀ level width half₀ 0
 unfolding transform
-mix_start {half₀} {level} {width} b e w eb = record {
+mix_start {half₀} {level} {width} b e w = record {
   turns = omega arith;
   few = b;
   long = e;
   same = refl;
   words = w;
-  blocks_is = rw (sub-zero level) eb;
-  m_is = refl;
   now = rw (sub-zero level) (sym (rows_id width (2 ^ level) half₀ e));
 }
 
-module _ {half₀ : List ℕ} {level width : ℕ} {half : List ℕ} {blocks m l : ℕ} where
-  -- the level that a turn mixes
-  pub level_in : MixLoop half₀ level width half blocks m l → l < level → Level width level l (length half) (blocks / 2) m
-  level_in h lt = level_at_lem lt (omega arith) (h.same ∙ h.long) (omega (arith, pow_down lt)) h.m_is
+-- the level that a turn mixes or unmixes
+pub level_here : {level width len blocks m l : ℕ} → l < level → level ≤ 11 → len ≡ 2 ^ level * width → blocks ≡ 2 ^ (level - l - 1) → m ≡ 2 ^ l
+    → Level width level l len blocks m
+level_here {level} {l = l} lt few e eb em =
+    level_at_lem lt (omega arith) e (eb ∙ ap (λ (n : ℕ). 2 ^ n) {x = level - l - 1} {y = level - suc l} (omega arith)) em
 
-  pub mix_turn : {half' : List ℕ} {v : ℕ} → MixLoop half₀ level width half blocks m l → l < level → length half' ≡ length half
+module _ {half₀ : List ℕ} {level width : ℕ} {half : List ℕ} {l : ℕ} (h : MixLoop half₀ level width half l) where
+  pub mix_turn : {half' : List ℕ} {blocks m v : ℕ} → l < level → Level width level l (length half) blocks m → length half' ≡ length half
       → v ≡ power 65537 (root_of fermat level) (2 ^ level / 2 ^ l)
-      → half' ≡ each_rows width (blocks / 2) (m + m) (mixed_halves 65537 v m) half
-      → MixLoop half₀ level width half' (blocks / 2) (m * 2) (l + 1)
-  mix_turn {half'} {v} h lt el u eh =
-      let s : Level width level l (length half) (blocks / 2) m = level_in h lt in
+      → half' ≡ each_rows width blocks (m + m) (mixed_halves 65537 v m) half
+      → MixLoop half₀ level width half' (l + 1)
+  mix_turn {half'} {blocks} {m} {v} lt s el u eh =
       let r : length half ≡ 2 ^ (level - suc l) * ((2 ^ l + 2 ^ l) * width) = rw (s.blocks_is, s.m_is) at s.rows in
       rw add-one (record {
         turns = omega arith;
         few = h.few;
         long = h.long;
         same = el ∙ h.same;
-        words = rw eh (words_each 65537 (blocks / 2) _ _ (omega arith) (mixing_block width m v).words h.words);
-        blocks_is = s.blocks_is;
-        m_is = omega arith;
+        words = rw eh (words_each 65537 blocks _ _ (omega arith) (mixing_block width m v).words h.words);
         now = eh ∙ rw (s.blocks_is, s.m_is, u, h.now, pow_down lt) (mix_level width (root_of fermat level) level l (2 ^ (level - suc l)) half₀ (omega arith));
       })
 
-  pub mix_done : MixLoop half₀ level width half blocks m l → level ≤ l
-      → half ≡ lifted width (2 ^ level) (2 ^ level) (transform 65537 (root_of fermat level) level level) half₀
-  mix_done h le =
+  pub mix_done : level ≤ l → half ≡ lifted width (2 ^ level) (2 ^ level) (transform 65537 (root_of fermat level) level level) half₀
+  mix_done le =
       let d : l ≡ level = omega arith in
       let z : level - level ≡ 0 = omega arith in
       (rw (d, z) at h.now) ∙ rows_one width (2 ^ level) (transform 65537 (root_of fermat level) level level) half₀ h.long
-
--- the table's step of a level
-pub step_down : {step l : ℕ} → (l ≤ 10 → step ≡ 2 ^ (10 - l)) → l + 1 ≤ 10 → step / 2 ≡ 2 ^ (10 - (l + 1))
-step_down {step} {l} e b =
-    let s : l + 1 ≡ suc l = add-one l in
-    rw s (omega (arith, e (omega arith), pow_down {n = 10} {l = l} (omega arith)))
 
 -- rows of at most three words are few enough for the flat loops
 pub small_few : {level width : ℕ} → level ≤ 10 → width < 4 → 2 ^ level * width ≤ 3072

@@ -13,6 +13,7 @@ use lib.Seq.{length-take-le}
 use Rattle.field.specs.Residue.{times}
 use Rattle.field.specs.Power.{power, power_from, inverse}
 use Rattle.field.specs.Field.{Root, fermat, root_of, power_table}
+use Rattle.field.specs.Words.{Words}
 use Rattle.field.proofs.Powers.{power_lt, power_zero, power_add}
 use Rattle.field.proofs.Unity.{root_distinct, root_back, two_div}
 use Rattle.field.proofs.Primes.{fermat_prime, fermat_root}
@@ -22,12 +23,12 @@ use Rattle.code.specs.Transform.{mixed_halves, unmixed, untransform}
 use Rattle.code.proofs.Shapes.{length_two, length_unmixed}
 use Rattle.code.proofs.Lifting.{row_in}
 use Rattle.code.specs.steps.Mixing.{sum_row, each_block}
-use Rattle.code.proofs.Blocks.{OnBlock, each_rows, both, rows_double, rows_then, mixing_block, unmixing_block, pow_down}
+use Rattle.code.proofs.Blocks.{OnBlock, Level, each_rows, both, rows_double, rows_then, mixing_block, unmixing_block, pow_down}
 use Rattle.mixing_twice.specs.steps.Quads.{EntryFactors, QuadFactors, mixed_twice, unmixed_twice}
 use Rattle.mixing_twice.proofs.TwoLevels.{length_mixed_halves}
-use Rattle.transform.proofs.MixLevels.{MixLoop, level_in, mix_turn}
-use Rattle.transform.proofs.UnmixLevels.{UnmixLoop, left_in, unmix_turn, unmix_done}
-use Rattle.mixing.proofs.SumRows.{unmixing_sums, sums_level}
+use Rattle.transform.proofs.MixLevels.{MixLoop, level_here, mix_start, mix_turn}
+use Rattle.transform.proofs.UnmixLevels.{UnmixLoop, unmix_turn, unmix_done}
+use Rattle.mixing.proofs.SumRows.{mixing_sums, unmixing_sums, sums_level}
 
 -- an odd number is not twice another
 not_twice : (x y : ℕ) → 1 + 2 * x ≡ 0 + 2 * y → ⊥
@@ -174,52 +175,56 @@ squared w k l h =
     sym (power_add 65537 (omega arith) w a a)
     ∙ ap (power 65537 w) {x = a + a} {y = 2 ^ k / 2 ^ l} (omega (arith, two_div k (suc l) h, two_div k l (omega arith), pow_down {n = k} {l = l} h))
 
--- two turns of the loop over levels
-pub quad_turn : {half₀ : List ℕ} {level width : ℕ} {half half' : List ℕ} {blocks m l x : ℕ} → MixLoop half₀ level width half blocks m l → l + 2 ≤ level
-    → length half' ≡ length half → x ≡ power 65537 (root_of fermat level) (2 ^ level / 2 ^ suc l)
-    → half' ≡ each_rows width (blocks / 4) (m + m + (m + m)) (mixed_twice 65537 x m) half
-    → MixLoop half₀ level width half' (blocks / 4) (m * 4) (l + 2)
-quad_turn {half₀} {level} {width} {half} {half'} {blocks} {m} {l} {x} h b el ex eh =
-    let d1 : 2 ^ (level - l) ≡ 2 ^ (level - suc l) * 2 = pow_down {n = level} {l = l} (omega arith) in
-    let d2 : 2 ^ (level - suc l) ≡ 2 ^ (level - suc (suc l)) * 2 = pow_down {n = level} {l = suc l} (omega arith) in
-    let q1 : blocks / 4 * 2 ≡ blocks / 2 = omega (arith, h.blocks_is, d1, d2) in
-    let q2 : blocks / 2 / 2 ≡ blocks / 4 = omega (arith, h.blocks_is, d1, d2) in
-    let mm : m * 2 ≡ m + m = omega arith in
-    let lv = level_in h (omega arith) in
-    let room : blocks / 4 * ((m + m + (m + m)) * width) ≤ length half = omega (arith, lv.rows, ap (λ (n : ℕ). n * ((m + m) * width)) q1) in
-    let mid = each_rows width (blocks / 2) (m + m) (mixed_halves 65537 (times 65537 x x) m) half in
-    let same : length mid ≡ length half = length_each (mixing_block width m (times 65537 x x)) (blocks / 2) half (omega (arith, lv.rows)) in
-    let one : MixLoop half₀ level width mid (blocks / 2) (m * 2) (l + 1) = mix_turn h (omega arith) same
-    (rw ex (squared (root_of fermat level) level l (omega arith))) refl in
-    let two = mix_turn {half' = half'} one (omega arith) (el ∙ sym same) (ex ∙ ap (λ (n : ℕ). power 65537 (root_of fermat level) (2 ^ level / 2 ^ n))
-    (sym (add-one l)))
-    (eh ∙ mixed_levels width (blocks / 4) m x half room ∙ rw (q1, q2, mm) refl) in
-    let e1 : m * 2 * 2 ≡ m * 4 = omega arith in
-    let e2 : l + 1 + 1 ≡ l + 2 = omega arith in
-    rw (q2, e1, e2) at two
+-- A TURN that crosses levels l and l + 1: the blocks of four parts of m rows
+pub record Quads (width level l len blocks m : ℕ) : Type 0 where
+  pub under : Level width level l len (blocks * 2) m
+  pub over : Level width level (suc l) len blocks (m + m)
+  pub rows : len ≡ blocks * ((m + m + (m + m)) * width)
+  pub fits : (m + m + (m + m)) * width ≤ len
 
-pub unquad_turn : {half₀ : List ℕ} {level width : ℕ} {half half' : List ℕ} {blocks m left x : ℕ} → UnmixLoop half₀ level width half blocks m left → 2 ≤ left
-    → length half' ≡ length half → x ≡ power 65537 (inverse 65537 (root_of fermat level)) (2 ^ level / 2 ^ (left - 1))
-    → half' ≡ each_rows width blocks (m / 4 + m / 4 + (m / 4 + m / 4)) (unmixed_twice 65537 x (m / 4)) half
-    → UnmixLoop half₀ level width half' (blocks * 4) (m / 4) (left - 2)
-unquad_turn {half₀} {level} {width} {half} {half'} {blocks} {m} {left} {x} h b el ex eh =
+pub quads_here : {width level l len blocks m : ℕ} → suc l < level → level ≤ 11 → len ≡ 2 ^ level * width → blocks ≡ 2 ^ (level - l - 2) → m ≡ 2 ^ l
+    → Quads width level l len blocks m
+quads_here {width} {level} {l} {len} {blocks} {m} lt few e eb em =
+    let top : blocks ≡ 2 ^ (level - suc l - 1) = eb ∙ ap (λ (n : ℕ). 2 ^ n) {x = level - l - 2} {y = level - suc l - 1} (omega arith) in
+    let over : Level width level (suc l) len blocks (m + m) = level_here lt few e top (omega (arith, pow-suc 2 l)) in
+    let twice : blocks * 2 ≡ 2 ^ (level - l - 1) =
+    ap (λ (n : ℕ). n * 2) over.blocks_is ∙ sym (pow_down {n = level} {l = suc l} lt) ∙ ap (λ (n : ℕ). 2 ^ n) {x = level - suc l} {y = level - l - 1} (omega arith)
+    in
+    record { under = level_here (omega arith) few e twice em; over = over; rows = over.rows; fits = over.fits }
+
+-- two turns of the loop over levels
+pub quad_turn : {half₀ : List ℕ} {level width : ℕ} {half half' : List ℕ} {blocks m l x : ℕ} → MixLoop half₀ level width half l → suc l < level
+    → Quads width level l (length half) blocks m → length half' ≡ length half → x ≡ power 65537 (root_of fermat level) (2 ^ level / 2 ^ suc l)
+    → half' ≡ each_rows width blocks (m + m + (m + m)) (mixed_twice 65537 x m) half
+    → MixLoop half₀ level width half' (l + 2)
+quad_turn {half₀} {level} {width} {half} {half'} {blocks} {m} {l} {x} h lt q el ex eh =
+    let mid = each_rows width (blocks * 2) (m + m) (mixed_halves 65537 (times 65537 x x) m) half in
+    let same : length mid ≡ length half = length_each (mixing_block width m (times 65537 x x)) (blocks * 2) half (omega (arith, q.under.rows)) in
+    let one : MixLoop half₀ level width mid (l + 1) = mix_turn h (omega arith) q.under same
+    (rw ex (squared (root_of fermat level) level l (omega arith))) refl in
+    let over : Level width level (suc l) (length mid) blocks (m + m) = rw same q.over in
+    let two : MixLoop half₀ level width half' (suc l + 1) = mix_turn (rw add-one at one) lt over (el ∙ sym same) ex
+    (eh ∙ mixed_levels width blocks m x half (omega (arith, q.rows))) in
+    let e : suc l + 1 ≡ l + 2 = omega arith in
+    rw e at two
+
+pub unquad_turn : {half₀ : List ℕ} {level width : ℕ} {half half' : List ℕ} {blocks m l x : ℕ} → UnmixLoop half₀ level width half (l + 2)
+    → Quads width level l (length half) blocks m → length half' ≡ length half
+    → x ≡ power 65537 (inverse 65537 (root_of fermat level)) (2 ^ level / 2 ^ suc l)
+    → half' ≡ each_rows width blocks (m + m + (m + m)) (unmixed_twice 65537 x m) half
+    → UnmixLoop half₀ level width half' l
+unquad_turn {half₀} {level} {width} {half} {half'} {blocks} {m} {l} {x} h q el ex eh =
     let w = inverse 65537 (root_of fermat level) in
-    let l1 : suc (left - 2) ≡ left - 1 = omega arith in
-    let d1 : 2 ^ left ≡ 2 ^ (left - 2) * 2 * 2 =
-    ap (λ (n : ℕ). 2 ^ n) {x = left} {y = suc (suc (left - 2))} (omega arith) ∙ pow-suc 2 (suc (left - 2)) ∙ ap (λ (n : ℕ). n * 2) (pow-suc 2 (left - 2)) in
-    let q1 : m / 2 ≡ m / 4 + m / 4 = omega (arith, h.m_is, d1) in
-    let q2 : m / 2 / 2 ≡ m / 4 = omega (arith, h.m_is, d1) in
-    let lv = left_in h (omega arith) in
-    let room : blocks * ((m / 4 + m / 4 + (m / 4 + m / 4)) * width) ≤ length half = rw (← q1) (omega (arith, lv.rows)) in
-    let mid = each_rows width blocks (m / 2 + m / 2) (unmixed 65537 x (m / 2)) half in
-    let same : length mid ≡ length half = length_each (unmixing_block width (m / 2) x) blocks half (omega (arith, lv.rows)) in
-    let one : UnmixLoop half₀ level width mid (blocks * 2) (m / 2) (left - 1) = unmix_turn h (omega arith) same ex refl in
-    let e0 : left - 1 - 1 ≡ left - 2 = omega arith in
-    let two = unmix_turn {half' = half'} {v = times 65537 x x} one (omega arith) (el ∙ sym same)
-    (rw (e0, ex, ← l1) (squared w level (left - 2) (omega (arith, h.turns))))
-    (eh ∙ unmixed_levels width blocks (m / 4) x half room ∙ rw (q2, q1) refl) in
-    let e1 : blocks * 2 * 2 ≡ blocks * 4 = omega arith in
-    rw (e0, e1, q2) at two
+    let l1 : l + 2 - 1 ≡ suc l = omega arith in
+    let l2 : suc l - 1 ≡ l = omega arith in
+    let mid = each_rows width blocks (m + m + (m + m)) (unmixed 65537 x (m + m)) half in
+    let same : length mid ≡ length half = length_each (unmixing_block width (m + m) x) blocks half (omega (arith, q.rows)) in
+    let one : UnmixLoop half₀ level width mid (suc l) = rw l1 at (unmix_turn h {half' = mid} {v = x} (omega arith) (rw l1 q.over) same (rw l1 ex) refl) in
+    let under : Level width level (suc l - 1) (length mid) (blocks * 2) m = rw (l2, same) q.under in
+    let two : UnmixLoop half₀ level width half' (suc l - 1) = unmix_turn one {half' = half'} {v = times 65537 x x} (omega arith) under (el ∙ sym same)
+    (rw (l2, ex) (squared w level l (omega (arith, h.turns))))
+    (eh ∙ unmixed_levels width blocks m x half (omega (arith, q.rows))) in
+    rw l2 at two
 
 -- the entry under which the upper of both levels is mixed, and unmixed
 module _ (level l : ℕ) {m : ℕ} {powers : List ℕ} (is : powers ≡ power_table) (em : m ≡ 2 ^ l) (few : level ≤ 11) (two : l + 2 ≤ level) where
@@ -231,129 +236,23 @@ module _ (level l : ℕ) {m : ℕ} {powers : List ℕ} (is : powers ≡ power_ta
   unmixing_root =
       rw (is, step_is is em (omega arith)) (table_back (suc l) (omega arith) ∙ sym (level_inverse level (suc l) (omega arith) (omega arith)))
 
--- THE LOOP OF MIXING, two levels a turn: l are done, and an even number is left
-pub record QuadLoop (half₀ : List ℕ) (level width : ℕ) (half : List ℕ) (m blocks : ℕ) : Type 0 where
-  pub l : ℕ
-  pub pairs : ℕ
-  pub even : level ≡ l + 2 * pairs
-  pub levels : MixLoop half₀ level width half blocks m l
+-- ROWS ALONE, the first level of mixing and the last one of unmixing: sums and differences
+module _ (width : ℕ) (half : List ℕ) {level blocks : ℕ} (some : 0 < level) (few : level ≤ 11) (e : length half ≡ 2 ^ level * width) (eb : blocks ≡ 2 ^ (level - 1)) where
+  alone : Level width level 0 (length half) blocks 1
+  alone = level_here some few e (eb ∙ ap (λ (n : ℕ). 2 ^ n) {x = level - 1} {y = level - 0 - 1} (omega arith)) refl
 
-module _ {half₀ : List ℕ} {level width : ℕ} {half : List ℕ} {m blocks : ℕ} (h : QuadLoop half₀ level width half m blocks) where
-  -- where blocks are left, so are two levels
-  pub two_left : 1 < blocks → h.l + 2 ≤ level
-  two_left b = at (dec_lt h.pairs 1)
-    where
-      at : Dec (h.pairs < 1) → h.l + 2 ≤ level
-      at (yes n) =
-          let z : level - h.l ≡ 0 = omega (arith, h.even) in
-          absurd (omega (arith, b, rw z at h.levels.blocks_is))
-      at (no n) = omega (arith, h.even)
+  pub pairs_in : length half ≡ blocks * (width + width)
+  pairs_in = alone.rows ∙ ap (λ (n : ℕ). blocks * n) {x = 2 * width} {y = width + width} (omega arith)
 
-  pub none_left : blocks ≤ 1 → level ≤ h.l
-  none_left b = at (dec_lt h.l level)
-    where
-      at : Dec (h.l < level) → level ≤ h.l
-      at (yes n) = absurd (omega (arith, b, h.levels.blocks_is, pow_down {n = level} {l = h.l} n, pow_pos (level - suc h.l)))
-      at (no n) = omega arith
+  module _ {half' : List ℕ} (el : length half' ≡ length half) (eh : half' ≡ each_block blocks (width + width) (sum_row 65537 width 0 width) half) where
+    pub first_turn : Words 65537 half → MixLoop half level width half' 1
+    first_turn words =
+        let x = power 65537 (root_of fermat level) (2 ^ level / 2 ^ 0) in
+        mix_turn (mix_start few e words) {v = x} some alone el refl (eh ∙ sums_level width blocks (mixed_halves 65537 x 1) half (mixing_sums x) pairs_in)
 
-  pub loop_turn : {half' : List ℕ} {x : ℕ} → 1 < blocks → length half' ≡ length half → x ≡ power 65537 (root_of fermat level) (2 ^ level / 2 ^ suc h.l)
-      → half' ≡ each_rows width (blocks / 4) (m + m + (m + m)) (mixed_twice 65537 x m) half
-      → QuadLoop half₀ level width half' (m * 4) (blocks / 4)
-  loop_turn b el ex eh = record {
-    l = h.l + 2;
-    pairs = h.pairs - 1;
-    even = omega (arith, h.even, two_left b);
-    levels = quad_turn h.levels (two_left b) el ex eh;
-  }
-
-  -- the blocks of the next turn, and their factors
-  pub blocks_in : 1 < blocks → length half ≡ blocks / 4 * ((m + m + (m + m)) * width)
-  blocks_in b =
-      let lv = level_in h.levels (omega (arith, two_left b)) in
-      let d1 : 2 ^ (level - h.l) ≡ 2 ^ (level - suc h.l) * 2 = pow_down {n = level} {l = h.l} (omega (arith, two_left b)) in
-      let d2 : 2 ^ (level - suc h.l) ≡ 2 ^ (level - suc (suc h.l)) * 2 = pow_down {n = level} {l = suc h.l} (omega (arith, two_left b)) in
-      lv.rows ∙ ap (λ (n : ℕ). n * ((m + m) * width)) {x = blocks / 2} {y = blocks / 4 * 2} (omega (arith, h.levels.blocks_is, d1, d2)) ∙ omega arith
-
--- THE LOOP OF UNMIXING, two levels a turn
-pub record UnquadLoop (half₀ : List ℕ) (level width : ℕ) (half : List ℕ) (blocks m : ℕ) : Type 0 where
-  pub left : ℕ
-  pub levels : UnmixLoop half₀ level width half blocks m left
-
-module _ {half₀ : List ℕ} {level width : ℕ} {half : List ℕ} {blocks m : ℕ} (h : UnquadLoop half₀ level width half blocks m) where
-  -- where more than two rows are left to be unmixed, so are two levels
-  pub two_to_go : 2 < m → 2 ≤ h.left
-  two_to_go b = at (dec_lt h.left 2)
-    where
-      at : Dec (h.left < 2) → 2 ≤ h.left
-      at (yes n) = absurd (omega (arith, b, h.levels.m_is, pow_mono {i = h.left} {j = 1} (omega arith)))
-      at (no n) = omega arith
-
-  pub last_to_go : m ≤ 2 → h.left ≤ 1
-  last_to_go b = at (dec_lt 1 h.left)
-    where
-      at : Dec (1 < h.left) → h.left ≤ 1
-      at (yes n) = absurd (omega (arith, b, h.levels.m_is, pow_mono {i = 2} {j = h.left} n))
-      at (no n) = omega arith
-
-  -- a quarter of the rows, two levels below
-  module _ (b : 2 < m) where
-    quarters : 2 ^ h.left ≡ 2 ^ (h.left - 2) * 2 * 2
-    quarters =
-        ap (λ (n : ℕ). 2 ^ n) {x = h.left} {y = suc (suc (h.left - 2))} (omega (arith, two_to_go b)) ∙ pow-suc 2 (suc (h.left - 2))
-        ∙ ap (λ (n : ℕ). n * 2) (pow-suc 2 (h.left - 2))
-
-    pub quarter_is : m / 4 ≡ 2 ^ (h.left - 2)
-    quarter_is = omega (arith, h.levels.m_is, quarters)
-
-    two_quarters : m / 2 ≡ m / 4 + m / 4
-    two_quarters = omega (arith, h.levels.m_is, quarters)
-
-    pub quarters_in : length half ≡ blocks * ((m / 4 + m / 4 + (m / 4 + m / 4)) * width)
-    quarters_in = (left_in h.levels (omega (arith, two_to_go b))).rows ∙ ap (λ (n : ℕ). blocks * ((n + n) * width)) two_quarters
-
-    pub quarters_fit : (m / 4 + m / 4 + (m / 4 + m / 4)) * width ≤ length half
-    quarters_fit = rw (← two_quarters) (left_in h.levels (omega (arith, two_to_go b))).fits
-
-  pub unquad_again : {half' : List ℕ} {x : ℕ} → 2 < m → length half' ≡ length half
-      → x ≡ power 65537 (inverse 65537 (root_of fermat level)) (2 ^ level / 2 ^ suc (h.left - 2))
-      → half' ≡ each_rows width blocks (m / 4 + m / 4 + (m / 4 + m / 4)) (unmixed_twice 65537 x (m / 4)) half
-      → UnquadLoop half₀ level width half' (blocks * 4) (m / 4)
-  unquad_again b el ex eh =
-      let l1 : suc (h.left - 2) ≡ h.left - 1 = omega (arith, two_to_go b) in
-      record { left = h.left - 2; levels = unquad_turn h.levels (two_to_go b) el (rw l1 at ex) eh }
-
-  -- the last level alone, under the factor 1, or none
-  module _ (e : m ≡ 2) where
-    one_to_go : 0 < h.left
-    one_to_go = at (dec_lt 0 h.left)
-      where
-        at : Dec (0 < h.left) → 0 < h.left
-        at (yes n) = n
-        at (no n) =
-            let z : h.left ≡ 0 = omega arith in
-            absurd (omega (arith, e, rw z at h.levels.m_is))
-
-    abbrev half_m : m / 2 ≡ 1
-    half_m = omega (arith, e)
-
-    pub last_rows : length half ≡ blocks * (width + width)
-    last_rows =
-        (left_in h.levels one_to_go).rows ∙ ap (λ (n : ℕ). blocks * ((n + n) * width)) half_m
-        ∙ ap (λ (n : ℕ). blocks * n) {x = 2 * width} {y = width + width} (omega arith)
-
-    pub last_turn : {half' : List ℕ} → length half' ≡ length half → half' ≡ each_block blocks (width + width) (sum_row 65537 width 0 width) half
+    pub last_turn : {half₀ : List ℕ} → UnmixLoop half₀ level width half 1
         → half' ≡ lifted width (2 ^ level) (2 ^ level) (untransform 65537 (inverse 65537 (root_of fermat level)) level level) half₀
-    last_turn {half'} el eh =
-        let x = power 65537 (inverse 65537 (root_of fermat level)) (2 ^ level / 2 ^ (h.left - 1)) in
-        unmix_done (unmix_turn {half' = half'} {v = x} h.levels one_to_go el refl
-        (rw half_m (eh ∙ sums_level width blocks (unmixed 65537 x 1) half (unmixing_sums x) last_rows)))
-        (omega (arith, last_to_go (omega (arith, e))))
-
-  pub no_turn : m ≤ 2 → m ≢ 2 → half ≡ lifted width (2 ^ level) (2 ^ level) (untransform 65537 (inverse 65537 (root_of fermat level)) level level) half₀
-  no_turn b n = unmix_done h.levels (at (dec_lt h.left 1))
-    where
-      at : Dec (h.left < 1) → h.left ≤ 0
-      at (yes t) = omega arith
-      at (no t) =
-          let z : h.left ≡ 1 = omega (arith, last_to_go b) in
-          absurd (n (rw z at h.levels.m_is))
+    last_turn h =
+        let x = power 65537 (inverse 65537 (root_of fermat level)) (2 ^ level / 2 ^ 0) in
+        unmix_done (unmix_turn h {v = x} (omega arith) alone el refl (eh ∙ sums_level width blocks (unmixed 65537 x 1) half (unmixing_sums x) pairs_in))
+        (omega arith)

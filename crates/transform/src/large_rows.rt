@@ -4,30 +4,12 @@ ghost use Rattle.field.specs.Field.{fermat, root_of};
 ghost use Rattle.field.specs.Words.{Words};
 ghost use Rattle.code.specs.Rows.{lifted};
 ghost use Rattle.code.specs.Transform.{transform, untransform};
-ghost use Rattle.code.specs.steps.Mixing.{each_block};
 ghost use Rattle.field.specs.Power.{inverse};
 
 use code::table_65537::PowerTable;
+use mixing::direction::{Mixing, Unmixing};
 
-// The first level alone, where the number of levels is odd. How many rows are then mixed: 2 or 1.
-fn mix_first(half: &mut [u32], level: usize, width: usize) -> usize
-    requires level_bound { level ≤ 11 }
-    requires half_len { length half.old ≡ 2 ^ level * width }
-    requires words { Words fermat.modulus half.old }
-    ensures value { result ≡ 2 ^ (level % 2) }
-    ensures words_2 { Words fermat.modulus half.new }
-    ensures half_after { half.new ≡
-        each_block (2 ^ (level - level % 2)) (2 ^ (level % 2) * width)
-        (lifted width (2 ^ (level % 2)) (2 ^ (level % 2)) (transform fermat.modulus (root_of fermat level) level (level % 2))) half.old }
-{
-    if level % 2 == 0 {
-        return 1;
-    }
-    mixing::rows::sum_each(half, code::number::two_to(level - 1), width);
-    2
-}
-
-// All mixing of 2^level rows, from single rows up, two levels at once. The root of 2^l records, under which 2^l rows are mixed with 2^l rows, is entry
+// All mixing of 2^level rows, from single rows up, two levels at once; where their number is odd, the first one alone. The root of 2^l records, under which 2^l rows are mixed with 2^l rows, is entry
 // 1024 / 2^l.
 pub(crate) fn mix_rows(half: &mut [u32], level: usize, width: usize, powers: &PowerTable)
     requires level_bound { level ≤ 11 }
@@ -36,12 +18,14 @@ pub(crate) fn mix_rows(half: &mut [u32], level: usize, width: usize, powers: &Po
     ensures { half.new ≡
         lifted width (2 ^ level) (2 ^ level) (transform fermat.modulus (root_of fermat level) level level) half.old }
 {
-    let mut m = mix_first(half, level, width);
-    let mut blocks = code::number::two_to(level) / m;
-    while 1 < blocks {
-        blocks = blocks / 4;
-        mixing_twice::rows::cross_each(half, blocks, m, width, &powers.entries, 512 / m, false);
-        m = m * 4;
+    if level % 2 == 1 {
+        mixing::rows::sum_each(half, code::number::two_to(level - 1), width);
+    }
+    for pair in 0..level / 2 {
+        let l = level % 2 + 2 * pair;
+        let m = code::number::two_to(l);
+        let blocks = code::number::two_to(level - l - 2);
+        mixing_twice::rows::cross_each::<Mixing>(half, blocks, m, width, &powers.entries, 512 / m);
     }
 }
 
@@ -55,22 +39,13 @@ pub(crate) fn unmix_rows(half: &mut [u32], level: usize, width: usize, powers: &
         lifted width (2 ^ level) (2 ^ level)
         (untransform fermat.modulus (inverse fermat.modulus (root_of fermat level)) level level) half.old }
 {
-    let mut blocks: usize = 1;
-    let mut m = code::number::two_to(level);
-    while 2 < m {
-        m = m / 4;
-        mixing_twice::rows::cross_each(
-            half,
-            blocks,
-            m,
-            width,
-            &powers.entries,
-            2048 - 512 / m,
-            true,
-        );
-        blocks = blocks * 4;
+    for pair in (0..level / 2).rev() {
+        let l = level % 2 + 2 * pair;
+        let m = code::number::two_to(l);
+        let blocks = code::number::two_to(level - l - 2);
+        mixing_twice::rows::cross_each::<Unmixing>(half, blocks, m, width, &powers.entries, 2048 - 512 / m);
     }
-    if m == 2 {
-        mixing::rows::sum_each(half, blocks, width);
+    if level % 2 == 1 {
+        mixing::rows::sum_each(half, code::number::two_to(level - 1), width);
     }
 }

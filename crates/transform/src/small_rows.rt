@@ -7,6 +7,7 @@ ghost use Rattle.code.specs.Rows.{lifted};
 ghost use Rattle.code.specs.Transform.{transform, untransform};
 
 use code::table_65537::PowerTable;
+use mixing::direction::{Mixing, Unmixing};
 
 // All mixing of 2^level rows of `width` words, at most 3,072 in all: at most 1,536 words have a factor in a level.
 pub fn mix_small_rows(half: &mut [u32], level: usize, width: usize, powers: &PowerTable)
@@ -17,15 +18,11 @@ pub fn mix_small_rows(half: &mut [u32], level: usize, width: usize, powers: &Pow
         lifted width (2 ^ level) (2 ^ level) (transform fermat.modulus (root_of fermat level) level level) half.old }
 {
     let mut factors = [0u32; 1536];
-    let mut blocks = code::number::two_to(level);
-    let mut step: usize = 1024;
-    let mut m: usize = 1;
     for l in 0..level {
-        blocks = blocks / 2;
-        mixing::words::repeat(&mut factors, m, width, &powers.entries, step);
-        mixing::words::cross_words_each(half, blocks, m * width, &factors, false);
-        step = step / 2;
-        m = m * 2;
+        let m = code::number::two_to(l);
+        let blocks = code::number::two_to(level - l - 1);
+        mixing::words::repeat(&mut factors, m, width, &powers.entries, 1024 / m);
+        mixing::words::cross_words_each::<Mixing>(half, blocks, m * width, &factors);
     }
 }
 
@@ -39,14 +36,10 @@ pub fn unmix_small_rows(half: &mut [u32], level: usize, width: usize, powers: &P
         (untransform fermat.modulus (inverse fermat.modulus (root_of fermat level)) level level) half.old }
 {
     let mut factors = [0u32; 1536];
-    let mut blocks: usize = 1;
-    let mut m = code::number::two_to(level);
-    let mut left = level;
-    while 0 < left {
-        m = m / 2;
-        left = left - 1;
+    for l in (0..level).rev() {
+        let m = code::number::two_to(l);
+        let blocks = code::number::two_to(level - l - 1);
         mixing::words::repeat(&mut factors, m, width, &powers.entries, 2048 - 1024 / m);
-        mixing::words::cross_words_each(half, blocks, m * width, &factors, true);
-        blocks = blocks * 2;
+        mixing::words::cross_words_each::<Unmixing>(half, blocks, m * width, &factors);
     }
 }

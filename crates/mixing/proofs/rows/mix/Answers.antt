@@ -1,12 +1,13 @@
 -- `mixing::rows::mix` meets its contract, by the laws of the loop over rows of proofs/Crossing. Assumes nothing.
-use Rattle.mixing.proofs.Crossing.{rows_start, rows_turn, rows_end, mixing_stores, mixing_crosses}
+use Rattle.std.proofs.Common.{false}
+use Rattle.mixing.proofs.Crossing.{crossing_stores, rows_start, rows_turn, rows_end, mixing_crosses}
 use Rattle.mixing.proofs.rows.mix.Goals as goal
 
 pub loop-i-init : goal.loop-i-init
 loop-i-init c = rows_start c.requires.part_len c.requires.words
 
 pub loop-i-preserved : goal.loop-i-preserved
-loop-i-preserved c = rows_turn mixing_stores c.requires.row_factors c.loop-i.invariant c.loop-i-test.true c.mix_row.ensures
+loop-i-preserved c = rows_turn (crossing_stores false) c.requires.row_factors c.loop-i.invariant c.loop-i-test.true c.mix_row.ensures
 
 pub returns : goal.returns
 returns c = rows_end (mixing_crosses _ _) c.loop-i.invariant c.loop-i-test.false

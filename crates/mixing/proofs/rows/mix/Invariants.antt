@@ -1,11 +1,7 @@
 -- The loop of `mixing::rows::mix`: the first i rows are mixed. Assumes nothing.
-use Rattle.std.proofs.Common.{◌-◌}
 use Rattle.code.specs.steps.Mixing.{mixing}
 use Rattle.mixing.proofs.Crossing.{RowsLoop}
 use Rattle.mixing.proofs.rows.mix.Given as goal
 
 abbrev pub invariant-loop-i : goal.invariant-loop-i
-invariant-loop-i l = RowsLoop (mixing 65537) l.initial.part l.m l.width l.powers l.step l.part l.e l.i l.low l.high
-
-abbrev pub decreases-loop-i : goal.decreases-loop-i
-decreases-loop-i l = l.m - l.i
+invariant-loop-i l = RowsLoop (mixing 65537) l.initial.part l.m l.width l.powers l.step l.part l.i

@@ -1,9 +1,7 @@
--- The loop of `transform::large_rows::mix_rows`: pairs of levels are mixed. Assumes nothing.
-use Rattle.transform.proofs.QuadLevels.{QuadLoop}
+-- The loop of `transform::large_rows::mix_rows`: the first level where their number is odd, and `pair` pairs of levels, are mixed. Assumes nothing.
+use Rattle.std.proofs.Common.{◌+◌, ◌*◌, ◌%◌}
+use Rattle.transform.proofs.MixLevels.{MixLoop}
 use Rattle.transform.proofs.large_rows.mix_rows.Given as goal
 
-abbrev pub invariant-loop-blocks : goal.invariant-loop-blocks
-invariant-loop-blocks l = QuadLoop l.fn.half l.level l.width l.half l.m l.blocks
-
-abbrev pub decreases-loop-blocks : goal.decreases-loop-blocks
-decreases-loop-blocks l = l.blocks
+abbrev pub invariant-loop-pair : goal.invariant-loop-pair
+invariant-loop-pair l = MixLoop l.fn.half l.level l.width l.half (l.level % 2 + 2 * l.pair)

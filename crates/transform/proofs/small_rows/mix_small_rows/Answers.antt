@@ -1,73 +1,57 @@
 -- `transform::small_rows::mix_small_rows` meets its contract, by the laws of the loop over levels of proofs/MixLevels. Assumes nothing.
-use Rattle.std.proofs.Common.{◌≡◌, List, ℕ, ◌*◌, ◌/◌, ◌^◌, ◌≤◌, ◌<◌, length, refl, ◌∙◌, arith}
-use lib.ListN.{length-replicate}
+use Rattle.std.proofs.Common.{◌≡◌, List, ℕ, ◌+◌, ◌-◌, ◌*◌, ◌/◌, ◌^◌, ◌≤◌, ◌<◌, length, ap, ◌∙◌, arith}
+use lib.Pow.{pow_pos}
 use Rattle.field.specs.Field.{fermat, root_of, power_table}
-use Rattle.code.proofs.Blocks.{Level}
+use Rattle.field.proofs.Unity.{two_div}
 use Rattle.code.proofs.Factors.{LevelFactors, mixing_factors}
 use Rattle.mixing.proofs.Crossing.{mixing_crosses}
-use Rattle.transform.proofs.MixLevels.{mix_start, level_in, mix_turn, mix_done, step_down}
-use Rattle.transform.proofs.NarrowLevels.{level_words, level_room, level_short, level_crossed}
-use Rattle.transform.proofs.small_rows.mix_small_rows.Invariants.{Inv}
+use Rattle.transform.proofs.MixLevels.{MixLoop, mix_start, mix_turn, mix_done}
+use Rattle.transform.proofs.NarrowLevels.{Narrow, narrow, level_short, level_crossed}
 use Rattle.transform.proofs.small_rows.mix_small_rows.Goals as goal
 
--- the level that a turn mixes, and its factors
-module _ {half₀ : List ℕ} {level width : ℕ} {half factors : List ℕ} {blocks step m l : ℕ} (i : Inv half₀ level width half factors blocks step m l) where
-  here : l < level → Level width level l (length half) (blocks / 2) m
-  here lt = level_in i.levels lt
-
-  few : 2 ^ level * width ≤ 3072 → length half ≤ 3072
-  few h = omega (arith, i.levels.same, i.levels.long)
-
-  factors_are : {powers : List ℕ} → l < level → powers ≡ power_table → LevelFactors (root_of fermat level) level l m step powers
-  factors_are lt is =
-      let low : l ≤ 10 = omega (arith, i.levels.few) in
-      mixing_factors is (omega arith) (low, omega (arith, i.levels.few)) i.levels.m_is (i.step_is low)
+-- the factors of a turn
+factors_are : {level l m : ℕ} {powers : List ℕ} → l < level → level ≤ 11 → powers ≡ power_table → m ≡ 2 ^ l
+    → LevelFactors (root_of fermat level) level l m (1024 / m) powers
+factors_are {l = l} lt few is e =
+    mixing_factors is (omega arith) (omega arith, omega arith) e (ap (λ (n : ℕ). 1024 / n) e ∙ two_div 10 l (omega arith))
 
 pub loop-l-init : goal.loop-l-init
-loop-l-init c = record {
-  levels = mix_start c.requires.level_bound.0 c.requires.half_len c.requires.words c.two_to-blocks.ensures;
-  step_is = λ _. refl;
-  held = length-replicate {A = ℕ} 1536 0;
-}
+loop-l-init c = mix_start c.requires.level_bound.0 c.requires.half_len c.requires.words
 
 pub repeat-requires-clause-width_in_bounds : goal.repeat-requires-clause-width_in_bounds
 repeat-requires-clause-width_in_bounds c =
-    let h = c.loop-l.invariant in
-    omega (arith, level_room (here h c.loop-l-test.true) (few h c.requires.level_bound.1), h.held)
+    let t = narrow c.loop-l-test.true c.requires.level_bound (c.loop-l.invariant.same ∙ c.requires.half_len) c.two_to-blocks.ensures c.two_to-m.ensures in
+    omega (arith, t.room)
 
 pub repeat-requires-clause-row_factors : goal.repeat-requires-clause-row_factors
-repeat-requires-clause-row_factors c = (factors_are c.loop-l.invariant c.loop-l-test.true c.args.powers.now.is_table).rows
+repeat-requires-clause-row_factors c = (factors_are c.loop-l-test.true c.requires.level_bound.0 c.args.powers.now.is_table c.two_to-m.ensures).rows
 
 pub overflow_mul-m : goal.overflow_mul-m
 overflow_mul-m c =
-    let h = c.loop-l.invariant in
-    record { fits = omega (arith, level_room (here h c.loop-l-test.true) (few h c.requires.level_bound.1)) }
+    let t = narrow c.loop-l-test.true c.requires.level_bound (c.loop-l.invariant.same ∙ c.requires.half_len) c.two_to-blocks.ensures c.two_to-m.ensures in
+    record { fits = omega (arith, t.room) }
 
 pub cross_words_each-requires-clause-half_len : goal.cross_words_each-requires-clause-half_len
-cross_words_each-requires-clause-half_len c = level_words (here c.loop-l.invariant c.loop-l-test.true)
+cross_words_each-requires-clause-half_len c =
+    (narrow c.loop-l-test.true c.requires.level_bound (c.loop-l.invariant.same ∙ c.requires.half_len) c.two_to-blocks.ensures c.two_to-m.ensures).words
 
 pub cross_words_each-requires-clause-size_bound : goal.cross_words_each-requires-clause-size_bound
 cross_words_each-requires-clause-size_bound c =
-    let h = c.loop-l.invariant in
-    omega (arith, level_room (here h c.loop-l-test.true) (few h c.requires.level_bound.1))
+    let t = narrow c.loop-l-test.true c.requires.level_bound (c.loop-l.invariant.same ∙ c.requires.half_len) c.two_to-blocks.ensures c.two_to-m.ensures in
+    omega (arith, t.room)
 
 pub cross_words_each-requires-clause-short_factors : goal.cross_words_each-requires-clause-short_factors
 cross_words_each-requires-clause-short_factors c =
-    let h = c.loop-l.invariant in
-    let f = factors_are h c.loop-l-test.true c.args.powers.now.is_table in
-    level_short c.loop-l.half c.loop-l.factors (here h c.loop-l-test.true) (few h c.requires.level_bound.1) f h.held c.repeat.ensures
+    let t = narrow c.loop-l-test.true c.requires.level_bound (c.loop-l.invariant.same ∙ c.requires.half_len) c.two_to-blocks.ensures c.two_to-m.ensures in
+    let f = factors_are c.loop-l-test.true c.requires.level_bound.0 c.args.powers.now.is_table c.two_to-m.ensures in
+    level_short c.loop-l.half c.loop-l.factors t f (omega arith) c.repeat.ensures
 
 pub loop-l-preserved : goal.loop-l-preserved
 loop-l-preserved c =
-    let h = c.loop-l.invariant in
-    let f = factors_are h c.loop-l-test.true c.args.powers.now.is_table in
-    record {
-      levels = mix_turn h.levels c.loop-l-test.true c.cross_words_each.auto.half f.entry
-          (level_crossed c.loop-l.half c.loop-l.factors (here h c.loop-l-test.true) (few h c.requires.level_bound.1) f h.held c.repeat.ensures
-          (mixing_crosses _ _) c.cross_words_each.ensures);
-      step_is = step_down h.step_is;
-      held = c.repeat.auto.factors ∙ h.held;
-    }
+    let t = narrow c.loop-l-test.true c.requires.level_bound (c.loop-l.invariant.same ∙ c.requires.half_len) c.two_to-blocks.ensures c.two_to-m.ensures in
+    let f = factors_are c.loop-l-test.true c.requires.level_bound.0 c.args.powers.now.is_table c.two_to-m.ensures in
+    mix_turn c.loop-l.invariant c.loop-l-test.true t.here c.cross_words_each.auto.half f.entry
+    (level_crossed c.loop-l.half c.loop-l.factors t f (omega arith) c.repeat.ensures (mixing_crosses _ _) c.cross_words_each.ensures)
 
 pub returns : goal.returns
-returns c = mix_done c.loop-l.invariant.levels c.loop-l-test.false
+returns c = mix_done c.loop-l.invariant c.loop-l-test.false

@@ -1,0 +1,126 @@
+// Crossings of two words, mixing and unmixing, and what they are crossed under: a factor, and the factors of a row's words.
+ghost use Rattle.std.specs.Prelude.{◌≡◌, ℕ, ◌-◌, ◌<◌, Bool, true, false, length, get_or};
+ghost use Rattle.field.specs.Residue.{times};
+ghost use Rattle.field.specs.Field.{fermat};
+ghost use Rattle.mixing.specs.steps.Words.{crossing_of};
+
+/// What a word is multiplied by.
+pub trait Factor: Copy {
+    ghost value: { Self → ℕ };
+
+    fn product(self, y: u32) -> u32
+        requires { y < fermat.modulus }
+        ensures { result ≡ times fermat.modulus (value self) y };
+}
+
+/// The factor 1: a product is the word itself.
+#[derive(Clone, Copy)]
+pub struct One;
+
+/// A power of a root that is not -1, so that a product with a word fits 32 bits.
+#[derive(Clone, Copy)]
+pub struct Power {
+    pub g: u32,
+    pub ghost short: { g < fermat.modulus - 1 },
+}
+
+impl Factor for One {
+    ghost value = { λ _. 1 };
+
+    #[inline(always)]
+    fn product(self, y: u32) -> u32 {
+        y
+    }
+}
+
+impl Factor for Power {
+    ghost value = { λ f. f.g };
+
+    #[inline(always)]
+    fn product(self, y: u32) -> u32 {
+        field::short_65537::mul(self.g, y)
+    }
+}
+
+/// The factors of the words of a row.
+pub(crate) trait Factors: Copy {
+    type Each: Factor;
+
+    ghost value: { Self → (word : ℕ) → ℕ };
+
+    ghost covers: { Self → (word : ℕ) → Type 0 };
+
+    fn of(self, word: usize) -> Self::Each
+        requires { covers self word }
+        ensures { Self.Each.value result ≡ value self word };
+}
+
+/// One factor for all words.
+#[derive(Clone, Copy)]
+pub(crate) struct Same<F: Factor>(pub F);
+
+/// A factor for each word, none of them -1.
+#[derive(Clone, Copy)]
+pub(crate) struct PerWord<'a>(pub &'a [u32]);
+
+impl<F: Factor> Factors for Same<F> {
+    type Each = F;
+
+    ghost value = { λ s _. F.value s.0 };
+
+    ghost covers = { λ _ _. Unit {0} };
+
+    #[inline(always)]
+    fn of(self, _word: usize) -> F {
+        self.0
+    }
+}
+
+impl Factors for PerWord<'_> {
+    type Each = Power;
+
+    ghost value = { λ s word. get_or s.0.now word 0 };
+
+    ghost covers = { λ s word. (word < length s.0.now) × (get_or s.0.now word 0 < fermat.modulus - 1) };
+
+    #[inline(always)]
+    fn of(self, word: usize) -> Power {
+        Power { g: self.0[word] }
+    }
+}
+
+/// Which way words are crossed: mixing, or unmixing.
+pub trait Direction {
+    ghost unmixing: { Bool };
+
+    // What is stored in the place of two words.
+    fn cross<F: Factor>(g: F, a: u32, b: u32) -> (u32, u32)
+        requires { (a < fermat.modulus) × (b < fermat.modulus) }
+        ensures low { result.0 ≡ (crossing_of unmixing fermat.modulus).low (F.value g) a b }
+        ensures high { result.1 ≡ (crossing_of unmixing fermat.modulus).high (F.value g) a b };
+}
+
+/// Sum and difference of one word and the product of the other.
+pub struct Mixing;
+
+/// The inverse of mixing, but for a factor of 2: the sum, and the product of the difference.
+pub struct Unmixing;
+
+impl Direction for Mixing {
+    ghost unmixing = { false };
+
+    #[inline(always)]
+    fn cross<F: Factor>(g: F, a: u32, b: u32) -> (u32, u32) {
+        let t = g.product(b);
+        (field::add(a, t), field::sub(a, t))
+    }
+}
+
+impl Direction for Unmixing {
+    ghost unmixing = { true };
+
+    #[inline(always)]
+    fn cross<F: Factor>(g: F, a: u32, b: u32) -> (u32, u32) {
+        (field::add(a, b), g.product(field::sub(a, b)))
+    }
+}
