@@ -20,18 +20,18 @@ pub(crate) fn reduce_row(out: &mut [u32], words: &[u32])
 }
 
 // Record i as a block: its number, and its data modulo p. Words of the field, `whole`, are copied.
-fn block_row(row: &mut [u32], i: usize, record: &[u32], whole: bool)
-    requires row_len { length row.old ≡ suc (length record.now) }
+fn block_row(row: &mut [u32], i: usize, words: &[u32], whole: bool)
+    requires row_len { length row.old ≡ suc (length words.now) }
     requires i_lt_modulus { i < fermat.modulus }
-    requires whole_words { WholeWords fermat.modulus whole record.now }
-    ensures { row.new ≡ i ∷ reduced fermat.modulus record.now }
+    requires whole_words { WholeWords fermat.modulus whole words.now }
+    ensures { row.new ≡ i ∷ reduced fermat.modulus words.now }
 {
     row[0] = i as u32;
-    let data = &mut row[1..];
+    let rest = &mut row[1..];
     if whole {
-        data.copy_from_slice(record);
+        rest.copy_from_slice(words);
     } else {
-        reduce_row(data, record);
+        reduce_row(rest, words);
     }
 }
 

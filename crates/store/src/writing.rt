@@ -9,7 +9,7 @@ ghost use Rattle.layout.specs.Records.{replaced};
 ghost use Rattle.layout.specs.Refusals.{answer_number};
 ghost use Rattle.store.specs.Buffers.{buffers};
 ghost use Rattle.store.specs.Writing.{log_with};
-ghost use Rattle.store.specs.steps.Writing.{half_start, gathered, folded, folded_both, root_entry, FoldFactors, Serves};
+ghost use Rattle.store.specs.steps.Writing.{half_start, gathered, folded, folded_both, Serves};
 ghost use Rattle.store.specs.StoreCalls.{write_number, written_as, write_answer, write_leaves};
 
 use layout::{Header, Refusal, ValidHeader};
@@ -18,30 +18,30 @@ use layout::{Header, Refusal, ValidHeader};
 #[derive(Clone, Copy)]
 struct Block<'a> {
     number: u32,
-    data: &'a [u32],
-    ghost words: { Words fermat.modulus (number ∷ data.now) },
+    words: &'a [u32],
+    ghost in_field: { Words fermat.modulus (number ∷ words.now) },
 }
 
-// Replaces raw record i by data of s words.
-fn put_record(raw: &mut [u32], i: usize, s: usize, data: &[u32])
-    requires data_len { length data.now ≡ s }
+// Replaces raw record i, of s words.
+fn put_record(raw: &mut [u32], i: usize, s: usize, words: &[u32])
+    requires words_len { length words.now ≡ s }
     requires s_in_bounds { suc i * s ≤ length raw.old }
-    ensures { raw.new ≡ replaced s raw.old i data.now }
+    ensures { raw.new ≡ replaced s raw.old i words.now }
 {
     let at = i * s;
-    raw[at..at + s].copy_from_slice(data);
+    raw[at..at + s].copy_from_slice(words);
 }
 
 // Puts a block as a row: its number and its data, each times g.
 fn put_row(row: &mut [u32], block: Block, g: u32)
-    requires row_len { length row.old ≡ suc (length block.data.now) }
+    requires row_len { length row.old ≡ suc (length block.words.now) }
     requires g_bound { g < fermat.modulus - 1 }
-    ensures { row.new ≡ scaled fermat.modulus g (block.number ∷ block.data.now) }
+    ensures { row.new ≡ scaled fermat.modulus g (block.entry.number ∷ block.entry.words.now) }
 {
     row[0] = field::short_65537::mul(g, block.number);
-    let data = &mut row[1..];
-    for j in 0..block.data.len() {
-        data[j] = field::short_65537::mul(g, block.data[j]);
+    let rest = &mut row[1..];
+    for j in 0..block.words.len() {
+        rest[j] = field::short_65537::mul(g, block.words[j]);
     }
 }
 
@@ -57,15 +57,15 @@ fn half_at(level: usize, half: usize, width: usize) -> usize
 // Copies X (half 0) or Y (half 1) of all levels below to that half of a level, the oldest first, each word modulo p, and puts the block's row times g after
 // them.
 fn gather(log: &mut [u32], level: usize, half: usize, block: Block, g: u32)
-    requires level_bound { (level ≤ 9) × (half ≤ 1) × (length block.data.now ≤ 128) }
-    requires level_in_bounds { half_start (suc (length block.data.now)) (suc level) 0 ≤ length log.old }
+    requires level_bound { (level ≤ 9) × (half ≤ 1) × (length block.words.now ≤ 128) }
+    requires level_in_bounds { half_start (suc (length block.words.now)) (suc level) 0 ≤ length log.old }
     requires g_bound { g < fermat.modulus - 1 }
     ensures { log.new ≡
-        sets log.old (half_start (suc (length block.data.now)) level half)
-        (gathered fermat.modulus (suc (length block.data.now)) log.old half
-        (scaled fermat.modulus g (block.number ∷ block.data.now)) level) }
+        sets log.old (half_start (suc (length block.entry.words.now)) level half)
+        (gathered fermat.modulus (suc (length block.entry.words.now)) log.old half
+        (scaled fermat.modulus g (block.entry.number ∷ block.entry.words.now)) level) }
 {
-    let width = block.data.len() + 1;
+    let width = block.words.len() + 1;
     let end = half_at(level, half, width) + code::number::two_to(level) * width;
     for l in (0..level).rev() {
         let size = code::number::two_to(l) * width;
@@ -77,36 +77,31 @@ fn gather(log: &mut [u32], level: usize, half: usize, block: Block, g: u32)
     put_row(&mut log[end - width..end], block, g);
 }
 
-// Mixes the last row of 2^level rows with the one before it, those two with the two before them, and so on. Entry `top` of the powers is -1.
-fn fold(half: &mut [u32], level: usize, width: usize, powers: &[u32], top: usize)
-    requires level_bound { level ≤ 10 }
+// Mixes the last row of 2^level rows with the one before it, those two with the two before them, and so on, under the roots of the field.
+fn fold(half: &mut [u32], level: usize, width: usize, powers: &[u32])
     requires half_len { length half.old ≡ 2 ^ level * width }
-    requires fold_factors { FoldFactors fermat.modulus level top powers.now }
+    requires serves { Serves fermat level powers.now }
     requires words { Words fermat.modulus half.old }
-    ensures { half.new ≡ folded fermat.modulus (root_entry powers.now top) width level half.old }
+    ensures { half.new ≡ folded fermat.modulus (root_of fermat) width level half.old }
 {
-    let mut step = top;
-    let mut m: usize = 1;
-    let mut from = half.len() - width;
+    let top = powers.len() / 2;
     for l in 0..level {
-        from = from - m * width;
-        mixing::rows::mix(&mut half[from..], m, width, powers, step);
-        step = step / 2;
-        m = m * 2;
+        let m = code::number::two_to(l);
+        let from = half.len() - 2 * m * width;
+        mixing::rows::mix(&mut half[from..], m, width, powers, top >> l);
     }
 }
 
-// Folds X and Y of a level, under the roots of the field.
+// Folds X and Y of a level.
 fn fold_both(part: &mut [u32], level: usize, width: usize, powers: &[u32])
     requires part_len { length part.old ≡ 2 ^ suc level * width }
-    requires powers { Serves fermat level powers.now }
+    requires serves { Serves fermat level powers.now }
     requires words { Words fermat.modulus part.old }
     ensures { part.new ≡ folded_both fermat.modulus (root_of fermat) width level part.old }
 {
     let half = code::number::two_to(level) * width;
-    let top = powers.len() / 2;
-    fold(&mut part[..half], level, width, powers, top);
-    fold(&mut part[half..], level, width, powers, top);
+    fold(&mut part[..half], level, width, powers);
+    fold(&mut part[half..], level, width, powers);
 }
 
 // The same, with as small a table as serves: up to level 2 only one or two rows are merged, and the whole table would cost more than the rest of the write.
@@ -128,8 +123,8 @@ fn fold_level(part: &mut [u32], level: usize, width: usize)
 // stays. Y takes the block times w^rev(c), which is the entry at c with its ten bits reversed.
 fn rebuild(header: ValidHeader, log: &mut [u32], level: usize, block: Block)
     requires level_bound { level < header.header.k }
-    requires lengths { (length log.old ≡ log_size header.header) × (length block.data.now ≡ header.header.s) }
-    ensures { log.new ≡ log_with header.header log.old (block.number ∷ block.data.now) level }
+    requires lengths { (length log.old ≡ log_size header.header) × (length block.words.now ≡ header.header.s) }
+    ensures { log.new ≡ log_with header.header log.old (block.entry.number ∷ block.entry.words.now) level }
 {
     let width = header.width();
     let e = code::number::reversed(10, header.header.c as usize);
@@ -149,19 +144,19 @@ fn check_writing(
     full: &[u32],
     log: &[u32],
     number: u32,
-    data: &[u32],
+    block: &[u32],
 ) -> Result<ValidHeader, Refusal>
-    ensures number { answer_number result ≡ write_number header (buffers raw.now full.now log.now) number data.now }
+    ensures number { answer_number result ≡ write_number header (buffers raw.now full.now log.now) number block.now }
     ensures same { IfOk result (λ v. v.header ≡ header) }
 {
     let valid = crate::buffers::check(header, raw, full, log)?;
-    if data.len() != header.s as usize {
+    if block.len() != header.s as usize {
         return Err(Refusal::Length);
     }
     // What the last tests ask, before any of them is gone by: so their order stands alone.
     let outside = valid.record_count() <= number as usize;
-    let fit = layout::words::all_data(data);
-    let blank = layout::words::is_blank(data);
+    let fit = layout::words::all_data(block);
+    let blank = layout::words::is_blank(block);
     if outside {
         return Err(Refusal::RecordNumber);
     }
@@ -174,8 +169,8 @@ fn check_writing(
     Ok(valid)
 }
 
-// Writes data to a record, and gives the header afterwards. Tests 1, 2 (the three buffers and the data), 4, 5, 11 (blank data); a refusal changes nothing.
-// Words that it reads from the buffers count modulo p.
+// Writes a block to a record, and gives the header afterwards. Tests 1, 2 (the three buffers and the block), 4, 5, 11 (a blank block); a refusal changes
+// nothing. Words that it reads from the buffers count modulo p.
 pub fn write(
     header: Header,
     raw: &mut [u32],
@@ -207,7 +202,7 @@ pub fn write(
         level,
         Block {
             number,
-            data: block,
+            words: block,
         },
     );
     Ok(Header { c: next, ..header })
