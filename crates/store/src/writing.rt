@@ -1,5 +1,5 @@
 // Writing: the raw record replaced, and the first empty level, or the full stripe, built anew.
-ghost use Rattle.std.specs.Prelude.{◌≡◌, ◌∷◌, suc, ◌+◌, ◌*◌, ◌-◌, ◌^◌, ◌≤◌, ◌<◌, length, IfOk};
+ghost use Rattle.std.specs.Prelude.{◌≡◌, ◌∷◌, suc, ◌+◌, ◌*◌, ◌-◌, ◌^◌, ◌≤◌, ◌<◌, length, take, drop, IfOk};
 ghost use Rattle.std.proofs.lemmas.List.Edits.{sets};
 ghost use Rattle.field.specs.Field.{fermat, root_of};
 ghost use Rattle.field.specs.Words.{Words};
@@ -7,7 +7,7 @@ ghost use Rattle.code.specs.Transform.{scaled};
 ghost use Rattle.layout.specs.Header.{log_size};
 ghost use Rattle.layout.specs.Records.{replaced};
 ghost use Rattle.layout.specs.Refusals.{answer_number};
-ghost use Rattle.store.specs.Buffers.{buffers};
+ghost use Rattle.store.specs.Buffers.{reduced, buffers};
 ghost use Rattle.store.specs.Writing.{log_with};
 ghost use Rattle.store.specs.steps.Writing.{half_start, gathered, folded, folded_both, Serves};
 ghost use Rattle.store.specs.StoreCalls.{write_number, written_as, write_answer, write_leaves};
@@ -45,6 +45,16 @@ fn put_row(row: &mut [u32], block: Block, g: u32)
     }
 }
 
+// Copies `count` words from index `from` on to index `to` on, each modulo p.
+fn copy_reduced(log: &mut [u32], from: usize, to: usize, count: usize)
+    requires count_bound { from + count ≤ to }
+    requires count_in_bounds { to + count ≤ length log.old }
+    ensures { log.new ≡ sets log.old to (reduced fermat.modulus (take count (drop from log.old))) }
+{
+    let (below, rest) = log.split_at_mut(to);
+    crate::opening::reduce_row(&mut rest[..count], &below[from..from + count]);
+}
+
 // Where X (half 0) or Y (half 1) of a level begins in the log.
 fn half_at(level: usize, half: usize, width: usize) -> usize
     requires { (level ≤ 10) × (half ≤ 1) × (width ≤ 129) }
@@ -69,10 +79,8 @@ fn gather(log: &mut [u32], level: usize, half: usize, block: Block, g: u32)
     let end = half_at(level, half, width) + code::number::two_to(level) * width;
     for l in (0..level).rev() {
         let size = code::number::two_to(l) * width;
-        let from = half_at(l, half, width);
-        // The levels below this one and the block's row fill as many words after it.
-        let (below, rest) = log.split_at_mut(end - 2 * size);
-        crate::opening::reduce_row(&mut rest[..size], &below[from..from + size]);
+        // What follows this level are those below it and the block's row: as many words again.
+        copy_reduced(log, half_at(l, half, width), end - 2 * size, size);
     }
     put_row(&mut log[end - width..end], block, g);
 }

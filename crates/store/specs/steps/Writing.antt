@@ -31,6 +31,5 @@ folded_both p v width l r = folded p v width l (take (2 ^ l * width) r) ++ folde
 pub record Serves (f : Field) (level : ℕ) (powers : List ℕ) : Type 0 where
   pub order : ℕ
   pub order_high : order ≤ 10
-  pub level_high : level ≤ 10
   pub serves : level ≤ suc order
   pub is_table : powers ≡ powers_of f.modulus (root_of f order) (2 ^ suc order)

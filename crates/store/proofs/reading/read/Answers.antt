@@ -1,0 +1,86 @@
+-- `store::reading::read` meets its contract: each test that holds or fails, in turn, and the part that is given. Assumes nothing.
+use mathlib.Core.Path.{◌≡◌, sym, ap, ◌∙◌}
+use mathlib.Core.Bool.{true}
+use mathlib.Core.List.{List, []}
+use Prim.Native.Nat.{ℕ, ◌+◌, ◌*◌, ◌-◌, ◌≤◌, ◌<◌}
+use native.Mathlib.Omega.{arith}
+use borrow.Author.Tests.{lt-ltb, le-ltb, eq-eqb, ne_eqb}
+use lib.ListN.{length, take, drop}
+use Rattle.std.specs.Prelude.{Result}
+use Rattle.std.specs.Result.{IsErrAnd}
+use Rattle.std.proofs.lemmas.Result.{err_from_is_err_and}
+use Rattle.layout.specs.declared.Header.{Header}
+use Rattle.layout.specs.declared.refusal.Refusal.{Refusal}
+use Rattle.layout.specs.Header.{header_fits, record_count, raw_size}
+use Rattle.layout.specs.Records.{record_in}
+use Rattle.layout.specs.Refusals.{refusal, number_of, answer_number}
+use Rattle.layout.proofs.Refusals.{header_passed_on, header_taken, some_refused, if_taken_lem, if_refused}
+use Rattle.store.specs.StoreCalls.{read_number, read_part, read_gives}
+use Rattle.store.proofs.reading.read.Goals as goal
+
+module _ (h : Header) (r : List ℕ) (i : ℕ) where
+  gives_none : {n : ℕ} → 0 < n → n ≡ read_number h r i → [] ≡ read_gives h r i
+  gives_none l e = sym (if_refused {n = read_number h r i} (record_in h.s r i) [] (λ z. omega (arith, e, z)))
+
+  -- a refusal that is passed on
+  passed_part : {A : Type 0} (words : A → List ℕ) (x : Refusal) (y : Result A Refusal) → IsErrAnd y (λ z. z ≡ x) → answer_number y ≡ read_number h r i
+      → read_part words y ≡ read_gives h r i
+  passed_part words x y p e = let q = err_from_is_err_and y p in rw q.1 (gives_none (some_refused x y p) e)
+
+  module _ (ok : true ≡ header_fits h) {n : ℕ} (en : n ≡ raw_size h) where
+    unequal : (length r ≡ n → ⊥) → 2 ≡ read_number h r i
+    unfolding refusal
+    unequal d = rw (sym ok, ← en, ne_eqb (length r) n d)
+
+    module _ (l : length r ≡ n) {m : ℕ} (em : m ≡ record_count h) where
+      outside : m ≤ i → 4 ≡ read_number h r i
+      unfolding refusal
+      outside o = rw (sym ok, eq-eqb (length r) (raw_size h) (l ∙ en), ← em, le-ltb i m o)
+
+      taken : i < m → 0 ≡ read_number h r i
+      unfolding refusal
+      taken b = rw (sym ok, eq-eqb (length r) (raw_size h) (l ∙ en), ← em, lt-ltb i m b)
+
+      part : i < m → take (i * h.s + h.s - i * h.s) (drop (i * h.s) r) ≡ read_gives h r i
+      part b =
+          let s : i * h.s + h.s - i * h.s ≡ h.s = omega arith in
+          ap (λ (w : ℕ). take w (drop (i * h.s) r)) s ∙ sym (if_taken_lem (record_in h.s r i) [] (sym (taken b)))
+
+pub returns-in_err-valid-clause-value : goal.returns-in_err-valid-clause-value
+returns-in_err-valid-clause-value c = header_passed_on c.args.header _ c.from_residual.result _ c.from_residual.ensures.1 c.in_err-valid.ensures
+
+pub returns-in_err-valid-clause-part : goal.returns-in_err-valid-clause-part
+returns-in_err-valid-clause-part c =
+    passed_part c.args.header c.args.raw.now c.args.number _ _ c.from_residual.result c.from_residual.ensures.1
+    (header_passed_on c.args.header _ c.from_residual.result _ c.from_residual.ensures.1 c.in_err-valid.ensures)
+
+pub returns-then-raw-raw_size-clause-value : goal.returns-then-raw-raw_size-clause-value
+returns-then-raw-raw_size-clause-value c =
+    let same = c.in_ok-valid.ensures in
+    unequal c.args.header c.args.raw.now c.args.number (header_taken _ _ same c.in_ok-valid.valid.fits) (c.raw_size.ensures ∙ ap raw_size same)
+    c.if-raw-raw_size.true
+
+pub returns-then-raw-raw_size-clause-part : goal.returns-then-raw-raw_size-clause-part
+returns-then-raw-raw_size-clause-part c =
+    let same = c.in_ok-valid.ensures in
+    gives_none c.args.header c.args.raw.now c.args.number (omega arith)
+    (unequal c.args.header c.args.raw.now c.args.number (header_taken _ _ same c.in_ok-valid.valid.fits) (c.raw_size.ensures ∙ ap raw_size same)
+    c.if-raw-raw_size.true)
+
+pub returns-then-record_count-number-clause-value : goal.returns-then-record_count-number-clause-value
+returns-then-record_count-number-clause-value c =
+    let same = c.in_ok-valid.ensures in
+    outside c.args.header c.args.raw.now c.args.number (header_taken _ _ same c.in_ok-valid.valid.fits) (c.raw_size.ensures ∙ ap raw_size same)
+    c.if-raw-raw_size.false (c.record_count.ensures ∙ ap record_count same) c.if-record_count-number.true
+
+pub returns-clause-value : goal.returns-clause-value
+returns-clause-value c =
+    let same = c.in_ok-valid.ensures in
+    taken c.args.header c.args.raw.now c.args.number (header_taken _ _ same c.in_ok-valid.valid.fits) (c.raw_size.ensures ∙ ap raw_size same)
+    c.if-raw-raw_size.false (c.record_count.ensures ∙ ap record_count same) c.if-record_count-number.false
+
+pub returns-clause-part : goal.returns-clause-part
+returns-clause-part c =
+    let same = c.in_ok-valid.ensures in
+    part c.args.header c.args.raw.now c.args.number (header_taken _ _ same c.in_ok-valid.valid.fits) (c.raw_size.ensures ∙ ap raw_size same)
+    c.if-raw-raw_size.false (c.record_count.ensures ∙ ap record_count same) c.if-record_count-number.false
