@@ -2,17 +2,19 @@
 #![tactic(auto)]
 
 ghost use Rattle.std.specs.Prelude.{◌≡◌};
+ghost use Rattle.layout.specs.Refusals.{answer_number};
 ghost use Rattle.power_table.specs.PowersCall.{powers_number, powers_leaves};
 
+use layout::Refusal;
+
 // Copies the table. Test 2 (out); a refusal changes nothing.
-pub fn powers(out: &mut [u32]) -> u32
-    ensures value { result ≡ powers_number out.old }
+pub fn powers(out: &mut [u32]) -> Result<(), Refusal>
+    ensures value { answer_number result ≡ powers_number out.old }
     ensures out_after { out.new ≡ powers_leaves out.old }
 {
     if out.len() != 2048 {
-        return 2;
+        return Err(Refusal::Length);
     }
-    let table = code::table_65537::powers();
-    layout::words::copy_row(out, 0, &table, 0, 2048);
-    0
+    out.copy_from_slice(&code::table_65537::powers());
+    Ok(())
 }

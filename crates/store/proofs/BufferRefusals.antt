@@ -5,8 +5,9 @@ use native.Mathlib.Omega.{arith}
 use lib.ListN.{length}
 use Rattle.layout.specs.declared.Header.{Header}
 use Rattle.layout.specs.Header.{header_fits, raw_size, full_size, log_size}
-use Rattle.layout.specs.Refusals.{Tests, done, test, refusal}
-use Rattle.layout.proofs.Refusals.{three_equal, test_holds, passes}
+use Rattle.layout.specs.Refusals.{Tests, done, test, refusal, number_of}
+use Rattle.layout.specs.declared.refusal.Refusal.{Refusal}
+use Rattle.layout.proofs.Refusals.{three_equal, test_holds, passes, some_number}
 use Rattle.store.specs.Buffers.{Buffers}
 use Rattle.store.specs.StoreCalls.{buffers_fit, buffers_number}
 
@@ -35,6 +36,11 @@ module _ (h : Header) (u : Buffers) where
         by false f b more d = refl
         by true true b more d = absurd (d refl)
         by true false b more d = rw (more refl)
+
+    -- a refusal that the tests of the buffers gave
+    pub passed_refused : (buffers_fit h u ≡ false → b ≡ false) → (x : Refusal) → number_of x ≡ buffers_number h u
+        → number_of x ≡ refusal (test (header_fits h) 1 (test b 2 rest))
+    passed_refused more x e = e ∙ held_refused more (λ z. omega (arith, some_number x, e, z))
 
     pub held_passed : Held → b ≡ true → refusal (test (header_fits h) 1 (test b 2 rest)) ≡ refusal rest
     held_passed H e = test_holds 1 (test b 2 rest) H.fitting ∙ test_holds 2 rest e

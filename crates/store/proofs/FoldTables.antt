@@ -1,24 +1,23 @@
--- The roots of a table of powers under which the halves of a level are folded: any table that has the roots of all levels that are merged. Assumes nothing.
-use mathlib.Core.Path.{◌≡◌, ap₂}
-use mathlib.Core.List.{List, ◌++◌}
-use Prim.Native.Nat.{ℕ, suc, ◌*◌, ◌^◌, ◌≤◌, ◌<◌}
+-- Tables of powers that serve a fold: the roots in them, and their powers, which are the factors. Assumes nothing.
+use mathlib.Core.Path.{◌≡◌, ap, ◌∙◌}
+use mathlib.Core.List.{List}
+use Prim.Native.Nat.{ℕ, zero, suc, ◌+◌, ◌/◌, ◌^◌, ◌≤◌, ◌<◌}
+use native.Mathlib.Nat.{mul-div_cancel}
 use native.Mathlib.Omega.{arith}
-use lib.ListN.{take, drop}
-use Rattle.field.specs.Field.{fermat, root_of, powers_of}
+use lib.ListN.{length, get_or}
+use Rattle.field.specs.Field.{fermat, root_of}
+use Rattle.field.proofs.PowerTables.{length_powers}
+use Rattle.code.specs.steps.Mixing.{RowFactors}
 use Rattle.code.proofs.Factors.{root_there, root_factors}
-use Rattle.store.specs.steps.Writing.{folded_both, root_entry, FoldFactors}
-use Rattle.store.proofs.Folding.{folded_same}
+use Rattle.store.specs.steps.Writing.{Serves}
 
--- all powers of the root of 2 ^ n records serve a level up to n + 1
-module _ {n level : ℕ} {powers : List ℕ} (is : powers ≡ powers_of 65537 (root_of fermat n) (2 ^ suc n)) (b : level ≤ suc n) (t : n ≤ 10) where
-  pub enough : FoldFactors 65537 level (2 ^ n) powers
-  enough = record { at = λ l lt. root_factors {n = n} {l = l} is (omega arith) t }
+-- entry 2 ^ order / 2 ^ l is the root of 2 ^ l records
+module _ {level l : ℕ} {powers : List ℕ} (s : Serves fermat level powers) (b : l < level) where
+  top_is : length powers / 2 ≡ 2 ^ s.order
+  top_is = ap (λ (n : ℕ). n / 2) (ap length s.is_table ∙ length_powers 65537 (root_of fermat s.order) (2 ^ suc s.order)) ∙ omega arith
 
-  entries : (l : ℕ) → l < level → root_entry powers (2 ^ n) l ≡ root_of fermat l
-  unfolding root_entry
-  entries l lt = root_there {n = n} {l = l} is (omega arith) t
+  pub served_factors : RowFactors 65537 (2 ^ l) (length powers / 2 / 2 ^ l) powers
+  served_factors = rw top_is (root_factors {n = s.order} {l = l} s.is_table (omega (arith, s.serves)) s.order_high)
 
-  pub both_same : (width : ℕ) (r : List ℕ) → folded_both 65537 (root_entry powers (2 ^ n)) width level r ≡ folded_both 65537 (root_of fermat) width level r
-  both_same width r =
-      ap₂ ◌++◌ (folded_same 65537 (root_entry powers (2 ^ n)) width (root_of fermat) level (take (2 ^ level * width) r) entries)
-      (folded_same 65537 (root_entry powers (2 ^ n)) width (root_of fermat) level (drop (2 ^ level * width) r) entries)
+  pub served_root : get_or powers (length powers / 2 / 2 ^ l) 0 ≡ root_of fermat l
+  served_root = rw top_is (root_there {n = s.order} {l = l} s.is_table (omega (arith, s.serves)) s.order_high)

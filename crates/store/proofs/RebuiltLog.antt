@@ -63,9 +63,10 @@ pub record Places (width level a e : ℕ) : Type 0 where
   pub start_is : a ≡ half_start width level 0
   pub end_is : e ≡ a + (2 ^ level * width + 2 ^ level * width)
 
-pub places : (s level : ℕ) {a e : ℕ} → a ≡ half_start (s + 1) level 0 → e ≡ half_start (s + 1) (level + 1) 0 → Places (suc s) level a e
-places s level ea ee =
-    rw (← add-one s) (record { start_is = ea; end_is = (rw (add-one level) at ee) ∙ omega (arith, next_level (s + 1) level) })
+pub places : (width level : ℕ) {w a e : ℕ} → w ≡ width → a ≡ half_start w level 0 → e ≡ half_start w (level + 1) 0 → Places width level a e
+places width level {a = a} ew ea ee =
+    let at : a ≡ half_start width level 0 = rw ew at ea in
+    record { start_is = at; end_is = (rw (ew, add-one level) at ee) ∙ omega (arith, next_level width level) }
 
 module _ {width level a e : ℕ} (h : Places width level a e) where
   place_start : a ≡ (2 ^ suc level - 2) * width

@@ -1,13 +1,12 @@
 -- What opening, writing and reading answer, and what they leave in each lent buffer, for every input. Assumes nothing: these are definitions.
-use Rattle.std.specs.Prelude.{Bool, ◌&&◌, not, List, [], ℕ, ltb, eqb, length}
+use Rattle.std.specs.Prelude.{Bool, ◌&&◌, not, List, [], ℕ, ltb, eqb, length, Result, Ok, Err}
 use Rattle.layout.specs.declared.Header.{Header}
-use Rattle.store.specs.declared.Opened.{Opened}
-use Rattle.store.specs.declared.Written.{Written}
+use Rattle.layout.specs.declared.refusal.Refusal.{Refusal}
 use Rattle.layout.specs.Header.{header_of, record_count, header_fits, raw_size, full_size, log_size}
 use Rattle.layout.specs.Records.{are_data, is_blank, record_in, records_fit}
 use Rattle.store.specs.Buffers.{Buffers, buffers, opened}
 use Rattle.store.specs.Writing.{next_header, written}
-use Rattle.layout.specs.Refusals.{Tests, done, test, refusal, if_taken}
+use Rattle.layout.specs.Refusals.{Tests, done, test, refusal, if_taken, number_of}
 
 -- THE BUFFERS that a vault lives in have their lengths; the number of a call by this and by its header
 abbrev pub buffers_fit : Header → Buffers → Bool
@@ -16,7 +15,16 @@ buffers_fit h u = eqb (length u.raw) (raw_size h) && (eqb (length u.full) (full_
 abbrev pub buffers_number : Header → Buffers → ℕ
 buffers_number h u = refusal (test (header_fits h) 1 (test (buffers_fit h u) 2 done))
 
--- OPENING
+-- OPENING answers a number and the header of the vault, which is 0, 0, 0 where it is refused
+pub record Opened : Type 0 where
+  pub number : ℕ
+  pub header : Header
+
+-- what an answer of the code says
+abbrev pub opened_as : Result Header Refusal → Opened
+opened_as (Ok h) = record { number = 0; header = h }
+opened_as (Err e) = record { number = number_of e; header = header_of 0 0 0 }
+
 abbrev pub open_number : (k s : ℕ) → (raw full log : List ℕ) → ℕ
 open_number k s raw full log =
     let h = header_of k s 0 in
@@ -29,7 +37,17 @@ open_answer k s raw full log =
 abbrev pub open_leaves : (k s : ℕ) → (raw full log : List ℕ) → Buffers
 open_leaves k s raw full log = if_taken (open_number k s raw full log) (opened (header_of k s 0) raw) (buffers raw full log)
 
--- WRITING. The tests that a write has had at all times, and then more
+-- WRITING answers a number and the header afterwards, which is the one before where it is refused
+pub record Written : Type 0 where
+  pub number : ℕ
+  pub header : Header
+
+-- what an answer of the code says
+abbrev pub written_as : (before : Header) → Result Header Refusal → Written
+written_as h (Ok after) = record { number = 0; header = after }
+written_as h (Err e) = record { number = number_of e; header = h }
+
+-- the tests that a write has had at all times, and then more
 abbrev pub write_tests : Header → Buffers → (number : ℕ) → (block : List ℕ) → (more : Tests) → Tests
 write_tests h u i b more =
     test (header_fits h) 1
@@ -64,7 +82,11 @@ earlier_answer h u i b = numbered (earlier_number h u i b) h
 abbrev pub earlier_leaves : Header → Buffers → (number : ℕ) → (block : List ℕ) → Buffers
 earlier_leaves h u i b = leaving (earlier_number h u i b) h u i b
 
--- READING gives a part of the raw buffer; a refused one an empty part
+-- READING gives a part of the raw buffer; a refused one an empty part. First what an answer of the code says, where `words` are those of a part
+abbrev pub read_part : {A : Type 0} → (words : A → List ℕ) → Result A Refusal → List ℕ
+read_part words (Ok p) = words p
+read_part words (Err e) = []
+
 abbrev pub read_number : Header → (raw : List ℕ) → (number : ℕ) → ℕ
 read_number h raw i = refusal (test (header_fits h) 1 (test (eqb (length raw) (raw_size h)) 2 (test (ltb i (record_count h)) 4 done)))
 

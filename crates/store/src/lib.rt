@@ -1,23 +1,8 @@
-// The calls that open, write and read, each proved for every input.
+// The calls that open, write and read, each proved for every input. Those that change a vault are lent its raw copy, full stripe and log as three slices: the
+// C interface lends three.
 #![tactic(auto)]
-
-use layout::Header;
 
 mod buffers;
 pub mod opening;
 pub mod reading;
 pub mod writing;
-
-// What opening answers: the number, and the header of the vault.
-#[derive(Clone, Copy)]
-pub struct Opened {
-    pub number: u32,
-    pub header: Header,
-}
-
-// What writing answers: the number, and the header afterwards.
-#[derive(Clone, Copy)]
-pub struct Written {
-    pub number: u32,
-    pub header: Header,
-}

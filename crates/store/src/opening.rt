@@ -1,102 +1,95 @@
 // Opening: the full stripe built from raw records.
-ghost use Rattle.std.specs.Prelude.{◌≡◌, ◌∷◌, ◌+◌, ◌*◌, ◌^◌, ◌≤◌, ◌<◌, suc, length};
-ghost use Rattle.std.proofs.lemmas.List.Edits.{sets};
+ghost use Rattle.std.specs.Prelude.{◌≡◌, ◌∷◌, ◌+◌, ◌*◌, ◌^◌, ◌≤◌, ◌<◌, suc, length, IfOk};
 ghost use Rattle.field.specs.Field.{fermat};
-ghost use Rattle.layout.specs.Header.{header_of};
-ghost use Rattle.layout.specs.Records.{record_in};
+ghost use Rattle.layout.specs.Header.{header_of, raw_size, full_size};
+ghost use Rattle.layout.specs.Refusals.{answer_number};
 ghost use Rattle.store.specs.Buffers.{reduced, full_stripe};
-ghost use Rattle.code.specs.steps.Storing.{stored};
-ghost use Rattle.store.specs.steps.Opening.{residue_from, WholeWords};
-ghost use Rattle.store.specs.StoreCalls.{open_number, open_answer, open_leaves};
+ghost use Rattle.store.specs.steps.Opening.{WholeWords};
+ghost use Rattle.store.specs.StoreCalls.{open_number, opened_as, open_answer, open_leaves};
 
-use crate::Opened;
-use layout::Header;
+use layout::{Header, Refusal, ValidHeader};
 
-// Stores `count` words from index `from` on, each modulo p, from index `to` on.
-fn reduce_row(full: &mut [u32], to: usize, raw: &[u32], from: usize, count: usize)
-    requires { (to + count ≤ length full.old) × (from + count ≤ length raw.now) }
-    ensures { full.new ≡ stored to (residue_from fermat.modulus raw.now from) count full.old }
+// Stores as many words, each modulo p. By index: of words that an adapter of `iter_mut` writes nothing is known.
+pub(crate) fn reduce_row(out: &mut [u32], words: &[u32])
+    requires { length out.old ≡ length words.now }
+    ensures { out.new ≡ reduced fermat.modulus words.now }
 {
-    for j in 0..count {
-        let x = from + j;
-        let y = to + j;
-        full[y] = field::reduce(raw[x]);
+    for j in 0..words.len() {
+        out[j] = field::reduce(words[j]);
     }
 }
 
-// Record i as a block from index `at` on: its number, and its data modulo p. Words of the field, `whole`, are copied.
-fn block_row(full: &mut [u32], at: usize, raw: &[u32], i: usize, s: usize, whole: bool)
-    requires s_in_bounds { at + suc s ≤ length full.old }
-    requires s_in_bounds_2 { i * s + s ≤ length raw.now }
+// Record i as a block: its number, and its data modulo p. Words of the field, `whole`, are copied.
+fn block_row(row: &mut [u32], i: usize, words: &[u32], whole: bool)
+    requires row_len { length row.old ≡ suc (length words.now) }
     requires i_lt_modulus { i < fermat.modulus }
-    requires whole_words { WholeWords fermat.modulus whole raw.now }
-    ensures { full.new ≡ sets full.old at (i ∷ reduced fermat.modulus (record_in s raw.now i)) }
+    requires whole_words { WholeWords fermat.modulus whole words.now }
+    ensures { row.new ≡ i ∷ reduced fermat.modulus words.now }
 {
-    full[at] = i as u32;
-    let to = at + 1;
-    let from = i * s;
+    row[0] = i as u32;
+    let rest = &mut row[1..];
     if whole {
-        layout::words::copy_row(full, to, raw, from, s);
+        rest.copy_from_slice(words);
     } else {
-        reduce_row(full, to, raw, from, s);
+        reduce_row(rest, words);
     }
 }
 
 // Builds the full stripe of the raw records, whose words are `whole` after test 5, but any in buffers that no opening made.
-pub(crate) fn build(raw: &[u32], full: &mut [u32], k: usize, s: usize, whole: bool)
-    requires k_bound { (k ≤ 10) × (s ≤ 128) }
-    requires raw_len { (length raw.now ≡ 2 ^ k * s) × (length full.old ≡ 2 ^ suc k * suc s) }
+pub(crate) fn build(header: ValidHeader, raw: &[u32], full: &mut [u32], whole: bool)
+    requires lengths { (length raw.now ≡ raw_size header.header) × (length full.old ≡ full_size header.header) }
     requires whole_words { WholeWords fermat.modulus whole raw.now }
-    ensures { full.new ≡ full_stripe (header_of k s 0) raw.now }
+    ensures { full.new ≡ full_stripe header.header raw.now }
 {
-    let n = code::number::two_to(k);
-    let width = s + 1;
-    let mut at = 0;
-    for i in 0..n {
-        block_row(full, at, raw, i, s, whole);
-        at += width;
+    let k = header.header.k as usize;
+    let s = header.header.s as usize;
+    let width = header.width();
+    for i in 0..header.record_count() {
+        let at = i * width;
+        let from = i * s;
+        block_row(&mut full[at..at + width], i, &raw[from..from + s], whole);
     }
     let st = code::Stripe {
         level: k,
-        k: k,
+        k,
         first: 0,
-        width: width,
+        width,
     };
     encoder::code(full, st);
 }
 
-// The number that opening gives: tests 1, 2, 5.
-fn open_number(k: u32, s: u32, raw: &[u32], full: &[u32], log: &[u32]) -> u32
-    ensures { result ≡ open_number k s raw.now full.now log.now }
+// Tests 1, 2 and 5 of an opening.
+fn check_opening(
+    k: u32,
+    s: u32,
+    raw: &[u32],
+    full: &[u32],
+    log: &[u32],
+) -> Result<ValidHeader, Refusal>
+    ensures number { answer_number result ≡ open_number k s raw.now full.now log.now }
+    ensures same { IfOk result (λ v. v.header ≡ header_of k s 0) }
 {
-    let header = Header { k: k, s: s, c: 0 };
-    let early = crate::buffers::buffers_number(header, raw, full, log);
-    if early != 0 {
-        return early;
+    let valid = crate::buffers::check(Header { k, s, c: 0 }, raw, full, log)?;
+    if !layout::words::records_fit(raw, s as usize, valid.record_count()) {
+        return Err(Refusal::DataWord);
     }
-    if !layout::words::records_fit(raw, s as usize, code::number::two_to(k as usize)) {
-        return 5;
-    }
-    0
+    Ok(valid)
 }
 
-// Opens a vault over raw records, which are its raw copy and do not change. Tests 1, 2 (the three buffers), 5. A refused opening gives the header 0, 0, 0.
-pub fn open(k: u32, s: u32, raw: &[u32], full: &mut [u32], log: &mut [u32]) -> Opened
-    ensures value { result ≡ open_answer k s raw.now full.old log.old }
+// Opens a vault over raw records, which are its raw copy and do not change, and gives its header. Tests 1, 2 (the three buffers), 5.
+pub fn open(
+    k: u32,
+    s: u32,
+    raw: &[u32],
+    full: &mut [u32],
+    log: &mut [u32],
+) -> Result<Header, Refusal>
+    ensures value { opened_as result ≡ open_answer k s raw.now full.old log.old }
     ensures full_after { full.new ≡ (open_leaves k s raw.now full.old log.old).full }
     ensures log_after { log.new ≡ (open_leaves k s raw.now full.old log.old).log }
 {
-    let number = open_number(k, s, raw, full, log);
-    if number != 0 {
-        return Opened {
-            number: number,
-            header: Header { k: 0, s: 0, c: 0 },
-        };
-    }
-    build(raw, full, k as usize, s as usize, true);
-    layout::words::clear(log);
-    Opened {
-        number: 0,
-        header: Header { k: k, s: s, c: 0 },
-    }
+    let valid = check_opening(k, s, raw, full, log)?;
+    build(valid, raw, full, true);
+    log.fill(0);
+    Ok(valid.header)
 }

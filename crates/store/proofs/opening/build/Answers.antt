@@ -1,17 +1,17 @@
 -- `store::opening::build` meets its contract, by the loop that stores the blocks. Assumes nothing.
-use Rattle.store.proofs.Building.{building_start, building_turn, building_filled, building_words, built}
+use Rattle.store.proofs.Building.{building_start, building_turn, building_words, built}
 use Rattle.store.proofs.opening.build.Goals as goal
 
 pub loop-i-init : goal.loop-i-init
-loop-i-init c = building_start c.requires.k_bound.0 c.two_to-n.ensures c.requires.raw_len.0 c.requires.raw_len.1
+loop-i-init c =
+    let h = c.args.header in
+    building_start h.header h.fits c.record_count-i-end.ensures c.width-width.ensures c.requires.lengths.0 c.requires.lengths.1
 
 pub loop-i-preserved : goal.loop-i-preserved
-loop-i-preserved c = building_turn c.loop-i.invariant c.loop-i-test.true c.block_row.auto.full c.block_row.ensures
+loop-i-preserved c = building_turn c.loop-i.invariant c.loop-i-test.true c.block_row.ensures
 
 pub code-requires-clause-words : goal.code-requires-clause-words
 code-requires-clause-words c = rw (← c.loop-i.invariant.n_is) (building_words c.loop-i.invariant c.loop-i-test.false)
 
 pub returns : goal.returns
-returns c =
-    built c.args.raw.now c.loop-i.full c.args.k c.args.s _ c.loop-i.invariant.n_is
-    (building_filled c.loop-i.invariant c.loop-i-test.false) c.code.ensures
+returns c = built c.loop-i.invariant c.args.header.header.c c.loop-i-test.false c.code.ensures

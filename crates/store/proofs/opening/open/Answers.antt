@@ -3,8 +3,7 @@ use mathlib.Core.Path.{◌≡◌, sym, ap, ◌∙◌}
 use mathlib.Core.List.{List}
 use Prim.Native.Nat.{ℕ}
 use lib.ListN.{length, replicate}
-use Rattle.layout.specs.Header.{header_of}
-use Rattle.layout.proofs.Bounds.{fits}
+use Rattle.layout.specs.Header.{header_of, raw_size, full_size}
 use Rattle.layout.proofs.RecordWords.{data_words, field_words}
 use Rattle.layout.proofs.Refusals.{if_taken_lem}
 use Rattle.store.specs.Buffers.{Buffers, buffers, opened}
@@ -17,22 +16,17 @@ emptied k s r f g e q =
     q ∙ ap (λ (n : ℕ). replicate n 0) (open_taken k s r f g e).log_long
     ∙ ap (λ (b : Buffers). b.log) (sym (if_taken_lem (opened (header_of k s 0) r) (buffers r f g) e))
 
-pub build-requires-clause-k_bound : goal.build-requires-clause-k_bound
-build-requires-clause-k_bound c =
-    let t = open_taken c.args.k c.args.s c.args.raw.now c.args.full.now c.args.log.now (sym c.open_number-number.ensures ∙ c.if-number-ne0.false) in
-    let z = fits (header_of c.args.k c.args.s 0) t.fitting in
-    (z.k_high, z.s_high)
-
-pub build-requires-clause-raw_len : goal.build-requires-clause-raw_len
-build-requires-clause-raw_len c =
-    let t = open_taken c.args.k c.args.s c.args.raw.now c.args.full.now c.args.log.now (sym c.open_number-number.ensures ∙ c.if-number-ne0.false) in
-    (t.raw_long, t.full_long)
+pub build-requires-clause-lengths : goal.build-requires-clause-lengths
+build-requires-clause-lengths c =
+    let e = c.in_ok-valid.ensures in
+    let t = open_taken c.args.k c.args.s c.args.raw.now c.args.full.now c.args.log.now (sym e.number) in
+    (t.raw_long ∙ ap raw_size (sym e.same), t.full_long ∙ ap full_size (sym e.same))
 
 pub build-requires-clause-whole_words : goal.build-requires-clause-whole_words
 build-requires-clause-whole_words c =
-    let d = open_data c.args.k c.args.s c.args.raw.now c.args.full.now c.args.log.now (sym c.open_number-number.ensures ∙ c.if-number-ne0.false) in
+    let d = open_data c.args.k c.args.s c.args.raw.now c.args.full.now c.args.log.now (sym c.in_ok-valid.ensures.number) in
     record { words_of = λ _. field_words (data_words _ d) }
 
 pub returns-clause-log_after : goal.returns-clause-log_after
 returns-clause-log_after c =
-    emptied c.args.k c.args.s c.args.raw.now c.args.full.now c.args.log.now (sym c.open_number-number.ensures ∙ c.if-number-ne0.false) c.clear.ensures
+    emptied c.args.k c.args.s c.args.raw.now c.args.full.now c.args.log.now (sym c.in_ok-valid.ensures.number) (c.fill.ensures.after (λ y e. e))

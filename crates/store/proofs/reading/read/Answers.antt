@@ -1,62 +1,86 @@
--- `store::reading::read` meets its contract. Assumes nothing.
+-- `store::reading::read` meets its contract: each test that holds or fails, in turn, and the part that is given. Assumes nothing.
 use mathlib.Core.Path.{◌≡◌, sym, ap, ◌∙◌}
+use mathlib.Core.Bool.{true}
 use mathlib.Core.List.{List, []}
-use Prim.Native.Nat.{ℕ, suc, ◌+◌, ◌*◌, ◌-◌, ◌≤◌, ◌<◌}
+use Prim.Native.Nat.{ℕ, ◌+◌, ◌*◌, ◌-◌, ◌≤◌, ◌<◌}
 use native.Mathlib.Omega.{arith}
-use native.Mathlib.Nat.{mul-le-mul}
-use borrow.Author.Tests.{ltb-true, eqb-true}
-use lib.Dec.{ltb, eqb}
+use borrow.Author.Tests.{lt-ltb, le-ltb, eq-eqb, ne_eqb}
 use lib.ListN.{length, take, drop}
+use Rattle.std.specs.Prelude.{Result}
+use Rattle.std.specs.Result.{IsErrAnd}
+use Rattle.std.proofs.lemmas.Result.{err_from_is_err_and}
 use Rattle.layout.specs.declared.Header.{Header}
+use Rattle.layout.specs.declared.refusal.Refusal.{Refusal}
 use Rattle.layout.specs.Header.{header_fits, record_count, raw_size}
 use Rattle.layout.specs.Records.{record_in}
-use Rattle.layout.specs.Refusals.{Tests, done, test}
-use Rattle.store.specs.StoreCalls.{read_number, read_gives}
-use Rattle.layout.proofs.Bounds.{fits}
-use Rattle.layout.proofs.Refusals.{passes, if_taken_lem, if_refused}
+use Rattle.layout.specs.Refusals.{refusal, number_of, answer_number}
+use Rattle.layout.proofs.Refusals.{header_passed_on, header_taken, some_refused, if_taken_lem, if_refused}
+use Rattle.store.specs.StoreCalls.{read_number, read_part, read_gives}
 use Rattle.store.proofs.reading.read.Goals as goal
 
--- a reading that is taken stays inside
-record Inside (h : Header) (r : List ℕ) (i : ℕ) : Type 0 where
-  long : length r ≡ raw_size h
-  small : raw_size h ≤ 131072
-  room : i * h.s + h.s ≤ raw_size h
+module _ (h : Header) (r : List ℕ) (i : ℕ) where
+  gives_none : {n : ℕ} → 0 < n → n ≡ read_number h r i → [] ≡ read_gives h r i
+  gives_none l e = sym (if_refused {n = read_number h r i} (record_in h.s r i) [] (λ z. omega (arith, e, z)))
 
-inside : (h : Header) (r : List ℕ) (i : ℕ) → read_number h r i ≡ 0 → Inside h r i
-inside h r i e =
-    let later : Tests = test (ltb i (record_count h)) 4 done in
-    let a = passes (header_fits h) 1 (test (eqb (length r) (raw_size h)) 2 later) e (omega arith) in
-    let b = passes (eqb (length r) (raw_size h)) 2 later a.1 (omega arith) in
-    let d = passes (ltb i (record_count h)) 4 done b.1 (omega arith) in
-    let l : i < record_count h = ltb-true i (record_count h) d.0 in
-    record {
-      long = eqb-true (length r) (raw_size h) b.0;
-      small = (fits h a.0).raw_low;
-      room = omega (arith, mul-le-mul {n₁ = suc i} {m₁ = h.s} {n₂ = record_count h} {m₂ = h.s} l (omega arith));
-    }
+  -- a refusal that is passed on
+  passed_part : {A : Type 0} (words : A → List ℕ) (x : Refusal) (y : Result A Refusal) → IsErrAnd y (λ z. z ≡ x) → answer_number y ≡ read_number h r i
+      → read_part words y ≡ read_gives h r i
+  passed_part words x y p e = let q = err_from_is_err_and y p in rw q.1 (gives_none (some_refused x y p) e)
 
-gives_none : (h : Header) (r : List ℕ) (i : ℕ) → (read_number h r i ≡ 0 → ⊥) → read_gives h r i ≡ []
-gives_none h r i d = if_refused (record_in h.s r i) [] d
+  module _ (ok : true ≡ header_fits h) {n : ℕ} (en : n ≡ raw_size h) where
+    unequal : (length r ≡ n → ⊥) → 2 ≡ read_number h r i
+    unfolding refusal
+    unequal d = rw (sym ok, ← en, ne_eqb (length r) n d)
 
-gives_part : (h : Header) (r : List ℕ) (i : ℕ) → read_number h r i ≡ 0 → read_gives h r i ≡ record_in h.s r i
-gives_part h r i e = if_taken_lem (record_in h.s r i) [] e
+    module _ (l : length r ≡ n) {m : ℕ} (em : m ≡ record_count h) where
+      outside : m ≤ i → 4 ≡ read_number h r i
+      unfolding refusal
+      outside o = rw (sym ok, eq-eqb (length r) (raw_size h) (l ∙ en), ← em, le-ltb i m o)
 
-pub returns-then-read_number-ne0 : goal.returns-then-read_number-ne0
-returns-then-read_number-ne0 c =
-    sym (gives_none c.args.header c.args.raw.now c.args.number (λ e. c.if-read_number-ne0.true (c.read_number.ensures ∙ e)))
+      taken : i < m → 0 ≡ read_number h r i
+      unfolding refusal
+      taken b = rw (sym ok, eq-eqb (length r) (raw_size h) (l ∙ en), ← em, lt-ltb i m b)
 
-pub offset_bounds-raw-from : goal.offset_bounds-raw-from
-offset_bounds-raw-from c =
-    omega (arith, inside c.args.header c.args.raw.now c.args.number (sym c.read_number.ensures ∙ c.if-read_number-ne0.false))
+      part : i < m → take (i * h.s + h.s - i * h.s) (drop (i * h.s) r) ≡ read_gives h r i
+      part b =
+          let s : i * h.s + h.s - i * h.s ≡ h.s = omega arith in
+          ap (λ (w : ℕ). take w (drop (i * h.s) r)) s ∙ sym (if_taken_lem (record_in h.s r i) [] (sym (taken b)))
 
-pub slice_bounds-result-end-2 : goal.slice_bounds-result-end-2
-slice_bounds-result-end-2 c =
-    omega (arith, inside c.args.header c.args.raw.now c.args.number (sym c.read_number.ensures ∙ c.if-read_number-ne0.false))
+pub returns-in_err-valid-clause-value : goal.returns-in_err-valid-clause-value
+returns-in_err-valid-clause-value c = header_passed_on c.args.header _ c.from_residual.result _ c.from_residual.ensures.1 c.in_err-valid.ensures
 
-pub returns : goal.returns
-returns c =
-    let a = c.args in
-    let n = a.number * a.header.s in
-    let e : n + a.header.s - n ≡ a.header.s = omega arith in
-    ap (λ (m : ℕ). take m (drop n a.raw.now)) e
-    ∙ sym (gives_part a.header a.raw.now a.number (sym c.read_number.ensures ∙ c.if-read_number-ne0.false))
+pub returns-in_err-valid-clause-part : goal.returns-in_err-valid-clause-part
+returns-in_err-valid-clause-part c =
+    passed_part c.args.header c.args.raw.now c.args.number _ _ c.from_residual.result c.from_residual.ensures.1
+    (header_passed_on c.args.header _ c.from_residual.result _ c.from_residual.ensures.1 c.in_err-valid.ensures)
+
+pub returns-then-raw-raw_size-clause-value : goal.returns-then-raw-raw_size-clause-value
+returns-then-raw-raw_size-clause-value c =
+    let same = c.in_ok-valid.ensures in
+    unequal c.args.header c.args.raw.now c.args.number (header_taken _ _ same c.in_ok-valid.valid.fits) (c.raw_size.ensures ∙ ap raw_size same)
+    c.if-raw-raw_size.true
+
+pub returns-then-raw-raw_size-clause-part : goal.returns-then-raw-raw_size-clause-part
+returns-then-raw-raw_size-clause-part c =
+    let same = c.in_ok-valid.ensures in
+    gives_none c.args.header c.args.raw.now c.args.number (omega arith)
+    (unequal c.args.header c.args.raw.now c.args.number (header_taken _ _ same c.in_ok-valid.valid.fits) (c.raw_size.ensures ∙ ap raw_size same)
+    c.if-raw-raw_size.true)
+
+pub returns-then-record_count-number-clause-value : goal.returns-then-record_count-number-clause-value
+returns-then-record_count-number-clause-value c =
+    let same = c.in_ok-valid.ensures in
+    outside c.args.header c.args.raw.now c.args.number (header_taken _ _ same c.in_ok-valid.valid.fits) (c.raw_size.ensures ∙ ap raw_size same)
+    c.if-raw-raw_size.false (c.record_count.ensures ∙ ap record_count same) c.if-record_count-number.true
+
+pub returns-clause-value : goal.returns-clause-value
+returns-clause-value c =
+    let same = c.in_ok-valid.ensures in
+    taken c.args.header c.args.raw.now c.args.number (header_taken _ _ same c.in_ok-valid.valid.fits) (c.raw_size.ensures ∙ ap raw_size same)
+    c.if-raw-raw_size.false (c.record_count.ensures ∙ ap record_count same) c.if-record_count-number.false
+
+pub returns-clause-part : goal.returns-clause-part
+returns-clause-part c =
+    let same = c.in_ok-valid.ensures in
+    part c.args.header c.args.raw.now c.args.number (header_taken _ _ same c.in_ok-valid.valid.fits) (c.raw_size.ensures ∙ ap raw_size same)
+    c.if-raw-raw_size.false (c.record_count.ensures ∙ ap record_count same) c.if-record_count-number.false

@@ -1,25 +1,23 @@
--- `store::writing::copy_reduced` meets its contract, by the loop that stores of proofs/Stores. Assumes nothing.
-use mathlib.Core.Path.{ap, ◌∙◌}
-use Prim.Native.Nat.{ℕ, ◌+◌, ◌%◌, ◌≤◌}
-use native.Mathlib.Omega.{arith}
-use lib.ListN.{length, take, drop}
+-- `store::writing::copy_reduced` meets its contract: what is copied stands before the place that it is copied to. Assumes nothing.
+use Rattle.std.proofs.Common.{◌≡◌, ℕ, List, ◌++◌, ◌+◌, ◌-◌, ◌≤◌, length, take, drop, sym, ap, ap₂, ◌∙◌, arith}
+use borrow.Rule.Slice.PartMut.{put_mid}
+use Rattle.std.proofs.lemmas.List.Edits.{sets}
+use Rattle.field.proofs.WordLists.{part_inside}
 use Rattle.store.specs.Buffers.{reduced}
-use Rattle.code.proofs.RowLaws.{storing_start, storing_turn, storing_done, storing_front, stored_list}
-use Rattle.store.proofs.Stores.{length_copy, copy_at}
+use Rattle.store.proofs.Stores.{length_copy, put_over}
 use Rattle.store.proofs.writing.copy_reduced.Goals as goal
 
-pub loop-j-init : goal.loop-j-init
-loop-j-init c = storing_start _ _ _ _
-
-pub loop-j-preserved : goal.loop-j-preserved
-loop-j-preserved c =
-    storing_turn c.loop-j.invariant c.loop-j-test.true
-    (c.reduce.ensures ∙ ap (λ (x : ℕ). x % 65537) (storing_front c.loop-j.invariant (c.args.from + c.loop-j.j) (omega arith)))
+copied : (log : List ℕ) (from to n : ℕ) {x y r : List ℕ} → from + n ≤ to → to + n ≤ length log → x ≡ take to log → y ≡ drop to log
+    → r ≡ reduced 65537 (take (from + n - from) (drop from x))
+    → x ++ (r ++ drop n y) ≡ sets log to (reduced 65537 (take n (drop from log)))
+copied log from to n {r = r} b h ex ey er =
+    let es : from + n - from ≡ n = omega arith in
+    let part : r ≡ reduced 65537 (take n (drop from log)) =
+    er ∙ ap (reduced 65537) (ap₂ (λ (m : ℕ) (z : List ℕ). take m (drop from z)) es ex ∙ part_inside from n to log b) in
+    rw (ex, ey) (put_over to n log r (sym (ap length part ∙ length_copy 65537 from n log (omega arith))) h) ∙ ap (sets log to) part
 
 pub returns : goal.returns
 returns c =
     let a = c.args in
-    let h : a.from + a.count ≤ length a.log.now = omega arith in
-    storing_done c.loop-j.invariant c.loop-j-test.false
-    ∙ stored_list a.to _ a.count (reduced 65537 (take a.count (drop a.from a.log.now))) a.log.now
-    (length_copy 65537 a.from a.count a.log.now h) (copy_at 65537 a.from a.count a.log.now h)
+    let e = c.split_at_mut-below.ensures in
+    copied a.log.now a.from a.to a.count c.requires.count_bound c.requires.count_in_bounds e.front e.back c.reduce_row.ensures

@@ -1,32 +1,33 @@
--- `store::writing::put_row` meets its contract, by the loop that stores of code/proofs/RowLaws. Assumes nothing.
-use mathlib.Core.Path.{ap₂, ◌∙◌}
-use Prim.Native.Nat.{ℕ, suc, ◌+◌}
-use native.Mathlib.Numerals.{add-one}
-use lib.ListN.{length, set}
-use lib.Seq.{sets}
+-- `store::writing::put_row` meets its contract, by the laws of a loop that stores words. Assumes nothing.
+use Rattle.std.proofs.Common.{◌≡◌, sym, ap, ◌∙◌, ℕ, suc, ◌∷◌, zero-add, get_or, length, arith}
+use Rattle.field.specs.Residue.{times}
 use Rattle.code.specs.Transform.{scaled}
 use Rattle.code.proofs.Shapes.{length_scaled, scaled_at}
-use Rattle.code.proofs.RowLaws.{storing_start, storing_turn, storing_done, stored_list}
+use Rattle.store.proofs.Stores.{stored_all, lent_others, row_put}
+use Rattle.code.proofs.RowLaws.{storing_start, storing_turn, storing_done}
 use Rattle.store.proofs.writing.put_row.Goals as goal
 
 pub mul-requires : goal.mul-requires
-mul-requires c = (c.requires.g_bound, c.requires.words.word 0)
+mul-requires c = (c.requires.g_bound, c.args.block.in_field.word 0)
 
 pub loop-j-init : goal.loop-j-init
 loop-j-init c = storing_start _ _ _ _
 
 pub mul-requires-in-loop-j : goal.mul-requires-in-loop-j
-mul-requires-in-loop-j c = (c.requires.g_bound, c.requires.words.word (suc c.loop-j.j))
+mul-requires-in-loop-j c = (c.requires.g_bound, c.args.block.in_field.word (suc c.loop-j.j))
 
 pub loop-j-preserved : goal.loop-j-preserved
-loop-j-preserved c = storing_turn c.loop-j.invariant c.loop-j-test.true c.mul-in-loop-j.ensures
+loop-j-preserved c = rw zero-add at (storing_turn c.loop-j.invariant c.loop-j-test.true c.mul-in-loop-j.ensures)
 
 pub returns : goal.returns
 unfolding scaled
 returns c =
     let a = c.args in
-    let row = scaled 65537 a.g a.block.now in
-    storing_done c.loop-j.invariant c.loop-j-test.false
-    ∙ stored_list (a.at + 1) _ (length a.block.now) row (set a.log.now a.at c.mul.result)
-    (length_scaled 65537 a.g a.block.now) (scaled_at 65537 a.g a.block.now)
-    ∙ ap₂ (λ (n x : ℕ). sets (set a.log.now a.at x) n row) (add-one a.at) c.mul.ensures
+    let ws = a.block.words.now in
+    let row = scaled 65537 a.g ws in
+    let n = length_scaled 65537 a.g ws in
+    let others = storing_done c.loop-j.invariant c.loop-j-test.false
+    ∙ rw n at (stored_all (λ i. times 65537 a.g (get_or ws i 0)) row _ (lent_others a.row.now c.mul.result (length ws) c.requires.row_len ∙ sym n)
+    (λ i b. scaled_at 65537 a.g ws i (omega (arith, n))))
+    in
+    rw others (row_put a.row.now c.mul.result row (c.requires.row_len ∙ ap suc (sym n))) ∙ ap (λ (x : ℕ). x ∷ row) c.mul.ensures

@@ -5,4 +5,4 @@ use Rattle.code.proofs.RowLaws.{Storing}
 use Rattle.store.proofs.writing.put_row.Given as goal
 
 abbrev pub invariant-loop-j : goal.invariant-loop-j
-invariant-loop-j l = Storing l.first (λ i. times 65537 l.g (get_or l.block i 0)) (length l.block) l.initial.log l.log l.j
+invariant-loop-j l = Storing 0 (λ i. times 65537 l.g (get_or l.block.words.now i 0)) (length l.block.words.now) l.initial.rest l.rest l.j

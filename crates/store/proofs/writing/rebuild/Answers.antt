@@ -8,7 +8,7 @@ use native.Mathlib.Omega.{arith}
 use borrow.Rule.Slice.PartMut.{put_mid}
 use lib.Dec.{lit<}
 use lib.ListN.{length, get_or, take, drop, replicate}
-use lib.Seq.{sets}
+use lib.Seq.{sets, length-take-le}
 use Rattle.field.specs.Field.{fermat, root_of, power_table}
 use Rattle.field.specs.Power.{power}
 use Rattle.field.specs.Words.{Words}
@@ -35,13 +35,13 @@ row i g b = scaled 65537 g (i ∷ b)
 abbrev halves : Header → (log : List ℕ) → (level i x y : ℕ) → (b : List ℕ) → List ℕ
 halves h g l i x y b = gathered 65537 (width h) g 0 (row i x b) l ++ gathered 65537 (width h) g 1 (row i y b) l
 
-module _ (h : Header) (log : List ℕ) (level i : ℕ) (b : List ℕ) (p : (header_fits h ≡ true) × (level < h.k))
+module _ (h : Header) (log : List ℕ) (level i : ℕ) (b : List ℕ) (valid : header_fits h ≡ true) (below : level < h.k)
     (n : (length log ≡ log_size h) × (length b ≡ h.s)) where
   fit : Fits h
-  fit = fits h p.0
+  fit = fits h valid
 
   room : half_start (suc (length b)) (suc level) 0 ≤ length log
-  room = rw n.1 (level_within (width h) p.1 n.0)
+  room = rw n.1 (level_within (width h) below n.0)
 
   length_row : (g : ℕ) → length (row i g b) ≡ width h
   length_row g = length_scaled 65537 g (i ∷ b) ∙ ap suc n.1
@@ -55,19 +55,19 @@ module _ (h : Header) (log : List ℕ) (level i : ℕ) (b : List ℕ) (p : (head
       rw (et ∙ turning_entry fit.k_high (omega (arith, fit.c_low)) ee)
       (turning_factor 65537 h.k (vault_root h) t (fermat_root h.k (omega (arith, fit))))
 
-  module _ (one turn : ℕ) {log₁ log₂ : List ℕ} {from to : ℕ}
+  module _ (one turn : ℕ) {log₁ log₂ : List ℕ} {w from to : ℕ} (ew : w ≡ width h)
       (first : log₁ ≡ sets log (half_start (suc (length b)) level 0) (gathered 65537 (suc (length b)) log 0 (row i one b) level))
       (second : log₂ ≡ sets log₁ (half_start (suc (length b)) level 1) (gathered 65537 (suc (length b)) log₁ 1 (row i turn b) level))
-      (ef : from ≡ half_start (h.s + 1) level 0) (et : to ≡ half_start (h.s + 1) (level + 1) 0) where
+      (ef : from ≡ half_start w level 0) (et : to ≡ half_start w (level + 1) 0) where
     -- the log once both halves are gathered
     gathered_at : LevelIn (width h) level from to log log₂ (halves h log level i one turn b)
     gathered_at =
-        let at = places h.s level ef et in
+        let at = places (width h) level ew ef et in
         gathered_level log log₁ log₂ (row i one b) (row i turn b) at (place_in at (rw n.1 at room)) (length_row one) (length_row turn) (rw n.1 at first)
         (rw n.1 at second)
 
-    lent_long : length (take (to - from) (drop from log₂)) ≡ 2 ^ suc level * (h.s + 1)
-    lent_long = ap length (lent_level gathered_at) ∙ gathered_at.long ∙ sym (rows_double (width h) level) ∙ rw add-one
+    lent_long : length (take (to - from) (drop from log₂)) ≡ 2 ^ suc level * w
+    lent_long = ap length (lent_level gathered_at) ∙ gathered_at.long ∙ sym (rows_double (width h) level) ∙ ap (λ (n : ℕ). 2 ^ suc level * n) (sym ew)
 
     lent_words : Words 65537 (take (to - from) (drop from log₂))
     lent_words =
@@ -75,23 +75,23 @@ module _ (h : Header) (log : List ℕ) (level i : ℕ) (b : List ℕ) (p : (head
         (words_gathered 65537 _ (lit< tt) _ _ _ (words_scaled 65537 (lit< tt) _ _)))
 
     -- and once they are folded
-    module _ {r : List ℕ} (er : r ≡ folded_both 65537 (root_of fermat) (h.s + 1) level (take (to - from) (drop from log₂)))
+    module _ {r : List ℕ} (er : r ≡ folded_both 65537 (root_of fermat) w level (take (to - from) (drop from log₂)))
         (same : length r ≡ length (take (to - from) (drop from log₂))) where
       level_in : LevelIn (width h) level from to log (put_mid from (to - from) log₂ r) r
       level_in = put_level gathered_at (same ∙ ap length (lent_level gathered_at) ∙ gathered_at.long)
 
       folded_level : r ≡ folded_both 65537 (root_of fermat) (width h) level (halves h log level i one turn b)
-      folded_level = (rw add-one at er) ∙ ap (folded_both 65537 (root_of fermat) (width h) level) (lent_level gathered_at)
+      folded_level = (rw ew at er) ∙ ap (folded_both 65537 (root_of fermat) (width h) level) (lent_level gathered_at)
 
       level_rebuilt : Words 65537 (i ∷ b) → one ≡ 1 → turn ≡ power 65537 (vault_root h) (reversed h.k h.c) → {z : List ℕ}
           → z ≡ replicate (length (take from (put_mid from (to - from) log₂ r))) 0
           → z ++ drop from (put_mid from (to - from) log₂ r) ≡ log_with h log (i ∷ b) level
       level_rebuilt w e₁ e ez =
-          let at = places h.s level ef et in
+          let at = places (width h) level ew ef et in
           let f : half_start (width h) level 0 ≤ length log = omega (arith, at.start_is, at.end_is, gathered_at.fits) in
           cleared level_in ez
           ∙ finished h log (i ∷ b) level at
-          (rebuilt_level h log (i ∷ b) level f (omega (arith, p.1)) fit.k_high (length_row one)
+          (rebuilt_level h log (i ∷ b) level f (omega (arith, below)) fit.k_high (length_row one)
           (ap (λ (g : ℕ). scaled 65537 g (i ∷ b)) e₁ ∙ scaled_one 65537 (lit< tt) (i ∷ b) w)
           (ap (λ (g : ℕ). scaled 65537 g (i ∷ b)) e) folded_level)
 
@@ -100,17 +100,17 @@ entry-turn-requires c = rw c.reversed-e.ensures (omega (arith, reversed_lt))
 
 pub gather-requires-clause-level_in_bounds : goal.gather-requires-clause-level_in_bounds
 gather-requires-clause-level_in_bounds c =
-    room c.args.header c.args.log.now c.args.level c.args.number c.args.block.now c.requires.header_value c.requires.log_len
+    room c.args.header.header c.args.log.now c.args.level c.args.block.number c.args.block.words.now c.args.header.fits c.requires.level_bound c.requires.lengths
 
 pub gather-requires-2-clause-level_in_bounds : goal.gather-requires-2-clause-level_in_bounds
 gather-requires-2-clause-level_in_bounds c =
-    let l = room c.args.header c.args.log.now c.args.level c.args.number c.args.block.now c.requires.header_value c.requires.log_len in
+    let l = room c.args.header.header c.args.log.now c.args.level c.args.block.number c.args.block.words.now c.args.header.fits c.requires.level_bound c.requires.lengths in
     omega (arith, c.gather.auto.log)
 
 pub gather-requires-2-clause-g_bound : goal.gather-requires-2-clause-g_bound
 gather-requires-2-clause-g_bound c =
     let l =
-    turn_low c.args.header c.args.log.now c.args.level c.args.number c.args.block.now c.requires.header_value c.requires.log_len c.reversed-e.ensures
+    turn_low c.args.header.header c.args.log.now c.args.level c.args.block.number c.args.block.words.now c.args.header.fits c.requires.level_bound c.requires.lengths c.reversed-e.ensures
     c.entry-turn.ensures (omega arith)
     in
     omega arith
@@ -118,32 +118,40 @@ gather-requires-2-clause-g_bound c =
 pub slice_bounds-fold_level-end : goal.slice_bounds-fold_level-end
 slice_bounds-fold_level-end c =
     let h =
-    gathered_at c.args.header c.args.log.now c.args.level c.args.number c.args.block.now c.requires.header_value c.requires.log_len _ _ c.gather.ensures
+    gathered_at c.args.header.header c.args.log.now c.args.level c.args.block.number c.args.block.words.now c.args.header.fits c.requires.level_bound c.requires.lengths _ _ c.width-width.ensures c.gather.ensures
     c.gather-2.ensures c.half_at-start.ensures c.half_at-end.ensures
     in
     omega (arith, h.at.end_is, h.fits, length_log h)
 
 pub fold_level-requires-clause-part_len : goal.fold_level-requires-clause-part_len
 fold_level-requires-clause-part_len c =
-    lent_long c.args.header c.args.log.now c.args.level c.args.number c.args.block.now c.requires.header_value c.requires.log_len _ _ c.gather.ensures
+    lent_long c.args.header.header c.args.log.now c.args.level c.args.block.number c.args.block.words.now c.args.header.fits c.requires.level_bound c.requires.lengths _ _ c.width-width.ensures c.gather.ensures
     c.gather-2.ensures c.half_at-start.ensures c.half_at-end.ensures
 
 pub fold_level-requires-clause-words : goal.fold_level-requires-clause-words
 fold_level-requires-clause-words c =
-    lent_words c.args.header c.args.log.now c.args.level c.args.number c.args.block.now c.requires.header_value c.requires.log_len _ _ c.gather.ensures
+    lent_words c.args.header.header c.args.log.now c.args.level c.args.block.number c.args.block.words.now c.args.header.fits c.requires.level_bound c.requires.lengths _ _ c.width-width.ensures c.gather.ensures
     c.gather-2.ensures c.half_at-start.ensures c.half_at-end.ensures
 
-pub slice_bounds-clear-end : goal.slice_bounds-clear-end
-slice_bounds-clear-end c =
+pub slice_bounds-fill-end : goal.slice_bounds-fill-end
+slice_bounds-fill-end c =
     let h =
-    level_in c.args.header c.args.log.now c.args.level c.args.number c.args.block.now c.requires.header_value c.requires.log_len _ _ c.gather.ensures
+    level_in c.args.header.header c.args.log.now c.args.level c.args.block.number c.args.block.words.now c.args.header.fits c.requires.level_bound c.requires.lengths _ _ c.width-width.ensures c.gather.ensures
     c.gather-2.ensures c.half_at-start.ensures c.half_at-end.ensures c.fold_level.ensures c.fold_level.auto.part
     in
     omega (arith, h.at.end_is, h.fits, length_log h)
 
+pub slice_bounds-fill-end-2 : goal.slice_bounds-fill-end-2
+slice_bounds-fill-end-2 c =
+    let h =
+    level_in c.args.header.header c.args.log.now c.args.level c.args.block.number c.args.block.words.now c.args.header.fits c.requires.level_bound c.requires.lengths _ _ c.width-width.ensures c.gather.ensures
+    c.gather-2.ensures c.half_at-start.ensures c.half_at-end.ensures c.fold_level.ensures c.fold_level.auto.part
+    in
+    sym (length-take-le _ _ (omega (arith, h.at.end_is, h.fits, length_log h)))
+
 pub returns : goal.returns
 returns c =
-    level_rebuilt c.args.header c.args.log.now c.args.level c.args.number c.args.block.now c.requires.header_value c.requires.log_len _ _ c.gather.ensures
-    c.gather-2.ensures c.half_at-start.ensures c.half_at-end.ensures c.fold_level.ensures c.fold_level.auto.part c.requires.words refl
-    (turn_is c.args.header c.args.log.now c.args.level c.args.number c.args.block.now c.requires.header_value c.requires.log_len c.reversed-e.ensures
-    c.entry-turn.ensures) c.clear.ensures
+    level_rebuilt c.args.header.header c.args.log.now c.args.level c.args.block.number c.args.block.words.now c.args.header.fits c.requires.level_bound c.requires.lengths _ _ c.width-width.ensures c.gather.ensures
+    c.gather-2.ensures c.half_at-start.ensures c.half_at-end.ensures c.fold_level.ensures c.fold_level.auto.part c.args.block.in_field refl
+    (turn_is c.args.header.header c.args.log.now c.args.level c.args.block.number c.args.block.words.now c.args.header.fits c.requires.level_bound c.requires.lengths c.reversed-e.ensures
+    c.entry-turn.ensures) (c.fill.ensures.after (λ y e. e))
