@@ -7,7 +7,14 @@ use borrow.Author.Rules.{rules}
 use borrow.Author.Tests.{eqb-true, eq-eqb, ne_eqb}
 use lib.Dec.{eqb}
 use Rattle.field.proofs.Booleans.{both_true, first_true, second_true}
-use Rattle.layout.specs.Refusals.{Tests, done, test, refusal, if_taken}
+use Rattle.std.specs.Prelude.{Result, Ok, Err}
+use Rattle.std.specs.Result.{IsErrAnd}
+use Rattle.std.proofs.lemmas.Result.{err_from_is_err_and}
+use Rattle.layout.specs.declared.Header.{Header}
+use Rattle.layout.specs.declared.refusal.Refusal.{Refusal}
+use Rattle.layout.specs.declared.refusal.Refusal.TheVariants.{HeaderRange, Length, ErasureList, RecordNumber, DataWord, NoStripe, TooFew, OutOfField, Inconsistent, NotRecords, Blank}
+use Rattle.layout.specs.Header.{header_fits}
+use Rattle.layout.specs.Refusals.{Tests, done, test, refusal, if_taken, number_of, answer_number}
 
 -- the tests of three sizes
 pub equal_three : (a a' b b' c c' : ℕ) → a ≡ a' → b ≡ b' → c ≡ c' → (eqb a a' && (eqb b b' && eqb c c')) ≡ true
@@ -71,3 +78,33 @@ module _ {r b : Bool} (e : r ≡ b) where
 
 -- what the needs of such a call follow from
 pub ruleset sizes_needs = (header_refused, header_holds, first_refused, second_refused, third_refused, sizes_hold, none_fails, rules)
+
+-- AN ANSWER THAT IS PASSED ON by `?` keeps its number
+pub passed_on : {A : Type 0} (x : Refusal) (r : Result A Refusal) → IsErrAnd r (λ y. y ≡ x) → answer_number r ≡ number_of x
+passed_on x r i = let p = err_from_is_err_and r i in rw (p.1, p.2) refl
+
+pub some_number : (x : Refusal) → 0 < number_of x
+some_number HeaderRange = omega arith
+some_number Length = omega arith
+some_number ErasureList = omega arith
+some_number RecordNumber = omega arith
+some_number DataWord = omega arith
+some_number NoStripe = omega arith
+some_number TooFew = omega arith
+some_number OutOfField = omega arith
+some_number Inconsistent = omega arith
+some_number NotRecords = omega arith
+some_number Blank = omega arith
+
+pub some_refused : {A : Type 0} (x : Refusal) (r : Result A Refusal) → IsErrAnd r (λ y. y ≡ x) → 0 < answer_number r
+some_refused x r i = omega (arith, some_number x, passed_on x r i)
+
+-- and what test 1 refuses has number 1
+pub header_passed_on : {A : Type 0} (h : Header) (x : Refusal) (r : Result A Refusal) (rest : Tests) → IsErrAnd r (λ y. y ≡ x)
+    → (x ≡ HeaderRange) × (header_fits h ≡ false) → answer_number r ≡ refusal (test (header_fits h) 1 rest)
+unfolding refusal
+header_passed_on h x r rest i e = passed_on x r i ∙ rw (e.0, e.1) refl
+
+-- the header that it gives passes it
+pub header_taken : (h v : Header) → v ≡ h → header_fits v ≡ true → true ≡ header_fits h
+header_taken h v s f = rw (← s) (sym f)

@@ -8,20 +8,20 @@ use Rattle.image.proofs.erasures.mark_stripe.Goals as goal
 
 pub mark-requires-clause-marks_value : goal.mark-requires-clause-marks_value
 mark-requires-clause-marks_value c =
-    let h = c.requires.header_value in
-    let f = fits c.args.header h.0 in
-    (c.requires.marks_value, rw (c.two_to.ensures, add-one) (pow_mono {i = suc c.args.level} {j = 11} (omega (arith, h.1, f.k_high))))
+    let v = c.args.header in
+    let f = fits v.header v.fits in
+    (c.requires.marks_value, rw (c.two_to-positions.ensures, add-one) (pow_mono {i = suc c.args.level} {j = 11} (omega (arith, c.requires.level, f.k_high))))
 
 pub mark-requires-clause-step_nonzero : goal.mark-requires-clause-step_nonzero
 mark-requires-clause-step_nonzero c =
-    let h = c.args.header in
+    let h = c.args.header.header in
     let l = c.args.level in
-    let f = fits h c.requires.header_value.0 in
-    let e : c.two_to.result ≡ 2 ^ suc l = c.two_to.ensures ∙ ap (λ (n : ℕ). 2 ^ n) (add-one l) in
-    (omega arith, rw (e, c.stripe_at-at.ensures, add-one h.s) (omega (arith, inside h l f c.requires.header_value.1, f.image_low)))
+    let f = fits h c.args.header.fits in
+    let e : c.two_to-positions.result ≡ 2 ^ suc l = c.two_to-positions.ensures ∙ ap (λ (n : ℕ). 2 ^ n) (add-one l) in
+    (rw c.width.ensures (omega arith), rw (e, c.stripe_at-at.ensures, c.width.ensures) (omega (arith, inside h l f c.requires.level, f.image_low)))
 
 pub returns : goal.returns
 returns c =
-    let h = c.args.header in
+    let h = c.args.header.header in
     let l = c.args.level in
-    c.mark.ensures ∙ rw (c.two_to.ensures, add-one l, c.stripe_at-at.ensures, add-one h.s) (marks_for_is h (erasures_in c.args.erasures.now) l)
+    c.mark.ensures ∙ rw (c.two_to-positions.ensures, add-one l, c.stripe_at-at.ensures, c.width.ensures) (marks_for_is h (erasures_in c.args.erasures.now) l)
