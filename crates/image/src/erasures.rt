@@ -6,6 +6,7 @@ ghost use Rattle.image.specs.steps.Marking.{Marked, is_between, erasure, mark_fo
 ghost use Rattle.layout.specs.Header.{record_count, scratch_size};
 ghost use Rattle.layout.specs.Refusals.{done, refusal, answer_number};
 
+use crate::Reading;
 use layout::{Header, Refusal, ValidHeader};
 
 // Test 3: whether an erasure list is whole, sorted, and ends inside an image of `size` bytes.
@@ -103,18 +104,18 @@ fn mark(marks: &mut [bool], erasures: &[u8], base: usize, step: usize, positions
 }
 
 // Tests 1, 2 and 3 of a call that is lent an image, an output of `row` words for each record, and a scratch.
-pub fn check(
+pub fn check<'a>(
     header: Header,
-    image: &[u8],
-    erasures: &[u8],
+    image: &'a [u8],
+    erasures: &'a [u8],
     row: usize,
     out: usize,
     scratch: usize,
-) -> Result<ValidHeader, Refusal>
+) -> Result<Reading<'a>, Refusal>
     requires { row ≤ suc header.s }
     ensures number { answer_number result ≡
         refusal (image_tests header image.now erasures.now (eqb out (record_count header * row) && eqb scratch (scratch_size header)) done) }
-    ensures same { IfOk result (λ v. v.header ≡ header) }
+    ensures same { IfOk result (λ r. (r.header.header ≡ header) × (r.image.now ≡ image.now) × (r.erasures.now ≡ erasures.now)) }
 {
     let header = ValidHeader::try_from(header)?;
     let size = header.image_size();
@@ -124,16 +125,18 @@ pub fn check(
     if !erasures_fit(erasures, size) {
         return Err(Refusal::ErasureList);
     }
-    Ok(header)
+    Ok(Reading { header, image, erasures })
 }
 
-// Marks the erased positions of a stripe.
-pub fn mark_stripe(header: ValidHeader, erasures: &[u8], level: usize, marks: &mut [bool])
-    requires level { level ≤ header.header.k }
-    requires marks_value { marks.old ≡ replicate 2048 false }
-    ensures { marks.new ≡ marks_of header.header (erasures_in erasures.now) level }
-{
-    let at = 4 * header.stripe_at(level);
-    let positions = code::number::two_to(level + 1);
-    mark(marks, erasures, at, 4 * header.width(), positions);
+impl<'a> Reading<'a> {
+    // Marks the erased positions of a stripe.
+    pub fn mark_stripe(self, level: usize, marks: &mut [bool])
+        requires level { level ≤ self.header.header.k }
+        requires marks_value { marks.old ≡ replicate 2048 false }
+        ensures { marks.new ≡ marks_of self.entry.header.header (erasures_in self.entry.erasures.now) level }
+    {
+        let at = 4 * self.header.stripe_at(level);
+        let positions = code::number::two_to(level + 1);
+        mark(marks, self.erasures, at, 4 * self.header.width(), positions);
+    }
 }
