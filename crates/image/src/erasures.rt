@@ -1,12 +1,13 @@
 // Erasure lists (docs/FORMAT.md, section 6), the marks of a stripe's positions, and the tests of the calls that are lent an image.
-ghost use Rattle.std.specs.Prelude.{◌≡◌, false, ◌&&◌, true, [], ◌∷◌, ◌+◌, ◌*◌, ◌%◌, ◌≤◌, ◌<◌, ◌-◌, suc, eqb, length, replicate};
+ghost use Rattle.std.specs.Prelude.{◌≡◌, false, ◌&&◌, true, [], ◌∷◌, ◌+◌, ◌*◌, ◌%◌, ◌≤◌, ◌<◌, ◌-◌, suc, eqb, length, replicate, IfOk};
 ghost use Rattle.image.specs.Erasures.{erasures_in, erasures_rise, marks_of};
 ghost use Rattle.image.specs.ImageTests.{image_tests};
 ghost use Rattle.image.specs.steps.Marking.{Marked, is_between, erasure, mark_for, marks_for};
-ghost use Rattle.layout.specs.Header.{header_fits, record_count, width, scratch_size};
-ghost use Rattle.layout.specs.Refusals.{done, refusal};
+ghost use Rattle.layout.specs.Header.{record_count, scratch_size};
+ghost use Rattle.layout.specs.Refusals.{done, refusal, answer_number};
 
-use layout::Header;
+use crate::Reading;
+use layout::{Header, Refusal, ValidHeader};
 
 // Test 3: whether an erasure list is whole, sorted, and ends inside an image of `size` bytes.
 fn erasures_fit(erasures: &[u8], size: usize) -> bool
@@ -103,50 +104,39 @@ fn mark(marks: &mut [bool], erasures: &[u8], base: usize, step: usize, positions
 }
 
 // Tests 1, 2 and 3 of a call that is lent an image, an output of `row` words for each record, and a scratch.
-pub fn image_number(
+pub fn check<'a>(
     header: Header,
-    image: &[u8],
-    erasures: &[u8],
+    image: &'a [u8],
+    erasures: &'a [u8],
     row: usize,
     out: usize,
     scratch: usize,
-) -> u32
+) -> Result<Reading<'a>, Refusal>
     requires { row ≤ suc header.s }
-    ensures { result ≡
+    ensures number { answer_number result ≡
         refusal (image_tests header image.now erasures.now (eqb out (record_count header * row) && eqb scratch (scratch_size header)) done) }
+    ensures same { IfOk result (λ r. (r.header.header ≡ header) × (r.image.now ≡ image.now) × (r.erasures.now ≡ erasures.now)) }
 {
-    if !layout::sizes::header_fits(header) {
-        return 1;
+    let header = ValidHeader::try_from(header)?;
+    let size = header.image_size();
+    if image.len() != size || out != header.rows_size(row) || scratch != header.scratch_size() {
+        return Err(Refusal::Length);
     }
-    let size = layout::sizes::image_size(header);
-    if image.len() != size {
-        return 2;
+    if !erasures_fit(erasures, size) {
+        return Err(Refusal::ErasureList);
     }
-    if out != layout::sizes::rows_size(header, row) {
-        return 2;
-    }
-    if scratch != layout::sizes::scratch_size(header) {
-        return 2;
-    }
-    if erasures_fit(erasures, size) {
-        return 0;
-    }
-    3
+    Ok(Reading { header, image, erasures })
 }
 
-// Marks the erased positions of a stripe.
-pub fn mark_stripe(header: Header, erasures: &[u8], level: usize, marks: &mut [bool])
-    requires header_value { (header_fits header ≡ true) × (level ≤ header.k) }
-    requires marks_value { marks.old ≡ replicate 2048 false }
-    ensures { marks.new ≡ marks_of header (erasures_in erasures.now) level }
-{
-    let width = header.s as usize + 1;
-    let at = 4 * layout::places::stripe_at(header, level);
-    mark(
-        marks,
-        erasures,
-        at,
-        4 * width,
-        code::number::two_to(level + 1),
-    );
+impl<'a> Reading<'a> {
+    // Marks the erased positions of a stripe.
+    pub fn mark_stripe(self, level: usize, marks: &mut [bool])
+        requires level { level ≤ self.header.header.k }
+        requires marks_value { marks.old ≡ replicate 2048 false }
+        ensures { marks.new ≡ marks_of self.entry.header.header (erasures_in self.entry.erasures.now) level }
+    {
+        let at = 4 * self.header.stripe_at(level);
+        let positions = code::number::two_to(level + 1);
+        mark(marks, self.erasures, at, 4 * self.header.width(), positions);
+    }
 }

@@ -5,4 +5,7 @@ pub mod bytes;
 pub mod erasures;
 pub mod images;
 pub mod loading;
+pub mod reading;
 pub mod source;
+
+pub use reading::Reading;

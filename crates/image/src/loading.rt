@@ -3,23 +3,24 @@ ghost use Rattle.std.specs.Prelude.{◌≡◌, true, ◌++◌, ◌+◌, ◌*◌,
 ghost use Rattle.field.specs.Words.{table};
 ghost use Rattle.code.specs.Stripe.{modulus_of, position_count, stripe_words};
 ghost use Rattle.code.specs.steps.Storing.{stored, word_from};
-ghost use Rattle.layout.specs.Header.{header_fits, image_size};
 ghost use Rattle.image.specs.Loading.{stripe_in, are_below, rows_in};
 ghost use Rattle.image.specs.steps.Loading.{columns_of};
 
+use crate::Reading;
 use crate::source::Source;
 use code::{Range, Stripe};
-use layout::Header;
 
-// The bytes of a stripe, a part of the image.
-pub fn stripe_bytes<'a>(header: Header, image: &'a [u8], level: usize) -> &'a [u8]
-    requires { (header_fits header ≡ true) × (level ≤ header.k) × (length image.now ≡ image_size header) }
-    ensures { result.now ≡ stripe_in header image.now level }
-{
-    let start = 4 * layout::places::stripe_at(header, level);
-    let size = code::number::two_to(level + 1) * (header.s as usize + 1);
-    let end = start + 4 * size;
-    &image[start..end]
+impl<'a> Reading<'a> {
+    // The bytes of a stripe, a part of the image.
+    pub fn stripe_bytes(self, level: usize) -> &'a [u8]
+        requires { level ≤ self.header.header.k }
+        ensures { result.now ≡ stripe_in self.entry.header.header self.entry.image.now level }
+    {
+        let start = 4 * self.header.stripe_at(level);
+        let size = code::number::two_to(level + 1) * self.header.width();
+        let end = start + 4 * size;
+        &self.image[start..end]
+    }
 }
 
 // Whether the words of a row, from word number `at` on, are words of the field.

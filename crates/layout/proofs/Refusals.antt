@@ -8,7 +8,8 @@ use borrow.Author.Tests.{eqb-true, eq-eqb, ne_eqb}
 use lib.Dec.{eqb}
 use Rattle.field.proofs.Booleans.{both_true, first_true, second_true}
 use Rattle.std.specs.Prelude.{Result, Ok, Err}
-use Rattle.std.specs.Result.{IsErrAnd}
+use Rattle.std.specs.Result.{IsErrAnd, is_ok}
+use Rattle.std.proofs.lemmas.Bool.{false≢true}
 use Rattle.std.proofs.lemmas.Result.{err_from_is_err_and}
 use Rattle.layout.specs.declared.Header.{Header}
 use Rattle.layout.specs.declared.refusal.Refusal.{Refusal}
@@ -99,7 +100,16 @@ some_number Blank = omega arith
 pub some_refused : {A : Type 0} (x : Refusal) (r : Result A Refusal) → IsErrAnd r (λ y. y ≡ x) → 0 < answer_number r
 some_refused x r i = omega (arith, some_number x, passed_on x r i)
 
--- and what test 1 refuses has number 1
+-- by its kind
+pub ok_number : {A : Type 0} (r : Result A Refusal) → is_ok r ≡ true → answer_number r ≡ 0
+ok_number (Ok x) e = refl
+ok_number (Err x) e = absurd (false≢true e)
+
+pub err_number : {A : Type 0} (r : Result A Refusal) → is_ok r ≡ false → answer_number r ≡ 0 → ⊥
+err_number (Ok x) e z = absurd (false≢true (sym e))
+err_number (Err x) e z = absurd (omega (arith, some_number x))
+
+-- what test 1 refuses has number 1
 pub header_passed_on : {A : Type 0} (h : Header) (x : Refusal) (r : Result A Refusal) (rest : Tests) → IsErrAnd r (λ y. y ≡ x)
     → (x ≡ HeaderRange) × (header_fits h ≡ false) → answer_number r ≡ refusal (test (header_fits h) 1 rest)
 unfolding refusal

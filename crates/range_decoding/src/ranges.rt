@@ -5,22 +5,21 @@ ghost use Rattle.decoder.specs.Decoding.{blocks_in};
 ghost use Rattle.decoder.specs.steps.Decoder.{Factors};
 ghost use Rattle.image.specs.Loading.{are_below, rows_in};
 ghost use Rattle.image.specs.steps.Loading.{columns_of};
+ghost use Rattle.layout.specs.Refusals.{answer_number};
 ghost use Rattle.judging.specs.StripeFits.{StripeFits};
 ghost use Rattle.judging.specs.steps.Ready.{Ready};
 ghost use Rattle.range_decoding.specs.steps.Ranges.{RangeFits, is_consistent_range, range_number};
 
 use code::{Range, Stripe};
 use image::source::Source;
+use layout::Refusal;
 
 // So many columns of n that the loops over words, which take four at a time, leave none over: which number is open, but that it is 0 only where n is.
 fn in_fours(n: usize) -> usize
     ensures some { 0 < n → 0 < result }
     ensures few { result ≤ n }
 {
-    if n < 4 {
-        return n;
-    }
-    n - n % 4
+    if n < 4 { n } else { n - n % 4 }
 }
 
 // The range of columns from `from` on that is decoded at once: all that are left, or as many as the room is for, in fours.
@@ -33,13 +32,13 @@ pub fn range_at(st: Stripe, from: usize, room: usize) -> Range
     let left = st.width - from;
     let most = room / code::number::two_to(st.level + 1);
     Range {
-        from: from,
+        from,
         cols: if most < left { in_fours(most) } else { left },
     }
 }
 
 // Decodes a range of columns in a part that has room for exactly these: 8 if a surviving word of any column is not of the field, 9 if no blocks have the
-// surviving words of the range, or 0. After 0 the part holds the blocks' columns and zeros after them, after 9 zeros; after 8 it is open.
+// surviving words of the range. Taken, the part holds the blocks' columns and zeros after them, after 9 zeros; after 8 it is open.
 pub fn decode_range<S: Source>(
     st: Stripe,
     source: S,
@@ -47,33 +46,31 @@ pub fn decode_range<S: Source>(
     factors: &[u32],
     range: Range,
     part: &mut [u32],
-) -> u32
+) -> Result<(), Refusal>
     requires ready { Ready st marks.now }
     requires source_len { S.count source ≡ stripe_words st }
     requires factors_are { Factors st marks.now factors.now }
     requires inside { range.from + range.cols ≤ st.width }
     requires all_in_field { 0 < range.from → are_below (modulus_of st) (rows_in st marks.now (S.words source)) ≡ true }
     requires part_len { length part.old ≡ position_count st * range.cols }
-    ensures value { result ≡
+    ensures value { answer_number result ≡
         range_number (are_below (modulus_of st) (rows_in st marks.now (S.words source)))
         (is_consistent_range st marks.now (rows_in st marks.now (S.words source)) range) }
-    ensures part_after { result ≡ 0 →
+    ensures part_after { answer_number result ≡ 0 →
         part.new ≡
         columns_of st.width range.from range.cols (block_count st) (blocks_in st marks.now (rows_in st marks.now (S.words source))) ++
         replicate (block_count st * range.cols) 0 }
-    ensures part_after_9 { result ≡ 9 → part.new ≡ replicate (position_count st * range.cols) 0 }
+    ensures part_after_9 { answer_number result ≡ 9 → part.new ≡ replicate (position_count st * range.cols) 0 }
 {
     if !image::loading::load(part, source, marks, st, range) {
-        return 8;
+        return Err(Refusal::OutOfField);
     }
     let of_range = Stripe {
-        level: st.level,
-        k: st.k,
-        first: st.first,
         width: range.cols,
+        ..st
     };
-    if decoder::decoding::decode(part, marks, factors, of_range) {
-        return 0;
+    if !decoder::decoding::decode(part, marks, factors, of_range) {
+        return Err(Refusal::Inconsistent);
     }
-    9
+    Ok(())
 }

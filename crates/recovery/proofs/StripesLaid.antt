@@ -13,7 +13,6 @@ use Rattle.judging.specs.Decoding.{Decoded, failed, decoded, decoded_number}
 use Rattle.range_laying.specs.declared.Content.{Content}
 use Rattle.range_laying.specs.declared.Content.TheVariants.{Blocks, Records, Origins}
 use Rattle.range_laying.specs.steps.Blocks.{lay_blocks, laid_from}
-use Rattle.stripe_decoding.specs.declared.Overlay.{Overlay}
 use Rattle.stripe_decoding.specs.steps.Laying.{laid_size}
 use Rattle.stripe_decoding.proofs.DecodedWords.{Comes, fails, gives}
 use Rattle.recovery.specs.Recovery.{Recovered, stopped, recovered, then_lay, levels_over, stripes_over}
@@ -51,7 +50,7 @@ module _ (h : Header) (bs o : List ℕ) where
   over_is Records l b = rw (ne_eqb l h.k (λ e. omega arith), lay_blocks)
   over_is Origins l b = rw (ne_eqb l h.k (λ e. omega arith), lay_blocks)
 
-  full_is : (c : Content) → length o ≡ laid_size (record { header = h; content = c }) → length bs ≡ block_words (stripe_of h h.k)
+  full_is : (c : Content) → length o ≡ laid_size h c → length bs ≡ block_words (stripe_of h h.k)
       → lay_blocks c (stripe_of h h.k) bs o ≡ (layer_of c h).full bs
   full_is Blocks e b = rw (drop_of_length-le o {i = length bs} (omega (arith, e, b)), append-nil)
   full_is Records e b = rw (eq-eqb h.k h.k refl, lay_blocks)
@@ -64,76 +63,76 @@ has_full h = rw (eq-eqb h.k h.k refl, has_stripe)
 has_level : (h : Header) (l : ℕ) → l < h.k → has_stripe h l ≡ is_filled h l
 has_level h l b = rw (ne_eqb l h.k (λ e. omega arith), lt-ltb l h.k b, has_stripe)
 
-module _ (t : Overlay) (d : ℕ → Decoded) where
+module _ (h : Header) (c : Content) (d : ℕ → Decoded) where
   module _ (l : ℕ) (o : List ℕ) where
     abbrev lay : List ℕ → List ℕ → List ℕ
-    lay = lay_blocks t.content (stripe_of t.header l)
+    lay = lay_blocks c (stripe_of h l)
 
     -- one stripe more
-    none_there : has_stripe t.header l ≡ false → stripes_from (suc l) t d o ≡ stripes_from l t d o
+    none_there : has_stripe h l ≡ false → stripes_from (suc l) h c d o ≡ stripes_from l h c d o
     unfolding stripes_from
     none_there e = rw (e, stripes_from)
 
-    one_there : has_stripe t.header l ≡ true → stripes_from (suc l) t d o ≡ then_lay l (d l) (λ (bs : List ℕ). stripes_from l t d (lay bs o))
+    one_there : has_stripe h l ≡ true → stripes_from (suc l) h c d o ≡ then_lay l (d l) (λ (bs : List ℕ). stripes_from l h c d (lay bs o))
     unfolding stripes_from
     one_there e = rw (e, stripes_from)
 
-    one_fails : {r : ℕ} → has_stripe t.header l ≡ true → r ≡ decoded_number (d l) → (r ≡ 0 → ⊥) → stripes_from (suc l) t d o ≡ stopped r l
-    one_fails e q f = one_there e ∙ ap (λ (x : Decoded). then_lay l x (λ (bs : List ℕ). stripes_from l t d (lay bs o))) (failed_is (d l) q f)
+    one_fails : {r : ℕ} → has_stripe h l ≡ true → r ≡ decoded_number (d l) → (r ≡ 0 → ⊥) → stripes_from (suc l) h c d o ≡ stopped r l
+    one_fails e q f = one_there e ∙ ap (λ (x : Decoded). then_lay l x (λ (bs : List ℕ). stripes_from l h c d (lay bs o))) (failed_is (d l) q f)
 
-    one_laid : {n r : ℕ} → has_stripe t.header l ≡ true → Comes n (d l) → r ≡ decoded_number (d l) → r ≡ 0
-        → stripes_from (suc l) t d o ≡ stripes_from l t d (laid_from lay (d l) o)
-    one_laid e u q z = one_there e ∙ then_laid u q z lay l o (stripes_from l t d)
+    one_laid : {n r : ℕ} → has_stripe h l ≡ true → Comes n (d l) → r ≡ decoded_number (d l) → r ≡ 0
+        → stripes_from (suc l) h c d o ≡ stripes_from l h c d (laid_from lay (d l) o)
+    one_laid e u q z = one_there e ∙ then_laid u q z lay l o (stripes_from l h c d)
 
   -- all levels below l, and all stripes
-  levels_are : (l : ℕ) (o : List ℕ) → l ≤ t.header.k → stripes_from l t d o ≡ levels_over l t.header d (layer_of t.content t.header) o
+  levels_are : (l : ℕ) (o : List ℕ) → l ≤ h.k → stripes_from l h c d o ≡ levels_over l h d (layer_of c h) o
   unfolding stripes_from levels_over
   levels_are zero o b = refl
-  levels_are (suc l) o b = go (is_filled t.header l) refl (λ x. levels_are l x (omega arith))
+  levels_are (suc l) o b = go (is_filled h l) refl (λ x. levels_are l x (omega arith))
     where
-      go : (f : Bool) → is_filled t.header l ≡ f
-          → ((x : List ℕ) → stripes_from l t d x ≡ levels_over l t.header d (layer_of t.content t.header) x)
-          → stripes_from (suc l) t d o ≡ levels_over (suc l) t.header d (layer_of t.content t.header) o
+      go : (f : Bool) → is_filled h l ≡ f
+          → ((x : List ℕ) → stripes_from l h c d x ≡ levels_over l h d (layer_of c h) x)
+          → stripes_from (suc l) h c d o ≡ levels_over (suc l) h d (layer_of c h) o
       go true e rest =
-          let y = layer_of t.content t.header in
-          one_there l o (has_level t.header l b ∙ e)
-          ∙ then_same l (d l) _ (λ (bs : List ℕ). levels_over l t.header d y (y.over l bs o))
-          (λ bs _. ap (stripes_from l t d) (over_is t.header bs o t.content l b) ∙ rest (y.over l bs o))
+          let y = layer_of c h in
+          one_there l o (has_level h l b ∙ e)
+          ∙ then_same l (d l) _ (λ (bs : List ℕ). levels_over l h d y (y.over l bs o))
+          (λ bs _. ap (stripes_from l h c d) (over_is h bs o c l b) ∙ rest (y.over l bs o))
           ∙ rw (e, levels_over)
-      go false e rest = none_there l o (has_level t.header l b ∙ e) ∙ rest o ∙ rw (e, levels_over)
+      go false e rest = none_there l o (has_level h l b ∙ e) ∙ rest o ∙ rw (e, levels_over)
 
-  stripes_are : (o : List ℕ) → length o ≡ laid_size t → Comes (block_words (stripe_of t.header t.header.k)) (d t.header.k)
-      → stripes_from (suc t.header.k) t d o ≡ stripes_over t.header d (layer_of t.content t.header)
+  stripes_are : (o : List ℕ) → length o ≡ laid_size h c → Comes (block_words (stripe_of h h.k)) (d h.k)
+      → stripes_from (suc h.k) h c d o ≡ stripes_over h d (layer_of c h)
   stripes_are o e u =
-      let k = t.header.k in
-      let y = layer_of t.content t.header in
-      one_there k o (has_full t.header)
-      ∙ then_same k (d k) _ (λ (bs : List ℕ). levels_over k t.header d y (y.full bs))
-      (λ bs q. ap (stripes_from k t d) (full_is t.header bs o t.content e (blocks_long u q)) ∙ levels_are k (y.full bs) (omega arith))
+      let k = h.k in
+      let y = layer_of c h in
+      one_there k o (has_full h)
+      ∙ then_same k (d k) _ (λ (bs : List ℕ). levels_over k h d y (y.full bs))
+      (λ bs q. ap (stripes_from k h c d) (full_is h bs o c e (blocks_long u q)) ∙ levels_are k (y.full bs) (omega arith))
 
 -- BEFORE A TURN: what the stripes below `left` come to over o is what all of them come to
-pub record Left (t : Overlay) (d : ℕ → Decoded) (all : Recovered) (o : List ℕ) (left : ℕ) : Type 0 where
-  pub within : left ≤ suc t.header.k
-  pub rest : stripes_from left t d o ≡ all
+pub record Left (h : Header) (c : Content) (d : ℕ → Decoded) (all : Recovered) (o : List ℕ) (left : ℕ) : Type 0 where
+  pub within : left ≤ suc h.k
+  pub rest : stripes_from left h c d o ≡ all
 
-pub left_all : (t : Overlay) (d : ℕ → Decoded) {o : List ℕ} {n : ℕ} → n ≡ suc t.header.k → length o ≡ laid_size t
-    → Comes (block_words (stripe_of t.header t.header.k)) (d t.header.k) → Left t d (stripes_over t.header d (layer_of t.content t.header)) o n
-left_all t d {o} {n} e q u = record { within = omega arith; rest = rw e (stripes_are t d o q u) }
+pub left_all : (h : Header) (c : Content) (d : ℕ → Decoded) {o : List ℕ} {n : ℕ} → n ≡ suc h.k → length o ≡ laid_size h c
+    → Comes (block_words (stripe_of h h.k)) (d h.k) → Left h c d (stripes_over h d (layer_of c h)) o n
+left_all h c d {o} {n} e q u = record { within = omega arith; rest = rw e (stripes_are h c d o q u) }
 
-module _ {t : Overlay} {d : ℕ → Decoded} {all : Recovered} {o : List ℕ} {left l : ℕ} (L : Left t d all o left) (b : left ≡ suc l) where
-  next : stripes_from (suc l) t d o ≡ all
-  next = ap (λ (n : ℕ). stripes_from n t d o) (sym b) ∙ L.rest
+module _ {h : Header} {c : Content} {d : ℕ → Decoded} {all : Recovered} {o : List ℕ} {left l : ℕ} (L : Left h c d all o left) (b : left ≡ suc l) where
+  next : stripes_from (suc l) h c d o ≡ all
+  next = ap (λ (n : ℕ). stripes_from n h c d o) (sym b) ∙ L.rest
 
-  pub left_skip : has_stripe t.header l ≡ false → Left t d all o l
-  left_skip e = record { within = omega (arith, L.within); rest = sym (none_there t d l o e) ∙ next }
+  pub left_skip : has_stripe h l ≡ false → Left h c d all o l
+  left_skip e = record { within = omega (arith, L.within); rest = sym (none_there h c d l o e) ∙ next }
 
-  module _ {n : ℕ} (e : has_stripe t.header l ≡ true) (q : n ≡ decoded_number (d l)) where
-    pub left_lay : {m : ℕ} {o' : List ℕ} → Comes m (d l) → n ≡ 0 → o' ≡ laid_from (lay_blocks t.content (stripe_of t.header l)) (d l) o → Left t d all o' l
-    left_lay u z p = record { within = omega (arith, L.within); rest = ap (stripes_from l t d) p ∙ sym (one_laid t d l o e u q z) ∙ next }
+  module _ {n : ℕ} (e : has_stripe h l ≡ true) (q : n ≡ decoded_number (d l)) where
+    pub left_lay : {m : ℕ} {o' : List ℕ} → Comes m (d l) → n ≡ 0 → o' ≡ laid_from (lay_blocks c (stripe_of h l)) (d l) o → Left h c d all o' l
+    left_lay u z p = record { within = omega (arith, L.within); rest = ap (stripes_from l h c d) p ∙ sym (one_laid h c d l o e u q z) ∙ next }
 
     pub left_stop : (n ≡ 0 → ⊥) → all ≡ stopped n l
-    left_stop f = sym next ∙ one_fails t d l o e q f
+    left_stop f = sym next ∙ one_fails h c d l o e q f
 
-pub left_none : {t : Overlay} {d : ℕ → Decoded} {all : Recovered} {o : List ℕ} {left : ℕ} → Left t d all o left → left ≤ 0 → all ≡ recovered o
+pub left_none : {h : Header} {c : Content} {d : ℕ → Decoded} {all : Recovered} {o : List ℕ} {left : ℕ} → Left h c d all o left → left ≤ 0 → all ≡ recovered o
 unfolding stripes_from
 left_none {left} L b = let e : left ≡ 0 = omega arith in sym (rw e at L.rest)

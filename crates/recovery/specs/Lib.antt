@@ -1,4 +1,5 @@
 pub mod Origins
 pub mod Recovery
 pub mod RecoveryCall
+pub mod Verdicts
 pub mod steps

@@ -1,7 +1,7 @@
 -- What the call `recover` answers and leaves, for every input. Assumes nothing: these are definitions.
 use Rattle.std.specs.Prelude.{true, false, ◌&&◌, List, ℕ, eqb, length, replicate}
 use Rattle.layout.specs.declared.Header.{Header}
-use Rattle.recovery.specs.declared.Verdict.{Verdict}
+use Rattle.recovery.specs.Verdicts.{Verdict}
 use Rattle.layout.specs.Header.{raw_size, scratch_size}
 use Rattle.image.specs.Erasures.{erasures_in}
 use Rattle.image.specs.ImageTests.{image_tests}

@@ -2,48 +2,47 @@
 ghost use Rattle.std.specs.Prelude.{◌≡◌, replicate};
 ghost use Rattle.layout.specs.Header.{scratch_size};
 ghost use Rattle.recovery.specs.RecoveryCall.{answer_of, recovered_words};
+ghost use Rattle.recovery.specs.Verdicts.{verdict_of};
 ghost use Rattle.recovery.specs.steps.Laying.{stripes_laid};
 ghost use Rattle.stripe_decoding.specs.steps.Laying.{LayingFits, laid_size};
 
-use crate::Verdict;
-use stripe_decoding::Overlay;
+use crate::Fault;
+use image::Reading;
+use range_laying::Content;
 
-// What all stripes come to: the number and the stripe at which they stop, or 0 and the words. Where they stop the output may hold anything. The scratch is
-// zeros.
-pub fn lay_stripes(
-    overlay: Overlay,
-    image: &[u8],
-    erasures: &[u8],
-    out: &mut [u32],
-    scratch: &mut [u32],
-) -> Verdict
-    requires { LayingFits overlay image.now out.old scratch.old }
-    ensures value { result ≡ answer_of (stripes_laid overlay image.now erasures.now) }
-    ensures out_after { result.number ≡ 0 → out.new ≡ recovered_words (stripes_laid overlay image.now erasures.now) (laid_size overlay) }
-    ensures scratch_after { scratch.new ≡ replicate (scratch_size overlay.header) 0 }
+// Lays all stripes, and stops at the first one that is refused, which it names. Where they stop the output may hold anything. What is left of the scratch is open.
+fn lay_each(reading: Reading, content: Content, out: &mut [u32], scratch: &mut [u32]) -> Result<(), Fault>
+    requires { LayingFits reading.header.header content out.old scratch.old }
+    ensures value { verdict_of result ≡ answer_of (stripes_laid reading.entry.header.header content reading.entry.image.now reading.entry.erasures.now) }
+    ensures out_after { (verdict_of result).number ≡ 0 →
+        out.new ≡ recovered_words (stripes_laid reading.entry.header.header content reading.entry.image.now reading.entry.erasures.now)
+        (laid_size reading.entry.header.header content) }
 {
-    let header = overlay.header;
-    let mut left = header.k as usize + 1;
-    while 0 < left {
-        left = left - 1;
-        if layout::places::has_stripe(header, left as u32) {
-            let number = stripe_decoding::fetching::lay_stripe(
-                overlay, image, erasures, left, out, scratch,
-            );
-            if number != 0 {
-                layout::words::clear(scratch);
-                return Verdict {
-                    number: number,
-                    named: true,
-                    stripe: left as u32,
-                };
+    let header = reading.header.header;
+    for level in (0..header.k + 1).rev() {
+        if layout::places::has_stripe(header, level) {
+            let answer = stripe_decoding::fetching::lay_stripe(reading, content, level as usize, out, scratch);
+            if let Err(refusal) = answer {
+                return Err(Fault {
+                    refusal,
+                    stripe: Some(level),
+                });
             }
         }
     }
-    layout::words::clear(scratch);
-    Verdict {
-        number: 0,
-        named: false,
-        stripe: 0,
-    }
+    Ok(())
+}
+
+// What all stripes come to: the number and the stripe at which they stop, or the words. Where they stop the output may hold anything. The scratch is zeros.
+pub fn lay_stripes(reading: Reading, content: Content, out: &mut [u32], scratch: &mut [u32]) -> Result<(), Fault>
+    requires { LayingFits reading.header.header content out.old scratch.old }
+    ensures value { verdict_of result ≡ answer_of (stripes_laid reading.entry.header.header content reading.entry.image.now reading.entry.erasures.now) }
+    ensures out_after { (verdict_of result).number ≡ 0 →
+        out.new ≡ recovered_words (stripes_laid reading.entry.header.header content reading.entry.image.now reading.entry.erasures.now)
+        (laid_size reading.entry.header.header content) }
+    ensures scratch_after { scratch.new ≡ replicate (scratch_size reading.entry.header.header) 0 }
+{
+    let answer = lay_each(reading, content, out, scratch);
+    scratch.fill(0);
+    answer
 }

@@ -1,79 +1,61 @@
 // Stripe decoding: the call decode (docs/FORMAT.md, sections 7 and 9).
-ghost use Rattle.std.specs.Prelude.{◌≡◌, true, ◌++◌, ◌-◌, ◌≤◌, length, take, replicate};
-ghost use Rattle.layout.specs.Header.{header_fits, out_size, scratch_size, image_size};
+ghost use Rattle.std.specs.Prelude.{◌≡◌, ◌≤◌, length, replicate, IfOk};
+ghost use Rattle.layout.specs.Header.{out_size, scratch_size};
+ghost use Rattle.layout.specs.Refusals.{answer_number};
 ghost use Rattle.image.specs.Erasures.{erasures_in};
 ghost use Rattle.judging.specs.Decoding.{decoded_number, decoded_words};
 ghost use Rattle.stripe_decoding.specs.Decoding.{decode_stripe};
 ghost use Rattle.stripe_decoding.specs.StripeCall.{decode_early, decode_number, decode_leaves, decode_scratch};
 
-use crate::Overlay;
-use layout::Header;
+use image::Reading;
+use layout::{Header, Refusal};
 use range_laying::Content;
 
 // The tests before a stripe is decoded: 1, 2, 3, 6.
-fn decode_early(
+fn check<'a>(
     header: Header,
-    image: &[u8],
-    erasures: &[u8],
+    image: &'a [u8],
+    erasures: &'a [u8],
     stripe: u32,
     out: &[u32],
     scratch: &[u32],
-) -> u32
-    ensures { result ≡ decode_early header image.now erasures.now stripe out.now scratch.now }
+) -> Result<Reading<'a>, Refusal>
+    ensures number { answer_number result ≡ decode_early header image.now erasures.now stripe out.now scratch.now }
+    ensures same { IfOk result (λ r. (r.header.header ≡ header) × (r.image.now ≡ image.now) × (r.erasures.now ≡ erasures.now)) }
 {
     let row = header.s as usize + 1;
-    let number = image::erasures::image_number(
-        header,
-        image,
-        erasures,
-        row,
-        out.len(),
-        scratch.len(),
-    );
-    if number != 0 {
-        return number;
+    let reading = image::erasures::check(header, image, erasures, row, out.len(), scratch.len())?;
+    if !layout::places::has_stripe(header, stripe) {
+        return Err(Refusal::NoStripe);
     }
-    if layout::places::has_stripe(header, stripe) {
-        return 0;
-    }
-    6
+    Ok(reading)
 }
 
-// Stores zeros from an index on.
-fn clear_from(words: &mut [u32], from: usize)
-    requires { from ≤ length words.old }
-    ensures { words.new ≡ take from words.old ++ replicate (length words.old - from) 0 }
-{
-    layout::words::clear(&mut words[from..]);
-}
-
-// Decodes a stripe: 7, 8, 9 or 10, or 0 and its blocks, zeros after them; zeros where it is not 0. The scratch is zeros.
+// Decodes a stripe, and leaves its blocks and zeros after them; 7, 8, 9 or 10 and zeros where it is refused. The scratch is zeros.
 fn decode_stripe(
-    header: Header,
-    image: &[u8],
-    erasures: &[u8],
+    reading: Reading,
     level: usize,
     out: &mut [u32],
     scratch: &mut [u32],
-) -> u32
-    requires header_value { (header_fits header ≡ true) × (level ≤ header.k) × (length image.now ≡ image_size header) }
-    requires out_len { (length out.old ≡ out_size header) × (length scratch.old ≡ scratch_size header) }
-    ensures value { result ≡ decoded_number (decode_stripe header image.now (erasures_in erasures.now) level) }
-    ensures out_after { out.new ≡ decoded_words (decode_stripe header image.now (erasures_in erasures.now) level) (out_size header) }
-    ensures scratch_after { scratch.new ≡ replicate (scratch_size header) 0 }
+) -> Result<(), Refusal>
+    requires within { level ≤ reading.header.header.k }
+    requires out_len { (length out.old ≡ out_size reading.header.header) × (length scratch.old ≡ scratch_size reading.header.header) }
+    ensures value { answer_number result ≡
+        decoded_number (decode_stripe reading.entry.header.header reading.entry.image.now (erasures_in reading.entry.erasures.now) level) }
+    ensures out_after { out.new ≡
+        decoded_words (decode_stripe reading.entry.header.header reading.entry.image.now (erasures_in reading.entry.erasures.now) level)
+        (out_size reading.entry.header.header) }
+    ensures scratch_after { scratch.new ≡ replicate (scratch_size reading.entry.header.header) 0 }
 {
-    let overlay = Overlay {
-        header: header,
-        content: Content::Blocks,
+    let answer = crate::fetching::lay_stripe(reading, Content::Blocks, level, out, scratch);
+    scratch.fill(0);
+    let size = if answer.is_ok() {
+        code::number::two_to(level) * reading.header.width()
+    } else {
+        0
     };
-    let number = crate::fetching::lay_stripe(overlay, image, erasures, level, out, scratch);
-    layout::words::clear(scratch);
-    let mut size: usize = 0;
-    if number == 0 {
-        size = code::number::two_to(level) * (header.s as usize + 1);
-    }
-    clear_from(out, size);
-    number
+    out[size..].fill(0);
+    answer
 }
 
 // Decodes one stripe of an image: a level, or k for the full stripe. Tests 1, 2 (image, out, scratch), 3, 6, 7, 8, 9, 10; 1 to 6 change no buffer, after 7 to
@@ -85,15 +67,12 @@ pub fn decode(
     stripe: u32,
     out: &mut [u32],
     scratch: &mut [u32],
-) -> u32
-    ensures value { result ≡ decode_number header image.now erasures.now stripe out.old scratch.old }
+) -> Result<(), Refusal>
+    ensures value { answer_number result ≡ decode_number header image.now erasures.now stripe out.old scratch.old }
     ensures out_after { out.new ≡ decode_leaves header image.now erasures.now stripe out.old scratch.old }
     ensures scratch_after { scratch.new ≡
         decode_scratch header image.now erasures.now stripe out.old scratch.old }
 {
-    let early = decode_early(header, image, erasures, stripe, out, scratch);
-    if early != 0 {
-        return early;
-    }
-    decode_stripe(header, image, erasures, stripe as usize, out, scratch)
+    let reading = check(header, image, erasures, stripe, out, scratch)?;
+    decode_stripe(reading, stripe as usize, out, scratch)
 }

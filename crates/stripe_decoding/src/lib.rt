@@ -4,13 +4,3 @@
 pub mod decoding;
 pub mod fetching;
 pub mod ranges;
-
-use layout::Header;
-use range_laying::Content;
-
-// What is laid of the stripes of an image.
-#[derive(Clone, Copy)]
-pub struct Overlay {
-    pub header: Header,
-    pub content: Content,
-}

@@ -2,12 +2,14 @@
 ghost use Rattle.std.specs.Prelude.{◌≡◌, ◌*◌, ◌^◌, ◌≤◌, ◌<◌, length, replicate};
 ghost use Rattle.code.specs.Stripe.{position_count, stripe_words};
 ghost use Rattle.decoder.specs.steps.Decoder.{Factors};
+ghost use Rattle.layout.specs.Refusals.{answer_number};
 ghost use Rattle.judging.specs.Decoding.{decode_rows, decoded_number};
 ghost use Rattle.judging.specs.steps.Ready.{Ready};
 ghost use Rattle.range_laying.specs.steps.Blocks.{row_words, lay_blocks, laid_from};
 
 use code::Stripe;
 use image::source::Source;
+use layout::Refusal;
 use range_laying::Content;
 
 // Stores the factors of a stripe's positions, for which it needs room in the scratch; where nothing is erased, the zeros that stand there are these. What is
@@ -23,7 +25,7 @@ fn store_factors(factors: &mut [u32], marks: &[bool], st: Stripe, scratch: &mut 
     }
 }
 
-// Decodes a stripe and lays its blocks: 8, 9 or 10, or 0. The first range tells whether it is 8; only the last one tells that none is 9, so that 10 waits
+// Decodes a stripe and lays its blocks: 8, 9 or 10 where it is refused. The first range tells whether it is 8; only the last one tells that none is 9, so that 10 waits
 // for it. A level that is refused leaves the output as it was, since it is one range; what is left of the scratch is open, and of the output where the full
 // stripe is refused.
 pub fn decode_and_lay<S: Source>(
@@ -33,14 +35,14 @@ pub fn decode_and_lay<S: Source>(
     marks: &[bool],
     out: &mut [u32],
     scratch: &mut [u32],
-) -> u32
+) -> Result<(), Refusal>
     requires ready { Ready st marks.now }
     requires source_len { S.count source ≡ stripe_words st }
     requires out_len { length out.old ≡ 2 ^ st.k * row_words content st }
     requires room { 3 * position_count st ≤ length scratch.old }
     requires level_room { st.level < st.k → stripe_words st ≤ length scratch.old }
-    ensures value { result ≡ decoded_number (decode_rows st marks.now (S.words source)) }
-    ensures out_after { result ≡ 0 → out.new ≡ laid_from (lay_blocks content st) (decode_rows st marks.now (S.words source)) out.old }
+    ensures value { answer_number result ≡ decoded_number (decode_rows st marks.now (S.words source)) }
+    ensures out_after { answer_number result ≡ 0 → out.new ≡ laid_from (lay_blocks content st) (decode_rows st marks.now (S.words source)) out.old }
     ensures level_after { st.level < st.k → out.new ≡ laid_from (lay_blocks content st) (decode_rows st marks.now (S.words source)) out.old }
 {
     let positions = code::number::two_to(st.level + 1);
@@ -54,10 +56,7 @@ pub fn decode_and_lay<S: Source>(
         let range = range_decoding::ranges::range_at(st, from, scratch.len());
         let size = positions * range.cols;
         let part = &mut scratch[..size];
-        let number = range_decoding::ranges::decode_range(st, source, marks, &factors, range, part);
-        if number != 0 {
-            return number;
-        }
+        range_decoding::ranges::decode_range(st, source, marks, &factors, range, part)?;
         let words = &scratch[..blocks * range.cols];
         fit = judging::records::judge(words, st, range, &mut fits);
         if fit {
@@ -65,5 +64,5 @@ pub fn decode_and_lay<S: Source>(
         }
         from += range.cols;
     }
-    if fit { 0 } else { 10 }
+    if fit { Ok(()) } else { Err(Refusal::NotRecords) }
 }

@@ -43,7 +43,14 @@ pub(crate) fn unmix_rows(half: &mut [u32], level: usize, width: usize, powers: &
         let l = level % 2 + 2 * pair;
         let m = code::number::two_to(l);
         let blocks = code::number::two_to(level - l - 2);
-        mixing_twice::rows::cross_each::<Unmixing>(half, blocks, m, width, &powers.entries, 2048 - 512 / m);
+        mixing_twice::rows::cross_each::<Unmixing>(
+            half,
+            blocks,
+            m,
+            width,
+            &powers.entries,
+            2048 - 512 / m,
+        );
     }
     if level % 2 == 1 {
         mixing::rows::sum_each(half, code::number::two_to(level - 1), width);

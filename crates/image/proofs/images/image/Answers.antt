@@ -1,62 +1,66 @@
 -- `image::images::image` meets its contract: each test that holds or fails, in turn, and the bytes stored. Assumes nothing.
-use Rattle.std.proofs.Common.{◌≡◌, sym, ◌∙◌, Bool, true, ℕ, List, ◌+◌, ◌*◌, length, arith}
+use Rattle.std.proofs.Common.{◌≡◌, sym, ◌∙◌, refl, ap, ℕ, List, ◌+◌, ◌*◌, ◌<◌, true, length, arith}
 use Rattle.std.proofs.lemmas.List.Edits.{sets}
 use Rattle.layout.specs.declared.Header.{Header}
 use Rattle.layout.specs.Header.{header_fits, full_size, log_size, image_size}
 use Rattle.layout.proofs.Bounds.{fits}
-use Rattle.layout.proofs.Refusals.{sizes_needs, header_holds, sizes_hold, none_fails, if_taken_lem, if_refused}
+use Rattle.layout.proofs.Refusals.{header_passed_on, header_taken, first_refused, second_refused, third_refused, sizes_hold, none_fails}
+use Rattle.layout.proofs.Refusals.{some_refused, if_taken_lem, if_refused}
 use Rattle.image.specs.Image.{bytes_of, image_of}
 use Rattle.image.specs.ImageCall.{image_number, image_leaves}
 use Rattle.image.proofs.WordBytes.{image_stored}
 use Rattle.image.proofs.images.image.Goals as goal
+use Rattle.image.proofs.images.image.Goals.{then-full-full_size-via-then-full-full_size, then-full-full_size-via-else-full-full_size+then-log-log_size}
+use Rattle.image.proofs.images.image.Goals.{then-full-full_size-via-else-full-full_size+else-log-log_size+then-image-image_size}
 
+-- what is left in the image where it is refused
+left : {n : ℕ} (h : Header) (f g m : List ℕ) → 0 < n → n ≡ image_number h f g m → m ≡ image_leaves h f g m
+left h f g m b e = sym (if_refused {n = image_number h f g m} (image_of f g) m (λ z. omega arith))
+
+-- where the tests hold, the bytes are the image
 module _ (h : Header) (f g m : List ℕ) where
-  -- what is left in the image where it is refused
-  left_1 : 1 ≡ image_number h f g m → m ≡ image_leaves h f g m
-  left_1 e = sym (if_refused {n = image_number h f g m} (image_of f g) m (λ z. omega arith))
+  long : header_fits h ≡ true → length f ≡ full_size h → length g ≡ log_size h → length m ≡ image_size h → length m ≡ 4 * length f + 4 * length g
+  long t ef eg em = omega (arith, (fits h t).image_is)
 
-  left_2 : 2 ≡ image_number h f g m → m ≡ image_leaves h f g m
-  left_2 e = sym (if_refused {n = image_number h f g m} (image_of f g) m (λ z. omega arith))
+  taken : {x y : List ℕ} → 0 ≡ image_number h f g m → length m ≡ 4 * length f + 4 * length g → y ≡ sets m 0 (bytes_of f)
+      → x ≡ sets y (4 * length f) (bytes_of g) → x ≡ image_leaves h f g m
+  taken z l ey ex = ex ∙ rw ey (image_stored m f g l) ∙ sym (if_taken_lem (image_of f g) m (sym z))
 
-  -- where the tests hold, the bytes are the image
-  module _ {r : Bool} {s t u : ℕ} (er : r ≡ header_fits h) (n : r ≡ true) (es : s ≡ full_size h) (ef : length f ≡ s) (et : t ≡ log_size h) (eg : length g ≡ t)
-      (eu : u ≡ image_size h) (em : length m ≡ u) where
-    long : length m ≡ 4 * length f + 4 * length g
-    long = omega (arith, (fits h (header_holds er n)).image_is)
+pub returns-in_err-header : goal.returns-in_err-header
+returns-in_err-header c =
+    let a = c.args in
+    let e = header_passed_on a.header _ c.from_residual.result _ c.from_residual.ensures.1 c.in_err-header.ensures in
+    record {
+      value = e;
+      image_after = left a.header a.full.now a.log.now a.image.now (some_refused _ c.from_residual.result c.from_residual.ensures.1) e;
+    }
 
-    taken : {x y : List ℕ} → y ≡ sets m 0 (bytes_of f) → x ≡ sets y (4 * length f) (bytes_of g) → x ≡ image_leaves h f g m
-    taken {x} {y} ey ex =
-        let z : 0 ≡ image_number h f g m = sizes_hold er _ n es ef et eg eu em none_fails in
-        ex ∙ rw ey (image_stored m f g long) ∙ sym (if_taken_lem (image_of f g) m (sym z))
+pub returns-then-full-full_size : goal.returns-then-full-full_size
+returns-then-full-full_size c =
+    let a = c.args in
+    let same = c.in_ok-header.ensures in
+    let h = header_taken _ _ same c.in_ok-header.header.fits in
+    let full = c.full_size.ensures ∙ ap full_size same in
+    let e : 2 ≡ image_number a.header a.full.now a.log.now a.image.now = elim c.then-full-full_size.branch [
+      | then-full-full_size-via-then-full-full_size w ↦ first_refused h _ refl full _ w.if-full-full_size.true
+      | then-full-full_size-via-else-full-full_size+then-log-log_size w ↦
+          second_refused h _ refl full w.if-full-full_size.false (w.log_size.ensures ∙ ap log_size same) _ w.if-log-log_size.true
+      | then-full-full_size-via-else-full-full_size+else-log-log_size+then-image-image_size w ↦
+          third_refused h _ refl full w.if-full-full_size.false (w.log_size.ensures ∙ ap log_size same) w.if-log-log_size.false
+          (w.image_size.ensures ∙ ap image_size same) w.if-image-image_size.true
+    ] in
+    record { value = e; image_after = left a.header a.full.now a.log.now a.image.now (omega arith) e }
 
-ruleset needs = (left_1, left_2, taken, sizes_needs)
-
-pub returns-then-not-header_fits-clause-value : goal.returns-then-not-header_fits-clause-value
-returns-then-not-header_fits-clause-value c = search needs
-
-pub returns-then-not-header_fits-clause-image_after : goal.returns-then-not-header_fits-clause-image_after
-returns-then-not-header_fits-clause-image_after c = search needs
-
-pub returns-then-full-full_size-clause-value : goal.returns-then-full-full_size-clause-value
-returns-then-full-full_size-clause-value c = search needs
-
-pub returns-then-full-full_size-clause-image_after : goal.returns-then-full-full_size-clause-image_after
-returns-then-full-full_size-clause-image_after c = search needs
-
-pub returns-then-log-log_size-clause-value : goal.returns-then-log-log_size-clause-value
-returns-then-log-log_size-clause-value c = search needs
-
-pub returns-then-log-log_size-clause-image_after : goal.returns-then-log-log_size-clause-image_after
-returns-then-log-log_size-clause-image_after c = search needs
-
-pub returns-then-image-image_size-clause-value : goal.returns-then-image-image_size-clause-value
-returns-then-image-image_size-clause-value c = search needs
-
-pub returns-then-image-image_size-clause-image_after : goal.returns-then-image-image_size-clause-image_after
-returns-then-image-image_size-clause-image_after c = search needs
-
-pub returns-clause-value : goal.returns-clause-value
-returns-clause-value c = search needs
-
-pub returns-clause-image_after : goal.returns-clause-image_after
-returns-clause-image_after c = search needs
+pub returns : goal.returns
+returns c =
+    let a = c.args in
+    let same = c.in_ok-header.ensures in
+    let h = header_taken _ _ same c.in_ok-header.header.fits in
+    let full = c.full_size.ensures ∙ ap full_size same in
+    let log = c.log_size.ensures ∙ ap log_size same in
+    let size = c.image_size.ensures ∙ ap image_size same in
+    let e : 0 ≡ image_number a.header a.full.now a.log.now a.image.now =
+    sizes_hold h _ refl full c.if-full-full_size.false log c.if-log-log_size.false size c.if-image-image_size.false none_fails in
+    let l = long a.header a.full.now a.log.now a.image.now (sym h) (c.if-full-full_size.false ∙ full) (c.if-log-log_size.false ∙ log)
+    (c.if-image-image_size.false ∙ size) in
+    record { value = e; image_after = taken a.header a.full.now a.log.now a.image.now e l c.put_words.ensures c.put_words-2.ensures }

@@ -1,30 +1,41 @@
 -- `stripe_decoding::ranges::decode_and_lay` meets its contract, by the laws of proofs/RangeLoop. Assumes nothing.
-use Rattle.std.proofs.Common.{◌*◌, ◌∙◌, add-one}
+use Rattle.std.proofs.Common.{◌≡◌, ◌*◌, ◌∙◌, refl, add-one, arith}
 use Rattle.code.specs.Stripe.{block_count}
+use Rattle.layout.specs.declared.refusal.Refusal.{Refusal}
+use Rattle.layout.specs.Refusals.{number_of}
+use Rattle.layout.proofs.Refusals.{passed_on, some_number, some_refused}
 use Rattle.judging.proofs.ColumnRanges.{length_columns}
 use Rattle.stripe_decoding.proofs.RangeLoop.{blocks, first_words, same_length, ranging_start, range_stops, range_left, range_placed, range_taken}
 use Rattle.stripe_decoding.proofs.RangeLoop.{ranges_ten, ranges_zero, ranges_laid, ranges_left}
 use Rattle.stripe_decoding.proofs.ranges.decode_and_lay.Goals.{then-fit, else-fit}
 use Rattle.stripe_decoding.proofs.ranges.decode_and_lay.Goals as goal
 
+some_is : (x : Refusal) → number_of x ≡ 0 → ⊥
+some_is x z = absurd (omega (arith, some_number x))
+
 pub loop-from-init : goal.loop-from-init
 loop-from-init g c =
     rw (← c.store_factors.auto.scratch)
     (ranging_start c.args.content c.args.st c.args.marks.now (g.S.Source.words c.args.source) c.args.out.now c.store_factors.new.scratch c.requires.ready.fits)
 
-pub returns-then-number-ne0-clause-value : goal.returns-then-number-ne0-clause-value
-returns-then-number-ne0-clause-value g c =
+pub returns-in_err-decode_range-clause-value : goal.returns-in_err-decode_range-clause-value
+returns-in_err-decode_range-clause-value g c =
     let R = c.loop-from.invariant in
     let f = rw R.sized at c.range_at-range.ensures in
-    range_stops c.args.content c.args.st c.args.marks.now (g.S.Source.words c.args.source) R f c.decode_range-number.ensures.value c.requires.ready
-    c.if-number-ne0.true
+    passed_on _ c.from_residual.result c.from_residual.ensures.1
+    ∙ range_stops c.args.content c.args.st c.args.marks.now (g.S.Source.words c.args.source) R f c.in_err-decode_range.ensures.value c.requires.ready
+    (some_is c.in_err-decode_range.field-0.0)
 
-pub returns-then-number-ne0-clause-level_after : goal.returns-then-number-ne0-clause-level_after
-returns-then-number-ne0-clause-level_after g c w =
+pub returns-in_err-decode_range-clause-out_after : goal.returns-in_err-decode_range-clause-out_after
+returns-in_err-decode_range-clause-out_after g c z =
+    absurd (omega (arith, some_refused _ c.from_residual.result c.from_residual.ensures.1))
+
+pub returns-in_err-decode_range-clause-level_after : goal.returns-in_err-decode_range-clause-level_after
+returns-in_err-decode_range-clause-level_after g c w =
     let R = c.loop-from.invariant in
     let f = rw R.sized at c.range_at-range.ensures in
-    range_left c.args.content c.args.st c.args.marks.now (g.S.Source.words c.args.source) R f c.decode_range-number.ensures.value c.requires.ready
-    c.if-number-ne0.true c.requires.out_len w
+    range_left c.args.content c.args.st c.args.marks.now (g.S.Source.words c.args.source) R f c.in_err-decode_range.ensures.value c.requires.ready
+    (some_is c.in_err-decode_range.field-0.0) c.requires.out_len w
 
 pub lay_range-requires-clause-placed : goal.lay_range-requires-clause-placed
 lay_range-requires-clause-placed g c =
@@ -33,10 +44,10 @@ lay_range-requires-clause-placed g c =
     let range = c.range_at-range.result in
     let R = c.loop-from.invariant in
     let f = rw R.sized at c.range_at-range.ensures in
-    let z = c.if-number-ne0.false in
+    let d = c.in_ok-decode_range.ensures in
     let q = first_words range.cols _ _ c.two_to-blocks.ensures (length_columns a.st.width range.from range.cols (block_count a.st) (blocks a.st a.marks.now ws))
-    (c.decode_range-number.ensures.part_after z) in
-    range_placed a.content a.st a.marks.now ws R f c.decode_range-number.ensures.value z q c.judge-fit.ensures.fits_after c.judge-fit.ensures.value
+    (d.part_after refl) in
+    range_placed a.content a.st a.marks.now ws R f d.value refl q c.judge-fit.ensures.fits_after c.judge-fit.ensures.value
     c.requires.ready.fits c.requires.out_len c.requires.level_room c.if-fit.true
 
 pub loop-from-preserved : goal.loop-from-preserved
@@ -46,13 +57,13 @@ loop-from-preserved g c =
     let range = c.range_at-range.result in
     let R = c.loop-from.invariant in
     let f = rw R.sized at c.range_at-range.ensures in
-    let z = c.if-number-ne0.false in
+    let d = c.in_ok-decode_range.ensures in
     let q = first_words range.cols _ _ c.two_to-blocks.ensures (length_columns a.st.width range.from range.cols (block_count a.st) (blocks a.st a.marks.now ws))
-    (c.decode_range-number.ensures.part_after z) in
-    range_taken a.content a.st a.marks.now ws R f c.decode_range-number.ensures.value z q c.judge-fit.ensures.fits_after c.judge-fit.ensures.value
+    (d.part_after refl) in
+    range_taken a.content a.st a.marks.now ws R f d.value refl q c.judge-fit.ensures.fits_after c.judge-fit.ensures.value
     c.requires.ready.fits c.requires.out_len c.requires.level_room
-    (same_length (c.two_to-positions.result * range.cols) c.loop-from.scratch c.decode_range-number.new.part
-    (rw (c.two_to-positions.ensures, add-one) c.range_at-range.ensures.inside) c.decode_range-number.auto.part)
+    (same_length (c.two_to-positions.result * range.cols) c.loop-from.scratch c.decode_range.new.part
+    (rw (c.two_to-positions.ensures, add-one) c.range_at-range.ensures.inside) c.decode_range.auto.part)
     c.if-fit.auto.out
     (λ t. elim c.if-fit.branch [ then-fit w ↦ w.out-is ∙ w.lay_range.ensures | else-fit w ↦ cc ])
     (λ t. elim c.if-fit.branch [ then-fit w ↦ cc | else-fit w ↦ w.out-is ])

@@ -1,0 +1,11 @@
+-- The loop of `recovery::stripes::lay_each`: what is left to lay comes to all there was to lay. Assumes nothing: these are definitions.
+use Rattle.recovery.specs.steps.Laying.{decoding, stripes_laid}
+use Rattle.recovery.proofs.StripesLaid.{Left}
+use Rattle.recovery.proofs.stripes.lay_each.Given as goal
+
+abbrev pub invariant-loop-level : goal.invariant-loop-level
+invariant-loop-level l =
+    let h = l.reading.header.header in
+    let m = l.reading.image.now in
+    let e = l.reading.erasures.now in
+    Left h l.content (decoding h m e) (stripes_laid h l.content m e) l.out l.level
