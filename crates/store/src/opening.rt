@@ -7,6 +7,7 @@ ghost use Rattle.store.specs.Buffers.{reduced, full_stripe};
 ghost use Rattle.store.specs.steps.Opening.{WholeWords};
 ghost use Rattle.store.specs.StoreCalls.{open_number, opened_as, open_answer, open_leaves};
 
+use code::{Stripe, ValidStripe};
 use layout::{Header, Refusal, ValidHeader};
 
 // Stores as many words, each modulo p. By index: of words that an adapter of `iter_mut` writes nothing is known.
@@ -49,13 +50,13 @@ pub(crate) fn build(header: ValidHeader, raw: &[u32], full: &mut [u32], whole: b
         let from = i * s;
         block_row(&mut full[at..at + width], i, &raw[from..from + s], whole);
     }
-    let st = code::Stripe {
+    let stripe = Stripe {
         level: k,
         k,
         first: 0,
         width,
     };
-    encoder::code(full, st);
+    encoder::code(full, ValidStripe { stripe });
 }
 
 // Tests 1, 2 and 5 of an opening.
