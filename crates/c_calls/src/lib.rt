@@ -3,16 +3,47 @@
 
 ghost use Rattle.std.specs.Prelude.{◌≡◌};
 ghost use Rattle.vault.specs.Header.{header_of};
+ghost use Rattle.vault.specs.Refusals.{answer_number};
 ghost use Rattle.vault.specs.PowersCall.{powers_number, powers_leaves};
 ghost use Rattle.vault.specs.Buffers.{buffers};
 ghost use Rattle.vault.specs.StoreCalls.{open_number, open_leaves, write_number, write_answer, write_leaves, read_number};
 ghost use Rattle.vault.specs.StripeCall.{decode_number, decode_leaves, decode_scratch};
-ghost use Rattle.vault.specs.RecoveryCall.{recover_answer, recover_leaves, recover_scratch};
+ghost use Rattle.vault.specs.RecoveryCall.{verdict_of, recover_answer, recover_leaves, recover_scratch};
 ghost use Rattle.vault.specs.ExplainCall.{explain_answer, explain_counts, explain_origins, explain_scratch};
 ghost use Rattle.vault.specs.ImageCall.{image_number, image_leaves};
 ghost use Rattle.vault.specs.Boundary.{read_start, read_count, shelf_of};
 
-use vault::{Header, Verdict, calls};
+use vault::{Fault, Header, Refusal, calls};
+
+// The number of an answer, 0 if the call was taken.
+fn number_of<T: Drop>(answer: Result<T, Refusal>) -> u32
+    ensures { result ≡ answer_number answer }
+{
+    match answer {
+        Ok(_) => 0,
+        Err(refusal) => refusal.number(),
+    }
+}
+
+// The number of an answer that may name a stripe.
+fn fault_number(answer: Result<(), Fault>) -> u32
+    ensures { result ≡ (verdict_of answer).number }
+{
+    match answer {
+        Ok(()) => 0,
+        Err(fault) => fault.refusal.number(),
+    }
+}
+
+// The shelf at fault, or 0xffffffff where none is named.
+fn shelf_of(answer: Result<(), Fault>) -> u32
+    ensures { result ≡ shelf_of (verdict_of answer) }
+{
+    match answer {
+        Err(Fault { stripe: Some(stripe), .. }) => stripe,
+        _ => 0xffffffff,
+    }
+}
 
 // The header is then k, s, 0.
 #[unsafe(no_mangle)]
@@ -21,8 +52,7 @@ pub extern "C" fn vault_open(k: u32, s: u32, raw: &[u32], full: &mut [u32], log:
     ensures full_after { full.new ≡ (open_leaves k s raw.now full.old log.old).full }
     ensures log_after { log.new ≡ (open_leaves k s raw.now full.old log.old).log }
 {
-    let answer = calls::open(k, s, raw, full, log);
-    answer.number
+    number_of(calls::open(k, s, raw, full, log))
 }
 
 // *c becomes the header's c after the write; it stays where the write is refused.
@@ -48,11 +78,14 @@ pub extern "C" fn vault_write(
     ensures log_after { log.new ≡
         (write_leaves (header_of k s c.old) (buffers raw.old full.old log.old) «record» block.now).log }
 {
-    let header = Header { k: k, s: s, c: *c };
-    let answer = calls::write(header, raw, full, log, record, block);
-    let next = answer.header;
-    *c = next.c;
-    answer.number
+    let header = Header { k, s, c: *c };
+    match calls::write(header, raw, full, log, record, block) {
+        Ok(next) => {
+            *c = next.c;
+            0
+        }
+        Err(refusal) => refusal.number(),
+    }
 }
 
 // The record is raw[*start .. *start + *count); both are 0 where the reading is refused.
@@ -70,15 +103,18 @@ pub extern "C" fn vault_read(
     ensures start_after { start.new ≡ read_start (header_of k s c) raw.now «record» }
     ensures count_after { count.new ≡ read_count (header_of k s c) raw.now «record» }
 {
-    let number = calls::read_number(Header { k: k, s: s, c: c }, raw, record);
-    if number != 0 {
-        *start = 0;
-        *count = 0;
-        return number;
+    match calls::read(Header { k, s, c }, raw, record) {
+        Ok(_) => {
+            *start = record as usize * s as usize;
+            *count = s as usize;
+            0
+        }
+        Err(refusal) => {
+            *start = 0;
+            *count = 0;
+            refusal.number()
+        }
     }
-    *start = record as usize * s as usize;
-    *count = s as usize;
-    0
 }
 
 // The blocks of one shelf of an image; shelf is the stripe, gaps the erasure list.
@@ -99,24 +135,7 @@ pub extern "C" fn vault_decode(
     ensures scratch_after { scratch.new ≡
         decode_scratch (header_of k s c) image.now gaps.now shelf out.old scratch.old }
 {
-    calls::decode(
-        Header { k: k, s: s, c: c },
-        image,
-        gaps,
-        shelf,
-        out,
-        scratch,
-    )
-}
-
-// The shelf at fault, or 0xffffffff where none is named.
-fn shelf_of(answer: Verdict) -> u32
-    ensures { result ≡ shelf_of answer }
-{
-    if answer.named {
-        return answer.stripe;
-    }
-    0xffffffff
+    number_of(calls::decode(Header { k, s, c }, image, gaps, shelf, out, scratch))
 }
 
 // *shelf is the shelf at fault, or 0xffffffff where none is named.
@@ -138,9 +157,9 @@ pub extern "C" fn vault_recover(
     ensures shelf_after { shelf.new ≡
         shelf_of (recover_answer (header_of k s c) image.now gaps.now out.old scratch.old) }
 {
-    let answer = calls::recover(Header { k: k, s: s, c: c }, image, gaps, out, scratch);
+    let answer = calls::recover(Header { k, s, c }, image, gaps, out, scratch);
     *shelf = shelf_of(answer);
-    answer.number
+    fault_number(answer)
 }
 
 // Why a recovery stops, or where each record comes from. counts: for each shelf the positions left, and how many it lacks; origins: for each record the shelf
@@ -169,7 +188,7 @@ pub extern "C" fn vault_explain(
         origins.old scratch.old) }
 {
     let explained = calls::explain(
-        Header { k: k, s: s, c: c },
+        Header { k, s, c },
         image,
         gaps,
         counts,
@@ -177,7 +196,7 @@ pub extern "C" fn vault_explain(
         scratch,
     );
     *shelf = shelf_of(explained);
-    explained.number
+    fault_number(explained)
 }
 
 // The image of the full shelf and the log.
@@ -193,7 +212,7 @@ pub extern "C" fn vault_image(
     ensures value { result ≡ image_number (header_of k s c) full.now log.now image.old }
     ensures image_after { image.new ≡ image_leaves (header_of k s c) full.now log.now image.old }
 {
-    calls::image(Header { k: k, s: s, c: c }, full, log, image)
+    number_of(calls::image(Header { k, s, c }, full, log, image))
 }
 
 // The table of powers.
@@ -202,5 +221,5 @@ pub extern "C" fn vault_powers(powers: &mut [u32]) -> u32
     ensures value { result ≡ powers_number powers.old }
     ensures powers_after { powers.new ≡ powers_leaves powers.old }
 {
-    calls::powers(powers)
+    number_of(calls::powers(powers))
 }

@@ -1,30 +1,37 @@
 // The calls of the vault (docs/FORMAT.md, section 9), all eight, by value: headers are given and come back, and nothing is kept between two calls. No call
-// has a precondition. Each contract says, for every input, what the call answers (`result`) and what is left of each buffer that it may change: `x.old` is
+// has a precondition. Each contract says, for every input, what the call answers (`result`,
+// of which answer_number, opened_as, written_as and verdict_of say the number of the table and what goes with it) and what is left of each buffer that it may change: `x.old` is
 // the buffer x as it was lent, `x.new` as it is left, `x.now` one that does not change, and «x» a parameter whose name is a word of the language. Where the
 // promises (specs/promises) speak of a call, they speak of these definitions.
 ghost use Rattle.std.specs.Prelude.{◌≡◌};
 ghost use Rattle.power_table.specs.PowersCall.{powers_number, powers_leaves};
 ghost use Rattle.store.specs.Buffers.{buffers};
-ghost use Rattle.store.specs.StoreCalls.{open_answer, open_leaves, write_answer, write_leaves, read_number, read_gives};
+ghost use Rattle.layout.specs.Refusals.{answer_number};
+ghost use Rattle.store.specs.StoreCalls.{opened_as, open_answer, open_leaves, written_as, write_answer, write_leaves, read_part, read_number, read_gives};
 ghost use Rattle.image.specs.ImageCall.{image_number, image_leaves};
 ghost use Rattle.stripe_decoding.specs.StripeCall.{decode_number, decode_leaves, decode_scratch};
-ghost use Rattle.recovery.specs.RecoveryCall.{recover_answer, recover_leaves, recover_scratch};
+ghost use Rattle.recovery.specs.RecoveryCall.{verdict_of, recover_answer, recover_leaves, recover_scratch};
 ghost use Rattle.explanation.specs.ExplainCall.{explain_answer, explain_counts, explain_origins, explain_scratch};
 
-use layout::Header;
-use recovery::Verdict;
-use store::{Opened, Written};
+use layout::{Header, Refusal};
+use recovery::Fault;
 
-// Opens a vault over raw records, which are its raw copy and do not change. Tests 1, 2 (raw, full, log), 5. A refused opening gives the header 0, 0, 0.
-pub fn open(k: u32, s: u32, raw: &[u32], full: &mut [u32], log: &mut [u32]) -> Opened
-    ensures value { result ≡ open_answer k s raw.now full.old log.old }
+// Opens a vault over raw records, which are its raw copy and do not change. Tests 1, 2 (raw, full, log), 5.
+pub fn open(
+    k: u32,
+    s: u32,
+    raw: &[u32],
+    full: &mut [u32],
+    log: &mut [u32],
+) -> Result<Header, Refusal>
+    ensures value { opened_as result ≡ open_answer k s raw.now full.old log.old }
     ensures full_after { full.new ≡ (open_leaves k s raw.now full.old log.old).full }
     ensures log_after { log.new ≡ (open_leaves k s raw.now full.old log.old).log }
 {
     store::opening::open(k, s, raw, full, log)
 }
 
-// Replaces a record by a block. Tests 1, 2 (raw, full, log, block), 4, 5, 11. A refused write gives the header that it was given.
+// Replaces a record by a block, and gives the header afterwards. Tests 1, 2 (raw, full, log, block), 4, 5, 11.
 pub fn write(
     header: Header,
     raw: &mut [u32],
@@ -32,8 +39,8 @@ pub fn write(
     log: &mut [u32],
     record: u32,
     block: &[u32],
-) -> Written
-    ensures value { result ≡ write_answer header (buffers raw.old full.old log.old) «record» block.now }
+) -> Result<Header, Refusal>
+    ensures value { written_as header result ≡ write_answer header (buffers raw.old full.old log.old) «record» block.now }
     ensures raw_after { raw.new ≡ (write_leaves header (buffers raw.old full.old log.old) «record» block.now).raw }
     ensures full_after { full.new ≡ (write_leaves header (buffers raw.old full.old log.old) «record» block.now).full }
     ensures log_after { log.new ≡ (write_leaves header (buffers raw.old full.old log.old) «record» block.now).log }
@@ -41,23 +48,17 @@ pub fn write(
     store::writing::write(header, raw, full, log, record, block)
 }
 
-// The number of the call `read`, which gives a part alone: tests 1, 2 (raw), 4.
-pub fn read_number(header: Header, raw: &[u32], record: u32) -> u32
-    ensures { result ≡ read_number header raw.now «record» }
-{
-    store::reading::read_number(header, raw, record)
-}
-
-// A record, a part of the raw buffer; an empty part where reading is refused.
-pub fn read<'a>(header: Header, raw: &'a [u32], record: u32) -> &'a [u32]
-    ensures { result.now ≡ read_gives header raw.now «record» }
+// A record, a part of the raw buffer. Tests 1, 2 (raw), 4.
+pub fn read<'a>(header: Header, raw: &'a [u32], record: u32) -> Result<&'a [u32], Refusal>
+    ensures value { answer_number result ≡ read_number header raw.now «record» }
+    ensures part { read_part result ≡ read_gives header raw.now «record» }
 {
     store::reading::read(header, raw, record)
 }
 
 // The image of the full stripe and the log. Tests 1, 2 (full, log, image).
-pub fn image(header: Header, full: &[u32], log: &[u32], image: &mut [u8]) -> u32
-    ensures value { result ≡ image_number header full.now log.now image.old }
+pub fn image(header: Header, full: &[u32], log: &[u32], image: &mut [u8]) -> Result<(), Refusal>
+    ensures value { answer_number result ≡ image_number header full.now log.now image.old }
     ensures image_after { image.new ≡ image_leaves header full.now log.now image.old }
 {
     image::images::image(header, full, log, image)
@@ -71,8 +72,8 @@ pub fn decode(
     stripe: u32,
     out: &mut [u32],
     scratch: &mut [u32],
-) -> u32
-    ensures value { result ≡ decode_number header image.now erasures.now stripe out.old scratch.old }
+) -> Result<(), Refusal>
+    ensures value { answer_number result ≡ decode_number header image.now erasures.now stripe out.old scratch.old }
     ensures out_after { out.new ≡ decode_leaves header image.now erasures.now stripe out.old scratch.old }
     ensures scratch_after { scratch.new ≡ decode_scratch header image.now erasures.now stripe out.old scratch.old }
 {
@@ -86,8 +87,8 @@ pub fn recover(
     erasures: &[u8],
     out: &mut [u32],
     scratch: &mut [u32],
-) -> Verdict
-    ensures value { result ≡ recover_answer header image.now erasures.now out.old scratch.old }
+) -> Result<(), Fault>
+    ensures value { verdict_of result ≡ recover_answer header image.now erasures.now out.old scratch.old }
     ensures out_after { out.new ≡ recover_leaves header image.now erasures.now out.old scratch.old }
     ensures scratch_after { scratch.new ≡ recover_scratch header image.now erasures.now out.old scratch.old }
 {
@@ -102,8 +103,8 @@ pub fn explain(
     counts: &mut [u32],
     origins: &mut [u32],
     scratch: &mut [u32],
-) -> Verdict
-    ensures value { result ≡ explain_answer header image.now erasures.now counts.old origins.old scratch.old }
+) -> Result<(), Fault>
+    ensures value { verdict_of result ≡ explain_answer header image.now erasures.now counts.old origins.old scratch.old }
     ensures counts_after { counts.new ≡ explain_counts header image.now erasures.now counts.old origins.old scratch.old }
     ensures origins_after { origins.new ≡ explain_origins header image.now erasures.now counts.old origins.old scratch.old }
     ensures scratch_after { scratch.new ≡ explain_scratch header image.now erasures.now counts.old origins.old scratch.old }
@@ -112,8 +113,8 @@ pub fn explain(
 }
 
 // The table of powers. Test 2 (powers).
-pub fn powers(powers: &mut [u32]) -> u32
-    ensures value { result ≡ powers_number powers.old }
+pub fn powers(powers: &mut [u32]) -> Result<(), Refusal>
+    ensures value { answer_number result ≡ powers_number powers.old }
     ensures powers_after { powers.new ≡ powers_leaves powers.old }
 {
     power_table::powers(powers)

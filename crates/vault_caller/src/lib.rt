@@ -2,15 +2,15 @@
 // vault's code.
 #![tactic(auto)]
 
-ghost use Rattle.std.specs.Prelude.{◌≡◌, length};
+ghost use Rattle.std.specs.Prelude.{◌≡◌, IsOk, length};
 ghost use Rattle.vault.specs.Header.{header_of, image_size, raw_size, scratch_size};
 ghost use Rattle.vault.specs.StoreCalls.{open_number};
 ghost use Rattle.vault.specs.promises.Losses.{LeavesHalf};
 
-use vault::calls;
+use vault::{Fault, calls};
 
-// Opens a vault over raw records, makes its image, and recovers from that image what an erasure list leaves: the number of the last of the three calls, or of
-// the first that is refused. Where each buffer has its length, the opening is taken and the list leaves half of each needed stripe, that is 0, and the output
+// Opens a vault over raw records, makes its image, and recovers from that image what an erasure list leaves: what the last of the three calls answers, or the
+// first that is refused. Where each buffer has its length, the opening is taken and the list leaves half of each needed stripe, that is 0, and the output
 // is the raw records.
 pub fn open_and_recover(
     k: u32,
@@ -22,22 +22,15 @@ pub fn open_and_recover(
     erasures: &[u8],
     out: &mut [u32],
     scratch: &mut [u32],
-) -> u32
+) -> Result<(), Fault>
     ensures taken { open_number k s raw.now full.old log.old ≡ 0 → length image.old ≡ image_size (header_of k s 0) →
         (length out.old ≡ raw_size (header_of k s 0)) × (length scratch.old ≡ scratch_size (header_of k s 0)) →
-        LeavesHalf (header_of k s 0) erasures.now → result ≡ 0 }
-    ensures recovered { result ≡ 0 →
+        LeavesHalf (header_of k s 0) erasures.now → IsOk result }
+    ensures recovered { IsOk result →
         (length out.old ≡ raw_size (header_of k s 0)) × (length scratch.old ≡ scratch_size (header_of k s 0)) →
         LeavesHalf (header_of k s 0) erasures.now → out.new ≡ raw.now }
 {
-    let opened = calls::open(k, s, raw, full, log);
-    if opened.number != 0 {
-        return opened.number;
-    }
-    let number = calls::image(opened.header, full, log, image);
-    if number != 0 {
-        return number;
-    }
-    let verdict = calls::recover(opened.header, image, erasures, out, scratch);
-    verdict.number
+    let header = calls::open(k, s, raw, full, log)?;
+    calls::image(header, full, log, image)?;
+    calls::recover(header, image, erasures, out, scratch)
 }
