@@ -10,7 +10,7 @@ use borrow.Author.Tests.{eqb-true}
 use lib.Dec.{eqb}
 use lib.ListN.{take, drop}
 use Rattle.layout.specs.declared.Header.{Header}
-use Rattle.recovery.specs.declared.Verdict.{Verdict}
+use Rattle.recovery.specs.Verdicts.{Verdict}
 use Rattle.layout.specs.Header.{header_fits, is_filled}
 use Rattle.layout.specs.Refusals.{Tests, test, refusal, if_taken}
 use Rattle.image.specs.Erasures.{erasures_in}

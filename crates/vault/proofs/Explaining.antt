@@ -16,7 +16,7 @@ use Rattle.image.specs.Erasures.{erasures_in}
 use Rattle.judging.specs.Decoding.{Decoded, failed, decoded}
 use Rattle.judging.proofs.Proved as Decoding
 use Rattle.stripe_decoding.specs.Decoding.{decode_stripe}
-use Rattle.recovery.specs.declared.Verdict.{Verdict}
+use Rattle.recovery.specs.Verdicts.{Verdict}
 use Rattle.recovery.specs.Recovery.{Layer, Recovered, then_lay, levels_over, stripes_over, records}
 use Rattle.recovery.specs.Origins.{origins_size, origins, explain}
 use Rattle.recovery.specs.RecoveryCall.{recover_early, unnamed, answer_of, recovered_words}

@@ -1,7 +1,7 @@
 -- What the C boundary hands out of an answer, as numbers. Assumes nothing: these are definitions.
 use Rattle.std.specs.Prelude.{true, false, List, ℕ, ◌*◌}
 use Rattle.layout.specs.declared.Header.{Header}
-use Rattle.recovery.specs.declared.Verdict.{Verdict}
+use Rattle.recovery.specs.Verdicts.{Verdict}
 use Rattle.layout.specs.Refusals.{if_taken}
 use Rattle.store.specs.StoreCalls.{read_number}
 

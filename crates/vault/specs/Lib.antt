@@ -23,6 +23,7 @@ pub use Rattle.stripe_decoding.specs.Decoding as StripeDecoding
 pub use Rattle.stripe_decoding.specs.StripeCall
 pub use Rattle.recovery.specs.Origins
 pub use Rattle.recovery.specs.RecoveryCall
+pub use Rattle.recovery.specs.Verdicts
 pub use Rattle.explanation.specs.Counts
 pub use Rattle.explanation.specs.ExplainCall
 pub use Rattle.power_table.specs.PowersCall

@@ -5,7 +5,7 @@ use Rattle.std.specs.Prelude.{◌≡◌, Bool, true, false, List, [], ◌∷◌,
 use Rattle.field.specs.Field.{fermat, root_of}
 use Rattle.code.specs.Stripe.{coded}
 use Rattle.decoder.specs.Decoding.{decoded_column}
-use Rattle.recovery.specs.declared.Verdict.{Verdict}
+use Rattle.recovery.specs.Verdicts.{Verdict}
 use Rattle.layout.specs.Header.{header_of, first_of}
 use Rattle.image.specs.Image.{little, image_of}
 use Rattle.stripe_decoding.specs.StripeCall.{decode_number, decode_leaves, decode_scratch}

@@ -10,7 +10,8 @@ ghost use Rattle.layout.specs.Refusals.{answer_number};
 ghost use Rattle.store.specs.StoreCalls.{opened_as, open_answer, open_leaves, written_as, write_answer, write_leaves, read_part, read_number, read_gives};
 ghost use Rattle.image.specs.ImageCall.{image_number, image_leaves};
 ghost use Rattle.stripe_decoding.specs.StripeCall.{decode_number, decode_leaves, decode_scratch};
-ghost use Rattle.recovery.specs.RecoveryCall.{verdict_of, recover_answer, recover_leaves, recover_scratch};
+ghost use Rattle.recovery.specs.Verdicts.{verdict_of};
+ghost use Rattle.recovery.specs.RecoveryCall.{recover_answer, recover_leaves, recover_scratch};
 ghost use Rattle.explanation.specs.ExplainCall.{explain_answer, explain_counts, explain_origins, explain_scratch};
 
 use layout::{Header, Refusal};
