@@ -1,7 +1,7 @@
 -- What the call `explain` answers and leaves, for every input. Assumes nothing: these are definitions.
 use Rattle.std.specs.Prelude.{◌&&◌, List, ℕ, eqb, length, replicate}
 use Rattle.layout.specs.declared.Header.{Header}
-use Rattle.recovery.specs.declared.Verdict.{Verdict}
+use Rattle.recovery.specs.Verdicts.{Verdict}
 use Rattle.layout.specs.Header.{scratch_size}
 use Rattle.image.specs.Erasures.{erasures_in}
 use Rattle.image.specs.ImageTests.{image_tests}

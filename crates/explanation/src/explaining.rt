@@ -1,77 +1,77 @@
 // The call explain: what is left of each stripe that recovery needs, and where each record comes from.
-ghost use Rattle.std.specs.Prelude.{◌≡◌, true, [], ◌∷◌, ◌≤◌, length};
-ghost use Rattle.layout.specs.Header.{header_fits};
+ghost use Rattle.std.specs.Prelude.{◌≡◌, [], ◌∷◌, ◌≤◌, length, IfOk};
 ghost use Rattle.layout.specs.Records.{replaced};
+ghost use Rattle.layout.specs.Refusals.{answer_number};
 ghost use Rattle.image.specs.Erasures.{erasures_in};
+ghost use Rattle.recovery.specs.Verdicts.{verdict_of};
 ghost use Rattle.explanation.specs.Counts.{counts_size, positions_left, left, shortfall, counts_of};
 ghost use Rattle.explanation.specs.ExplainCall.{explain_early, explain_answer, explain_counts, explain_origins, explain_scratch};
 
-use layout::Header;
+use image::Reading;
+use layout::{Header, Refusal, ValidHeader};
 use range_laying::Content;
-use recovery::Verdict;
-use stripe_decoding::Overlay;
+use recovery::Fault;
 
 // How many positions of a stripe are left.
-fn positions_left(header: Header, erasures: &[u8], level: usize) -> usize
-    requires { (header_fits header ≡ true) × (level ≤ header.k) }
-    ensures { result ≡ positions_left header (erasures_in erasures.now) level }
+fn positions_left(reading: Reading, level: usize) -> usize
+    requires { level ≤ reading.header.header.k }
+    ensures { result ≡ positions_left reading.entry.header.header (erasures_in reading.entry.erasures.now) level }
 {
     let mut marks = [false; 2048];
-    image::erasures::mark_stripe(header, erasures, level, &mut marks);
+    reading.mark_stripe(level, &mut marks);
     let all = code::number::two_to(level + 1);
     let erased = decoder::decoding::count_erased(&marks, level);
     all - erased
 }
 
 // Stores the counts of a stripe: the positions left, and how many more it needs; zeros if recovery does not need it.
-fn count_stripe(header: Header, erasures: &[u8], level: usize, counts: &mut [u32])
-    requires header_value { (header_fits header ≡ true) × (level ≤ header.k) }
-    requires counts_len { length counts.old ≡ counts_size header }
+fn count_stripe(reading: Reading, level: usize, counts: &mut [u32])
+    requires within { level ≤ reading.header.header.k }
+    requires counts_len { length counts.old ≡ counts_size reading.header.header }
     ensures { counts.new ≡
         replaced 2 counts.old level
-        (left header (erasures_in erasures.now) level ∷ shortfall header (erasures_in erasures.now) level ∷ []) }
+        (left reading.entry.header.header (erasures_in reading.entry.erasures.now) level ∷
+        shortfall reading.entry.header.header (erasures_in reading.entry.erasures.now) level ∷ []) }
 {
-    if !layout::places::has_stripe(header, level as u32) {
+    if !layout::places::has_stripe(reading.header.header, level as u32) {
         range_laying::pairs::put_pair(counts, level, 0, 0);
         return;
     }
-    let left = positions_left(header, erasures, level);
+    let left = positions_left(reading, level);
     let needed = code::number::two_to(level);
     let short = if left < needed { needed - left } else { 0 };
     range_laying::pairs::put_pair(counts, level, left as u32, short as u32);
 }
 
 // Stores the counts of all stripes.
-fn count_stripes(header: Header, erasures: &[u8], counts: &mut [u32])
-    requires header_value { header_fits header ≡ true }
-    requires counts_len { length counts.old ≡ counts_size header }
-    ensures { counts.new ≡ counts_of header (erasures_in erasures.now) }
+fn count_stripes(reading: Reading, counts: &mut [u32])
+    requires { length counts.old ≡ counts_size reading.header.header }
+    ensures { counts.new ≡ counts_of reading.entry.header.header (erasures_in reading.entry.erasures.now) }
 {
-    let stripes = header.k as usize + 1;
+    let stripes = reading.header.header.k as usize + 1;
     for level in 0..stripes {
-        count_stripe(header, erasures, level, counts);
+        count_stripe(reading, level, counts);
     }
 }
 
 // Tests 1, 2 and 3.
-fn explain_early(
+fn check<'a>(
     header: Header,
-    image: &[u8],
-    erasures: &[u8],
+    image: &'a [u8],
+    erasures: &'a [u8],
     counts: &[u32],
     origins: &[u32],
     scratch: &[u32],
-) -> u32
-    ensures { result ≡
+) -> Result<Reading<'a>, Refusal>
+    ensures number { answer_number result ≡
         explain_early header image.now erasures.now counts.now origins.now scratch.now }
+    ensures same { IfOk result (λ r. (r.header.header ≡ header) × (r.image.now ≡ image.now) × (r.erasures.now ≡ erasures.now)) }
 {
-    if !layout::sizes::header_fits(header) {
-        return 1;
-    }
+    ValidHeader::try_from(header)?;
     if counts.len() != (header.k as usize + 1) * 2 {
-        return 2;
+        return Err(Refusal::Length);
     }
-    image::erasures::image_number(header, image, erasures, 2, origins.len(), scratch.len())
+    image::erasures::check(header, image, erasures, 2, origins.len(), scratch.len())
 }
 
 // Explains what recovery would give. Tests 1, 2 (image, counts, origins, scratch), 3; then it counts what is left of all needed stripes, and then 7 to 10 as
@@ -83,8 +83,8 @@ pub fn explain(
     counts: &mut [u32],
     origins: &mut [u32],
     scratch: &mut [u32],
-) -> Verdict
-    ensures value { result ≡
+) -> Result<(), Fault>
+    ensures value { verdict_of result ≡
         explain_answer header image.now erasures.now counts.old origins.old scratch.old }
     ensures counts_after { counts.new ≡
         explain_counts header image.now erasures.now counts.old origins.old scratch.old }
@@ -93,22 +93,11 @@ pub fn explain(
     ensures scratch_after { scratch.new ≡
         explain_scratch header image.now erasures.now counts.old origins.old scratch.old }
 {
-    let number = explain_early(header, image, erasures, counts, origins, scratch);
-    if number != 0 {
-        return Verdict {
-            number: number,
-            named: false,
-            stripe: 0,
-        };
-    }
-    count_stripes(header, erasures, counts);
-    let overlay = Overlay {
-        header: header,
-        content: Content::Origins,
-    };
-    let answer = recovery::stripes::lay_stripes(overlay, image, erasures, origins, scratch);
-    if answer.number != 0 {
-        layout::words::clear(origins);
+    let reading = check(header, image, erasures, counts, origins, scratch)?;
+    count_stripes(reading, counts);
+    let answer = recovery::stripes::lay_stripes(reading, Content::Origins, origins, scratch);
+    if answer.is_err() {
+        origins.fill(0);
     }
     answer
 }

@@ -14,22 +14,24 @@ use Rattle.explanation.proofs.explaining.count_stripe.Goals as goal
 pub returns-then-not-has_stripe : goal.returns-then-not-has_stripe
 returns-then-not-has_stripe c =
     let a = c.args in
-    let gs = erasures_in a.erasures.now in
+    let h = a.reading.header.header in
+    let gs = erasures_in a.reading.erasures.now in
     let e = sym c.has_stripe.ensures ∙ c.if-not-has_stripe.true in
-    c.put_pair.ensures ∙ ap₂ (λ (x y : ℕ). replaced 2 a.counts.now a.level (x ∷ y ∷ [])) (sym (left_none a.header gs a.level e))
-    (sym (short_none a.header gs a.level e))
+    c.put_pair.ensures ∙ ap₂ (λ (x y : ℕ). replaced 2 a.counts.now a.level (x ∷ y ∷ [])) (sym (left_none h gs a.level e))
+    (sym (short_none h gs a.level e))
 
 -- what is left is small
 pub overflow_cast-left : goal.overflow_cast-left
 overflow_cast-left c =
     let a = c.args in
-    let b = (fits a.header c.requires.header_value.0).k_high in
-    let w = c.requires.header_value.1 in
+    let h = a.reading.header.header in
+    let b = (fits h a.reading.header.fits).k_high in
+    let w = c.requires.within in
     record {
       fits = omega (
         arith,
         c.positions_left-left.ensures,
-        no_more (marks_of a.header (erasures_in a.erasures.now) a.level) a.level,
+        no_more (marks_of h (erasures_in a.reading.erasures.now) a.level) a.level,
         pow_mono {i = suc a.level} {j = 11} (omega (arith, b, w)),
       );
     }
@@ -38,14 +40,15 @@ overflow_cast-left c =
 pub returns : goal.returns
 returns c =
     let a = c.args in
-    let gs = erasures_in a.erasures.now in
+    let h = a.reading.header.header in
+    let gs = erasures_in a.reading.erasures.now in
     let e = sym c.has_stripe.ensures ∙ c.if-not-has_stripe.false in
     let left = c.positions_left-left.ensures in
     let needed = c.two_to-needed.ensures in
-    let lacks : c.if-left-needed.short ≡ 2 ^ a.level - positions_left a.header gs a.level =
+    let lacks : c.if-left-needed.short ≡ 2 ^ a.level - positions_left h gs a.level =
     elim c.if-left-needed.branch [
       | then-left-needed w ↦ omega (arith, w.short-is, left, needed)
       | else-left-needed w ↦ omega (arith, w.short-is, w.if-left-needed.false, left, needed)
     ] in
     c.put_pair-2.ensures ∙ ap₂ (λ (x y : ℕ). replaced 2 a.counts.now a.level (x ∷ y ∷ []))
-    (left ∙ sym (left_needed a.header gs a.level e)) (lacks ∙ sym (short_needed a.header gs a.level e))
+    (left ∙ sym (left_needed h gs a.level e)) (lacks ∙ sym (short_needed h gs a.level e))

@@ -8,9 +8,9 @@ loop-level-init c = filling_start _ _ _ _
 
 pub loop-level-preserved : goal.loop-level-preserved
 loop-level-preserved c =
-    filling_turn _ _ c.loop-level.invariant (omega (arith, c.loop-level-test.true)) (omega (arith, c.requires.counts_len)) c.count_stripe.ensures
+    filling_turn _ _ c.loop-level.invariant (omega (arith, c.loop-level-test.true)) (omega (arith, c.requires)) c.count_stripe.ensures
 
 pub returns : goal.returns
 returns c =
-    filled_whole _ _ (suc c.args.header.k) c.args.counts.now c.requires.counts_len
+    filled_whole _ _ (suc c.args.reading.header.header.k) c.args.counts.now c.requires
     (filling_done _ _ c.loop-level.invariant (omega (arith, c.loop-level-test.false)))

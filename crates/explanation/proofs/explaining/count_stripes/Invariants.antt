@@ -7,4 +7,6 @@ use Rattle.explanation.proofs.explaining.count_stripes.Given as goal
 
 abbrev pub invariant-loop-level : goal.invariant-loop-level
 invariant-loop-level l =
-    Filling (left l.header (erasures_in l.erasures)) (shortfall l.header (erasures_in l.erasures)) (suc l.header.k) l.initial.counts l.counts l.level
+    let h = l.reading.header.header in
+    let gs = erasures_in l.reading.erasures.now in
+    Filling (left h gs) (shortfall h gs) (suc h.k) l.initial.counts l.counts l.level

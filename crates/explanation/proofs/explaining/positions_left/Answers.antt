@@ -12,13 +12,13 @@ pub count_erased-erased-requires-clause-level_in_bounds :
     goal.count_erased-erased-requires-clause-level_in_bounds
 count_erased-erased-requires-clause-level_in_bounds c =
     let a = c.args in
-    marks_fit a.header a.level {st = stripe_of a.header a.level} refl (erasures_in a.erasures.now) c.requires.0 c.requires.1 c.mark_stripe.ensures
+    marks_fit a.reading.header.header a.level {st = stripe_of a.reading.header.header a.level} refl (erasures_in a.reading.erasures.now) a.reading.header.fits c.requires c.mark_stripe.ensures
 
 -- the positions, and those of them that are erased
 pub returns : goal.returns
 returns c =
     let a = c.args in
     let all : c.two_to-all.result ≡ 2 ^ suc a.level = c.two_to-all.ensures ∙ rw add-one in
-    let erased : c.count_erased-erased.result ≡ erased_count a.level (marks_of a.header (erasures_in a.erasures.now) a.level) =
+    let erased : c.count_erased-erased.result ≡ erased_count a.level (marks_of a.reading.header.header (erasures_in a.reading.erasures.now) a.level) =
     c.count_erased-erased.ensures ∙ ap (erased_count a.level) c.mark_stripe.ensures in
-    omega (arith, all, erased, no_more (marks_of a.header (erasures_in a.erasures.now) a.level) a.level)
+    omega (arith, all, erased, no_more (marks_of a.reading.header.header (erasures_in a.reading.erasures.now) a.level) a.level)
