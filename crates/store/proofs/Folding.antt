@@ -1,8 +1,8 @@
 -- Laws of `folded` of specs/steps/Writing: the loop that folds a half, and its words. Assumes nothing.
-use mathlib.Core.Path.{◌≡◌, refl, sym, ap, ap₂, ◌∙◌}
+use mathlib.Core.Path.{◌≡◌, refl, sym, ap, ◌∙◌}
 use mathlib.Core.List.{List, ◌++◌, append_assoc}
-use Prim.Native.Nat.{ℕ, zero, suc, ◌+◌, ◌-◌, ◌*◌, ◌/◌, ◌^◌, ◌≤◌, ◌<◌}
-use native.Mathlib.Nat.{add-mul, mul-le-mul_right, div-one, div-div-eq-div-mul, pow-suc}
+use Prim.Native.Nat.{ℕ, zero, suc, ◌+◌, ◌-◌, ◌*◌, ◌^◌, ◌≤◌, ◌<◌}
+use native.Mathlib.Nat.{add-mul, mul-le-mul_right}
 use native.Mathlib.Numerals.{add-one}
 use native.Mathlib.Omega.{arith}
 use borrow.Rule.Slice.PartMut.{put_mid}
@@ -14,7 +14,6 @@ use Rattle.field.specs.Words.{Words}
 use Rattle.field.proofs.WordLists.{words_take, words_part, words_append}
 use Rattle.code.specs.Rows.{lifted}
 use Rattle.code.specs.Transform.{mixed_halves}
-use Rattle.code.specs.steps.Mixing.{RowFactors}
 use Rattle.code.proofs.Blocks.{mixing_block}
 use Rattle.code.proofs.Lifting.{length_lifted}
 use Rattle.code.proofs.RowLaws.{Parts, length_parts, lent_front, lent_rest, put_rest}

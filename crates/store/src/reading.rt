@@ -8,7 +8,7 @@ use layout::{Header, Refusal, ValidHeader};
 // The record, a part of the raw buffer. Tests 1, 2, 4.
 pub fn read<'a>(header: Header, raw: &'a [u32], number: u32) -> Result<&'a [u32], Refusal>
     ensures value { answer_number result ≡ read_number header raw.now number }
-    ensures part { read_part (λ p. p.now) result ≡ read_gives header raw.now number }
+    ensures part { read_part result ≡ read_gives header raw.now number }
 {
     let valid = ValidHeader::try_from(header)?;
     if raw.len() != valid.raw_size() {

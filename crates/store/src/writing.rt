@@ -32,7 +32,7 @@ fn put_record(raw: &mut [u32], i: usize, s: usize, words: &[u32])
     raw[at..at + s].copy_from_slice(words);
 }
 
-// Puts a block as a row: its number and its data, each times g.
+// Puts a block as a row: its number and its data, each times g. By index, as `reduce_row` of opening.rt.
 fn put_row(row: &mut [u32], block: Block, g: u32)
     requires row_len { length row.old ≡ suc (length block.words.now) }
     requires g_bound { g < fermat.modulus - 1 }

@@ -1,5 +1,5 @@
 -- `store::opening::block_row` meets its contract: words of the field are their own residues. Assumes nothing.
-use Rattle.std.proofs.Common.{◌≡◌, ℕ, List, ◌∷◌, suc, sym, ap, ◌∙◌, length, set}
+use Rattle.std.proofs.Common.{ℕ, List, ◌∷◌, suc, sym, ap, ◌∙◌}
 use Rattle.store.specs.Buffers.{reduced}
 use Rattle.store.proofs.StoredRecords.{reduced_same, length_reduced}
 use Rattle.store.proofs.Stores.{row_put}

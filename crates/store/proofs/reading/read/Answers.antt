@@ -7,13 +7,14 @@ use native.Mathlib.Omega.{arith}
 use borrow.Author.Tests.{lt-ltb, le-ltb, eq-eqb, ne_eqb}
 use lib.ListN.{length, take, drop}
 use Rattle.std.specs.Prelude.{Result}
+use Rattle.std.specs.Borrow.{Bor}
 use Rattle.std.specs.Result.{IsErrAnd}
 use Rattle.std.proofs.lemmas.Result.{err_from_is_err_and}
 use Rattle.layout.specs.declared.Header.{Header}
 use Rattle.layout.specs.declared.refusal.Refusal.{Refusal}
 use Rattle.layout.specs.Header.{header_fits, record_count, raw_size}
 use Rattle.layout.specs.Records.{record_in}
-use Rattle.layout.specs.Refusals.{refusal, number_of, answer_number}
+use Rattle.layout.specs.Refusals.{refusal, answer_number}
 use Rattle.layout.proofs.Refusals.{header_passed_on, header_taken, some_refused, if_taken_lem, if_refused}
 use Rattle.store.specs.StoreCalls.{read_number, read_part, read_gives}
 use Rattle.store.proofs.reading.read.Goals as goal
@@ -23,9 +24,9 @@ module _ (h : Header) (r : List ℕ) (i : ℕ) where
   gives_none l e = sym (if_refused {n = read_number h r i} (record_in h.s r i) [] (λ z. omega (arith, e, z)))
 
   -- a refusal that is passed on
-  passed_part : {A : Type 0} (words : A → List ℕ) (x : Refusal) (y : Result A Refusal) → IsErrAnd y (λ z. z ≡ x) → answer_number y ≡ read_number h r i
-      → read_part words y ≡ read_gives h r i
-  passed_part words x y p e = let q = err_from_is_err_and y p in rw q.1 (gives_none (some_refused x y p) e)
+  passed_part : (x : Refusal) (y : Result (Bor (List ℕ)) Refusal) → IsErrAnd y (λ z. z ≡ x) → answer_number y ≡ read_number h r i
+      → read_part y ≡ read_gives h r i
+  passed_part x y p e = let q = err_from_is_err_and y p in rw q.1 (gives_none (some_refused x y p) e)
 
   module _ (ok : true ≡ header_fits h) {n : ℕ} (en : n ≡ raw_size h) where
     unequal : (length r ≡ n → ⊥) → 2 ≡ read_number h r i
@@ -51,7 +52,7 @@ returns-in_err-valid-clause-value c = header_passed_on c.args.header _ c.from_re
 
 pub returns-in_err-valid-clause-part : goal.returns-in_err-valid-clause-part
 returns-in_err-valid-clause-part c =
-    passed_part c.args.header c.args.raw.now c.args.number _ _ c.from_residual.result c.from_residual.ensures.1
+    passed_part c.args.header c.args.raw.now c.args.number _ c.from_residual.result c.from_residual.ensures.1
     (header_passed_on c.args.header _ c.from_residual.result _ c.from_residual.ensures.1 c.in_err-valid.ensures)
 
 pub returns-then-raw-raw_size-clause-value : goal.returns-then-raw-raw_size-clause-value

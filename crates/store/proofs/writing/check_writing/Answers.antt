@@ -1,9 +1,9 @@
 -- `store::writing::check_writing` meets its contract: each test that holds or fails, in turn. Assumes nothing.
 use mathlib.Core.Path.{◌≡◌, refl, sym, ap, ap₂, ◌∙◌}
-use mathlib.Core.Bool.{Bool, true, false, not, ◌&&◌}
+use mathlib.Core.Bool.{Bool, true, false, not}
 use mathlib.Core.List.{List}
 use Prim.Native.Nat.{ℕ, ◌≤◌, ◌<◌}
-use native.Mathlib.Omega.{arith}
+use borrow.Author.Rules.{rules}
 use borrow.Author.Tests.{lt-ltb, le-ltb, eq-eqb, ne_eqb}
 use lib.Dec.{ltb, eqb}
 use lib.ListN.{length}
@@ -66,6 +66,9 @@ module _ (h : Header) (r f g : List ℕ) (i : ℕ) (b : List ℕ) where
           unfolding refusal
           all_hold k = tested ex ey true true false (lt-ltb i m w) d k
 
+-- what the last tests follow from, whatever their order
+ruleset write_rules = (not_within, no_data, blank_block, all_hold, rules)
+
 pub returns-in_err-valid-clause-number : goal.returns-in_err-valid-clause-number
 returns-in_err-valid-clause-number c =
     let a = c.args in
@@ -78,28 +81,13 @@ returns-then-block-header-clause-number c =
     unequal a.header a.raw.now a.full.now a.log.now a.number a.block.now c.in_ok-valid.ensures.number c.if-block-header.true
 
 pub returns-then-outside-clause-number : goal.returns-then-outside-clause-number
-returns-then-outside-clause-number c =
-    let a = c.args in
-    let e = c.in_ok-valid.ensures in
-    not_within a.header a.raw.now a.full.now a.log.now a.number a.block.now e.number c.if-block-header.false e.same c.record_count.ensures c.if-outside.true
+returns-then-outside-clause-number c = search write_rules
 
 pub returns-then-not-fit-clause-number : goal.returns-then-not-fit-clause-number
-returns-then-not-fit-clause-number c =
-    let a = c.args in
-    let e = c.in_ok-valid.ensures in
-    no_data a.header a.raw.now a.full.now a.log.now a.number a.block.now e.number c.if-block-header.false e.same c.record_count.ensures c.if-outside.false
-    c.all_data-fit.ensures c.if-not-fit.true
+returns-then-not-fit-clause-number c = search write_rules
 
 pub returns-then-blank-clause-number : goal.returns-then-blank-clause-number
-returns-then-blank-clause-number c =
-    let a = c.args in
-    let e = c.in_ok-valid.ensures in
-    blank_block a.header a.raw.now a.full.now a.log.now a.number a.block.now e.number c.if-block-header.false e.same c.record_count.ensures c.if-outside.false
-    c.all_data-fit.ensures c.if-not-fit.false c.is_blank-blank.ensures c.if-blank.true
+returns-then-blank-clause-number c = search write_rules
 
 pub returns-clause-number : goal.returns-clause-number
-returns-clause-number c =
-    let a = c.args in
-    let e = c.in_ok-valid.ensures in
-    all_hold a.header a.raw.now a.full.now a.log.now a.number a.block.now e.number c.if-block-header.false e.same c.record_count.ensures c.if-outside.false
-    c.all_data-fit.ensures c.if-not-fit.false c.is_blank-blank.ensures c.if-blank.false
+returns-clause-number c = search write_rules

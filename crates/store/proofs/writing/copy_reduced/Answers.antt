@@ -1,6 +1,5 @@
 -- `store::writing::copy_reduced` meets its contract: what is copied stands before the place that it is copied to. Assumes nothing.
 use Rattle.std.proofs.Common.{◌≡◌, ℕ, List, ◌++◌, ◌+◌, ◌-◌, ◌≤◌, length, take, drop, sym, ap, ap₂, ◌∙◌, arith}
-use borrow.Rule.Slice.PartMut.{put_mid}
 use Rattle.std.proofs.lemmas.List.Edits.{sets}
 use Rattle.field.proofs.WordLists.{part_inside}
 use Rattle.store.specs.Buffers.{reduced}

@@ -1,6 +1,6 @@
 -- `store::writing::fold` meets its contract, by the loop of a fold of proofs/Folding. Assumes nothing.
 use Rattle.store.proofs.FoldTables.{served_factors, served_root}
-use Rattle.store.proofs.Folding.{fold_start, fold_turn, turn_room, turn_from, next_from, lent_long, lent_words}
+use Rattle.store.proofs.Folding.{fold_start, fold_turn, turn_room, turn_from, next_from, lent_long}
 use Rattle.store.proofs.writing.fold.Goals as goal
 
 pub loop-l-init : goal.loop-l-init

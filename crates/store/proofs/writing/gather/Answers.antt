@@ -7,7 +7,6 @@ use native.Mathlib.Numerals.{add-one}
 use borrow.Rule.Slice.PartMut.{put_mid}
 use lib.ListN.{length, take, drop}
 use lib.Seq.{sets}
-use Rattle.code.specs.Transform.{scaled}
 use Rattle.code.proofs.Shapes.{length_scaled}
 use Rattle.store.specs.Buffers.{reduced}
 use Rattle.store.specs.steps.Writing.{half_start, gathered}

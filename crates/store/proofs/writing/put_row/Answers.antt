@@ -1,5 +1,5 @@
 -- `store::writing::put_row` meets its contract, by the laws of a loop that stores words. Assumes nothing.
-use Rattle.std.proofs.Common.{◌≡◌, sym, ap, ◌∙◌, ℕ, suc, ◌∷◌, zero-add, get_or, length, arith}
+use Rattle.std.proofs.Common.{sym, ap, ◌∙◌, ℕ, suc, ◌∷◌, zero-add, get_or, length, arith}
 use Rattle.field.specs.Residue.{times}
 use Rattle.code.specs.Transform.{scaled}
 use Rattle.code.proofs.Shapes.{length_scaled, scaled_at}

@@ -3,7 +3,6 @@ use mathlib.Core.Path.{◌≡◌, refl, sym, ap, ◌∙◌}
 use mathlib.Core.Bool.{true}
 use mathlib.Core.List.{List, ◌∷◌, ◌++◌}
 use Prim.Native.Nat.{ℕ, suc, ◌+◌, ◌*◌, ◌-◌, ◌^◌, ◌≤◌, ◌<◌}
-use native.Mathlib.Numerals.{add-one}
 use native.Mathlib.Omega.{arith}
 use borrow.Rule.Slice.PartMut.{put_mid}
 use lib.Dec.{lit<}
@@ -100,58 +99,68 @@ entry-turn-requires c = rw c.reversed-e.ensures (omega (arith, reversed_lt))
 
 pub gather-requires-clause-level_in_bounds : goal.gather-requires-clause-level_in_bounds
 gather-requires-clause-level_in_bounds c =
-    room c.args.header.header c.args.log.now c.args.level c.args.block.number c.args.block.words.now c.args.header.fits c.requires.level_bound c.requires.lengths
+    let a = c.args in
+    room a.header.header a.log.now a.level a.block.number a.block.words.now a.header.fits c.requires.level_bound c.requires.lengths
 
 pub gather-requires-2-clause-level_in_bounds : goal.gather-requires-2-clause-level_in_bounds
 gather-requires-2-clause-level_in_bounds c =
-    let l = room c.args.header.header c.args.log.now c.args.level c.args.block.number c.args.block.words.now c.args.header.fits c.requires.level_bound c.requires.lengths in
+    let a = c.args in
+    let l = room a.header.header a.log.now a.level a.block.number a.block.words.now a.header.fits c.requires.level_bound c.requires.lengths in
     omega (arith, c.gather.auto.log)
 
 pub gather-requires-2-clause-g_bound : goal.gather-requires-2-clause-g_bound
 gather-requires-2-clause-g_bound c =
+    let a = c.args in
     let l =
-    turn_low c.args.header.header c.args.log.now c.args.level c.args.block.number c.args.block.words.now c.args.header.fits c.requires.level_bound c.requires.lengths c.reversed-e.ensures
-    c.entry-turn.ensures (omega arith)
+    turn_low a.header.header a.log.now a.level a.block.number a.block.words.now a.header.fits c.requires.level_bound c.requires.lengths
+    c.reversed-e.ensures c.entry-turn.ensures (omega arith)
     in
     omega arith
 
 pub slice_bounds-fold_level-end : goal.slice_bounds-fold_level-end
 slice_bounds-fold_level-end c =
+    let a = c.args in
     let h =
-    gathered_at c.args.header.header c.args.log.now c.args.level c.args.block.number c.args.block.words.now c.args.header.fits c.requires.level_bound c.requires.lengths _ _ c.width-width.ensures c.gather.ensures
-    c.gather-2.ensures c.half_at-start.ensures c.half_at-end.ensures
+    gathered_at a.header.header a.log.now a.level a.block.number a.block.words.now a.header.fits c.requires.level_bound c.requires.lengths _ _
+    c.width-width.ensures c.gather.ensures c.gather-2.ensures c.half_at-start.ensures c.half_at-end.ensures
     in
     omega (arith, h.at.end_is, h.fits, length_log h)
 
 pub fold_level-requires-clause-part_len : goal.fold_level-requires-clause-part_len
 fold_level-requires-clause-part_len c =
-    lent_long c.args.header.header c.args.log.now c.args.level c.args.block.number c.args.block.words.now c.args.header.fits c.requires.level_bound c.requires.lengths _ _ c.width-width.ensures c.gather.ensures
-    c.gather-2.ensures c.half_at-start.ensures c.half_at-end.ensures
+    let a = c.args in
+    lent_long a.header.header a.log.now a.level a.block.number a.block.words.now a.header.fits c.requires.level_bound c.requires.lengths _ _
+    c.width-width.ensures c.gather.ensures c.gather-2.ensures c.half_at-start.ensures c.half_at-end.ensures
 
 pub fold_level-requires-clause-words : goal.fold_level-requires-clause-words
 fold_level-requires-clause-words c =
-    lent_words c.args.header.header c.args.log.now c.args.level c.args.block.number c.args.block.words.now c.args.header.fits c.requires.level_bound c.requires.lengths _ _ c.width-width.ensures c.gather.ensures
-    c.gather-2.ensures c.half_at-start.ensures c.half_at-end.ensures
+    let a = c.args in
+    lent_words a.header.header a.log.now a.level a.block.number a.block.words.now a.header.fits c.requires.level_bound c.requires.lengths _ _
+    c.width-width.ensures c.gather.ensures c.gather-2.ensures c.half_at-start.ensures c.half_at-end.ensures
 
 pub slice_bounds-fill-end : goal.slice_bounds-fill-end
 slice_bounds-fill-end c =
+    let a = c.args in
     let h =
-    level_in c.args.header.header c.args.log.now c.args.level c.args.block.number c.args.block.words.now c.args.header.fits c.requires.level_bound c.requires.lengths _ _ c.width-width.ensures c.gather.ensures
-    c.gather-2.ensures c.half_at-start.ensures c.half_at-end.ensures c.fold_level.ensures c.fold_level.auto.part
+    level_in a.header.header a.log.now a.level a.block.number a.block.words.now a.header.fits c.requires.level_bound c.requires.lengths _ _
+    c.width-width.ensures c.gather.ensures c.gather-2.ensures c.half_at-start.ensures c.half_at-end.ensures c.fold_level.ensures c.fold_level.auto.part
     in
     omega (arith, h.at.end_is, h.fits, length_log h)
 
 pub slice_bounds-fill-end-2 : goal.slice_bounds-fill-end-2
 slice_bounds-fill-end-2 c =
+    let a = c.args in
     let h =
-    level_in c.args.header.header c.args.log.now c.args.level c.args.block.number c.args.block.words.now c.args.header.fits c.requires.level_bound c.requires.lengths _ _ c.width-width.ensures c.gather.ensures
-    c.gather-2.ensures c.half_at-start.ensures c.half_at-end.ensures c.fold_level.ensures c.fold_level.auto.part
+    level_in a.header.header a.log.now a.level a.block.number a.block.words.now a.header.fits c.requires.level_bound c.requires.lengths _ _
+    c.width-width.ensures c.gather.ensures c.gather-2.ensures c.half_at-start.ensures c.half_at-end.ensures c.fold_level.ensures c.fold_level.auto.part
     in
     sym (length-take-le _ _ (omega (arith, h.at.end_is, h.fits, length_log h)))
 
 pub returns : goal.returns
 returns c =
-    level_rebuilt c.args.header.header c.args.log.now c.args.level c.args.block.number c.args.block.words.now c.args.header.fits c.requires.level_bound c.requires.lengths _ _ c.width-width.ensures c.gather.ensures
-    c.gather-2.ensures c.half_at-start.ensures c.half_at-end.ensures c.fold_level.ensures c.fold_level.auto.part c.args.block.in_field refl
-    (turn_is c.args.header.header c.args.log.now c.args.level c.args.block.number c.args.block.words.now c.args.header.fits c.requires.level_bound c.requires.lengths c.reversed-e.ensures
-    c.entry-turn.ensures) (c.fill.ensures.after (λ y e. e))
+    let a = c.args in
+    level_rebuilt a.header.header a.log.now a.level a.block.number a.block.words.now a.header.fits c.requires.level_bound c.requires.lengths _ _
+    c.width-width.ensures c.gather.ensures c.gather-2.ensures c.half_at-start.ensures c.half_at-end.ensures c.fold_level.ensures c.fold_level.auto.part
+    a.block.in_field refl
+    (turn_is a.header.header a.log.now a.level a.block.number a.block.words.now a.header.fits c.requires.level_bound c.requires.lengths
+    c.reversed-e.ensures c.entry-turn.ensures) (c.fill.ensures.after (λ y e. e))

@@ -2,7 +2,7 @@
 use mathlib.Core.Path.{◌≡◌, sym, ap, ◌∙◌}
 use mathlib.Core.Bool.{true, not}
 use mathlib.Core.List.{List, ◌∷◌}
-use Prim.Native.Nat.{ℕ, suc, ◌+◌, ◌*◌, ◌≤◌, ◌<◌}
+use Prim.Native.Nat.{ℕ, suc, ◌+◌, ◌*◌, ◌≤◌}
 use native.Mathlib.Nat.{mul-le-mul_right}
 use native.Mathlib.Numerals.{add-one}
 use native.Mathlib.Omega.{arith}
@@ -15,7 +15,7 @@ use Rattle.layout.specs.declared.Header.{Header}
 use Rattle.layout.specs.Header.{record_count, raw_size, full_size, log_size}
 use Rattle.layout.specs.Records.{is_blank, replaced}
 use Rattle.layout.specs.Refusals.{done, test}
-use Rattle.layout.proofs.Bounds.{Fits, fits}
+use Rattle.layout.proofs.Bounds.{fits}
 use Rattle.layout.proofs.Refusals.{if_taken_lem}
 use Rattle.layout.proofs.RecordWords.{data_words, field_words}
 use Rattle.store.specs.Buffers.{Buffers, buffers, opened}
