@@ -1,8 +1,8 @@
--- The length of what each step of the decoder gives, its words, and that they are words of the field. Assumes nothing.
+-- How many levels there are, the length of what each step of the decoder gives, its words, and that they are words of the field. Assumes nothing.
 use mathlib.Core.Path.{◌≡◌, ◌∙◌}
 use mathlib.Core.Bool.{Bool, false}
 use mathlib.Core.List.{List}
-use Prim.Native.Nat.{ℕ, suc, ◌+◌, ◌^◌, ◌<◌}
+use Prim.Native.Nat.{ℕ, suc, ◌+◌, ◌^◌, ◌≤◌, ◌<◌}
 use native.Mathlib.Omega.{arith}
 use lib.ListN.{length, get_or, take, drop}
 use lib.Seq.{get_or-take}
@@ -12,10 +12,16 @@ use Rattle.field.proofs.Laws.{minus_lt, times_lt}
 use Rattle.field.proofs.Powers.{power_lt}
 use Rattle.field.proofs.WordLists.{words_take, words_drop, words_append, words_table, length_table, get_or_table}
 use Rattle.code.specs.Transform.{transform, untransform, turned}
+use Rattle.code.specs.declared.Stripe.{Stripe}
+use Rattle.code.specs.Stripe.{Numbers}
 use Rattle.decoder.specs.steps.Decoder.{raised_at, raised, weighed_at, weighed, halves_unmixed, derived_at, derived, evaluated, selected_at, selected}
 use Rattle.field.proofs.Booleans.{choice_lt}
 use Rattle.code.proofs.Shapes.{take_half, drop_half, length_halves, length_transform, length_untransform, length_turned, append_low, append_high}
 use Rattle.code.proofs.Shapes.{words_transform, words_untransform, words_turned}
+
+-- a stripe has at most eleven levels
+pub few_levels : {st : Stripe} → Numbers st → st.level ≤ 10
+few_levels h = omega (arith, h.within, h.small)
 
 -- the powers of g that are the factors
 pub raised_at_lem : (p g l : ℕ) (es : List ℕ) (i : ℕ) → i < 2 ^ suc l → get_or (raised p g l es) i 0 ≡ power p g (get_or es i 0)

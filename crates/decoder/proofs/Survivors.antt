@@ -1,12 +1,14 @@
 -- The positions that survive: each is one of those asked for, unmarked, and they rise; and how many survive and how many are erased. Assumes nothing.
-use mathlib.Core.Path.{◌≡◌, refl, ap}
+use mathlib.Core.Path.{◌≡◌, refl, sym, ap, ◌∙◌}
 use mathlib.Core.Logic.{⊎_elim}
 use mathlib.Core.Bool.{Bool, true, false}
 use mathlib.Core.List.{List, ◌∷◌}
 use Prim.Native.Nat.{ℕ, zero, suc, ◌+◌, ◌^◌, ◌≤◌, ◌<◌}
 use native.Mathlib.Nat.{zero-add, add-zero}
 use native.Mathlib.Omega.{arith}
-use lib.ListN.{length, get_or}
+use lib.ListN.{length, get_or, take}
+use Rattle.std.specs.List.{count_by}
+use Rattle.std.proofs.lemmas.List.Sums.{count_by_more_yes, count_by_more_no}
 use Rattle.logarithms.specs.Weights.{erased_to}
 use Rattle.decoder.specs.Decoding.{survivors_from}
 use Rattle.decoder.specs.steps.Decoder.{erased_count}
@@ -72,6 +74,15 @@ module _ (ms : List Bool) where
   pub erased_false : (n : ℕ) → get_or ms n false ≡ false → erased_to ms (suc n) ≡ erased_to ms n
   unfolding erased_to
   erased_false n e = rw (e, erased_to)
+
+  -- which is their count
+  pub marks_counted : (n : ℕ) → n ≤ length ms → count_by (λ m. m) (take n ms) ≡ erased_to ms n
+  marks_counted zero b = sym erased_zero
+  marks_counted (suc n) b =
+      let r : count_by (λ m. m) (take n ms) ≡ erased_to ms n = marks_counted n (omega arith) in
+      ap (λ k. count_by (λ m. m) (take k ms)) {x = suc n} {y = n + 1} (omega arith)
+      ∙ ⊎_elim (λ e. count_by_more_yes (λ m. m) ms n false (omega arith) e ∙ omega (arith, r, erased_true n e))
+          (λ e. count_by_more_no (λ m. m) ms n false (omega arith) e ∙ r ∙ sym (erased_false n e)) (either (get_or ms n false))
 
   survivors_true : (i n : ℕ) → get_or ms i false ≡ true → length (survivors_from ms i (suc n)) ≡ length (survivors_from ms (suc i) n)
   unfolding survivors_from

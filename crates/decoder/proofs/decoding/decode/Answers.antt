@@ -2,7 +2,9 @@
 -- the blocks are those decoded, either way. Assumes nothing.
 use Rattle.std.proofs.Common.{arith, ◌≡◌, ◌≤◌, ◌∙◌, sym, ap, ap₂, Bool, true, false, List, ◌++◌, ℕ, ◌+◌, ◌*◌, ◌-◌, length, take, drop, replicate}
 use lib.Dec.{lit<}
-use lib.Seq.{take_at}
+use borrow.Rule.Slice.PartMut.{put_mid}
+use lib.ListN.{take-append-drop, length-drop}
+use lib.Seq.{take_at, length-take-le}
 use Rattle.field.specs.Power.{inverse}
 use Rattle.field.specs.Words.{Words}
 use Rattle.field.proofs.Primes.{fermat_prime, fermat_root}
@@ -10,7 +12,7 @@ use Rattle.code.specs.declared.Stripe.{Stripe}
 use Rattle.code.specs.Rows.{lifted}
 use Rattle.code.specs.Stripe.{Numbers, root_in, position_count, block_count, block_words, stripe_words}
 use Rattle.code.proofs.Lifting.{length_lifted, two_halves}
-use Rattle.code.proofs.RowLaws.{no_rest}
+use Rattle.code.proofs.RowLaws.{Parts, lent_rest, put_rest}
 use Rattle.decoder.specs.Decoding.{is_consistent, blocks_in}
 use Rattle.decoder.specs.Promises.{Parameters, Enough}
 use Rattle.decoder.specs.steps.Decoder.{Factors, erased_count, raised, left_of, interpolated, unscaled, halves_column}
@@ -76,33 +78,34 @@ module _ {st : Stripe} {ms : List Bool} {ws rows : List ℕ} {e : ℕ} (g : Give
         unscaled_blocks 65537 (root_in st) st.k st.level st.first st.width ms stripe g.enough g.words (sym c) S (omega (arith, g.erased))
         (rw ex (take_at r (drop (block_words st) s) (block_words st) (length_lifted st.width (position_count st) (block_count st) (unscaled 65537 st.level) s)))
 
-  -- WHAT IS LEFT once the rest of the part x is cleared, of two halves of h words
+  -- WHAT IS LEFT once the rest of the part x is filled with zeros, of two halves of h words
   module _ (x : List ℕ) {h : ℕ} (eh : h ≡ block_words st) (long : length x ≡ length rows) where
     all_is : length x ≡ h + h
     all_is = omega (arith, g.long, two_halves st.level st.width)
 
-    refused : {y : List ℕ} → false ≡ is_consistent st ms rows → y ≡ replicate (h + h - 0) 0 ++ drop (h + h) x → y ≡ left_of st ms rows
+    refused : {y : List ℕ} → false ≡ is_consistent st ms rows → y ≡ replicate (length x) 0 → y ≡ left_of st ms rows
     refused c ey =
-        ey ∙ no_rest (replicate (h + h - 0) 0) x (h + h) all_is
-        ∙ ap (λ (i : ℕ). replicate i 0) {x = h + h - 0} {y = stripe_words st} (omega (arith, two_halves st.level st.width))
-        ∙ sym (leaves_zeros 65537 (root_in st) st.k st.level st.first st.width ms rows (sym c))
+        ey ∙ ap (λ (i : ℕ). replicate i 0) (long ∙ g.long) ∙ sym (leaves_zeros 65537 (root_in st) st.k st.level st.first st.width ms rows (sym c))
 
-    decoded : {y : List ℕ} → true ≡ is_consistent st ms rows → take (block_words st) x ≡ blocks_in st ms rows
-        → y ≡ take h x ++ replicate (h + h - h) 0 ++ drop (h + h) x → y ≡ left_of st ms rows
-    decoded c eb ey =
-        ey ∙ no_rest (take h x ++ replicate (h + h - h) 0) x (h + h) all_is
-        ∙ ap₂ (λ (i : ℕ) (b : List ℕ). b ++ replicate i 0) {x = h + h - h} {y = block_words st} (omega arith) (ap (λ (i : ℕ). take i x) eh ∙ eb)
+    decoded : {z : List ℕ} → true ≡ is_consistent st ms rows → take (block_words st) x ≡ blocks_in st ms rows
+        → z ≡ replicate (length (take (length x - h) (drop h x))) 0 → put_mid h (length x - h) x z ≡ left_of st ms rows
+    decoded {z} c eb ez =
+        let p : Parts h x (take h x) (drop h x) = record { is = sym (take-append-drop h x); long = length-take-le h x (omega (arith, all_is)) } in
+        let e : length (take (length x - h) (drop h x)) ≡ block_words st =
+        ap length (lent_rest p) ∙ length-drop h x ∙ omega (arith, all_is) in
+        (put_rest p z).is ∙ ap₂ (λ (i : ℕ) (b : List ℕ). take i x ++ b) eh (ez ∙ ap (λ (i : ℕ). replicate i 0) e)
+        ∙ ap (λ (b : List ℕ). b ++ replicate (block_words st) 0) eb
         ∙ sym (leaves_blocks 65537 (root_in st) st.k st.level st.first st.width ms rows (sym c))
 
 -- WHERE THE TWO WAYS JOIN, the part weighed or as it is: the words of a half, what is asked, and the part
-half_at : (c : Joined-erased-gt0) → c.two_to-rows.result * c.args.st.width ≡ block_words c.args.st
-half_at c = ap (λ (n : ℕ). n * c.args.st.width) c.two_to-rows.ensures
+half_at : (c : Joined-erased-gt0) → c.block_count-rows.result * c.args.st.stripe.width ≡ block_words c.args.st.stripe
+half_at c = ap (λ (n : ℕ). n * c.args.st.stripe.width) c.block_count-rows.ensures
 
-given_at : (c : Joined-erased-gt0) → let a = c.args in Given a.st a.marks.now a.factors.now a.part.now c.count_erased-erased.result
+given_at : (c : Joined-erased-gt0) → let a = c.args in Given a.st.stripe a.marks.now a.factors.now a.part.now c.count_erased-erased.result
 given_at c =
     let r = c.requires in
     record {
-      numbers = r.numbers;
+      numbers = c.args.st.numbers;
       enough = r.enough.1;
       are = r.factors_are;
       long = r.part_len;
@@ -122,19 +125,14 @@ unmix_halves-requires-clause-words c =
     let j = (goal.at.unmix_halves-requires-clause-words c).Joined-erased-gt0 in
     holds_words (weighed_at_lem j) (lit< tt) c.requires.words
 
-pub clear-requires : goal.clear-requires
-clear-requires c =
-    (omega arith, omega (arith, c.requires.part_len, two_halves c.args.st.level c.args.st.width, half_at (goal.at.clear-requires c).Joined-erased-gt0))
-
 pub returns-then-not-has_low_degree : goal.returns-then-not-has_low_degree
 returns-then-not-has_low_degree c =
-    let a = c.args in
     let j = (goal.at.returns-then-not-has_low_degree c).Joined-erased-gt0 in
     let e = checked (given_at j) (halves_now (given_at j) (weighed_at_lem j) c.unmix_halves.ensures)
     (sym c.if-not-has_low_degree.true ∙ c.has_low_degree.ensures) in
     record {
       value = e;
-      part_after = refused (given_at j) c.unmix_halves.new.part (half_at j) (omega arith) e c.clear.ensures;
+      part_after = refused (given_at j) c.unmix_halves.new.part (half_at j) (omega arith) e (c.fill.ensures.after (λ y q. q));
     }
 
 pub interpolate-requires-clause-words : goal.interpolate-requires-clause-words
@@ -147,22 +145,18 @@ unscale-requires-clause-words c =
     let j = (goal.at.unscale-requires-clause-words c).Joined-erased-gt0 in
     holds_words (halves_now (given_at j) (weighed_at_lem j) c.unmix_halves.ensures) (lit< tt) c.requires.words
 
-pub clear-requires-2 : goal.clear-requires-2
-clear-requires-2 c =
-    (omega arith, omega (arith, c.requires.part_len, two_halves c.args.st.level c.args.st.width, half_at (goal.at.clear-requires-2 c).Joined-erased-gt0))
-
 pub returns : goal.returns
 returns c =
     let a = c.args in
     let j = (goal.at.returns c).Joined-erased-gt0 in
     let S = halves_now (given_at j) (weighed_at_lem j) c.unmix_halves.ensures in
     let e = checked (given_at j) S (sym c.if-not-has_low_degree.false ∙ c.has_low_degree.ensures) in
-    let b : take (block_words a.st) c.if-erased-gt0-2.part ≡ blocks_in a.st a.marks.now a.part.now =
+    let b : take (block_words a.st.stripe) c.if-erased-gt0-2.part ≡ blocks_in a.st.stripe a.marks.now a.part.now =
     elim c.if-erased-gt0-2.branch [
-      | then-erased-gt0-2 w ↦ interpolated_now (given_at j) S e (ap (take (block_words a.st)) w.part-is ∙ w.interpolate.ensures)
+      | then-erased-gt0-2 w ↦ interpolated_now (given_at j) S e (ap (take (block_words a.st.stripe)) w.part-is ∙ w.interpolate.ensures)
       | else-erased-gt0-2 w ↦ unscaled_now (given_at j) S w.if-erased-gt0-2.false e (w.part-is ∙ w.unscale.ensures)
     ] in
     record {
       value = e;
-      part_after = decoded (given_at j) c.if-erased-gt0-2.part (half_at j) (omega arith) e b c.clear-2.ensures;
+      part_after = decoded (given_at j) c.if-erased-gt0-2.part (half_at j) (omega arith) e b (c.fill-2.ensures.after (λ y q. q));
     }

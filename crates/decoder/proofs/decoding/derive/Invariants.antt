@@ -1,7 +1,8 @@
 -- The invariant of `decoder::decoding::derive`: the first j rows of the second half are written. Assumes nothing.
 use mathlib.Core.Path.{◌≡◌, ap}
 use mathlib.Core.List.{List}
-use Prim.Native.Nat.{ℕ, ◌+◌, ◌*◌, ◌^◌, ◌<◌}
+use Prim.Native.Nat.{ℕ, ◌+◌, ◌*◌, ◌^◌, ◌≤◌, ◌<◌}
+use native.Mathlib.Nat.{add_assoc}
 use native.Mathlib.Omega.{arith}
 use lib.Arith.{digits_div}
 use lib.Dec.{lit<}
@@ -19,38 +20,41 @@ use Rattle.code.proofs.RowLaws.{storing_rows_turn}
 use Rattle.decoder.proofs.DecodeSteps.{derive_word}
 use Rattle.decoder.proofs.decoding.derive.Given as goal
 
-pub record Inv (part₀ : List ℕ) (level width rows b : ℕ) (part : List ℕ) (low high j : ℕ) : Type 0 where
+pub record Inv (part₀ : List ℕ) (level width rows b : ℕ) (part : List ℕ) (j : ℕ) : Type 0 where
   pub rows_is : rows ≡ 2 ^ level
   pub long : length part₀ ≡ rows * width + rows * width
   pub b_is : b ≡ half_of 65537 level
-  pub low_is : low ≡ j * width
-  pub storing : StoringRows (rows * width) (derive_word 65537 level width part₀) rows width part₀ part high j
+  pub storing : StoringRows (rows * width) (derive_word 65537 level width part₀) rows width part₀ part (rows * width + j * width) j
 
-module _ {part₀ : List ℕ} {level width rows b : ℕ} {part : List ℕ} {low high j : ℕ} (h : Inv part₀ level width rows b part low high j) where
+module _ {part₀ : List ℕ} {level width rows b : ℕ} {part : List ℕ} {j : ℕ} (h : Inv part₀ level width rows b part j) where
   pub words : Words 65537 part₀ → Words 65537 part
   unfolding derive_word
   words u = storing_rows_words h.storing (lit< tt) u (λ q. minus_lt 65537 (lit< tt) _ _)
 
+  -- row j of either half ends inside
+  pub room : j < rows → rows * width + j * width + width ≤ length part₀
+  room l = omega (arith, h.long, row_in width l)
+
   -- a word of the row that is written
   pub word : {a : ℕ} → j < rows → a ≡ plus 65537 (Transform.reversed level j) b → (c : ℕ) → c < width
-      → derive_at 65537 low high a b part c ≡ derive_word 65537 level width part₀ (j * width + c)
+      → derive_at 65537 (j * width) (rows * width + j * width) a b part c ≡ derive_word 65537 level width part₀ (j * width + c)
   unfolding derive_at derive_word
   word l e c t =
-      let x : get_or part (low + c) 0 ≡ get_or part₀ (low + c) 0 = storing_rows_front h.storing (low + c) (omega (arith, row_in width l)) in
+      let high = rows * width + j * width in
+      let x : get_or part (j * width + c) 0 ≡ get_or part₀ (j * width + c) 0 = storing_rows_front h.storing (j * width + c) (omega (arith, row_in width l)) in
       let y : get_or part (high + c) 0 ≡ get_or part₀ (high + c) 0 = storing_rows_rest h.storing (high + c) (omega arith) in
-      let m : high + c ≡ 2 ^ level * width + (j * width + c) = omega (arith, h.storing.at_is, ap (λ (n : ℕ). n * width) h.rows_is) in
-      rw (x, y, m, e, digits_div j t, h.low_is, h.b_is)
+      let m : high + c ≡ 2 ^ level * width + (j * width + c) = omega (arith, ap (λ (n : ℕ). n * width) h.rows_is) in
+      rw (x, y, m, e, digits_div j t, h.b_is)
 
   pub turn : {a : ℕ} {part' : List ℕ} → j < rows → a ≡ plus 65537 (Transform.reversed level j) b
-      → part' ≡ stored high (derive_at 65537 low high a b part) width part
-      → Inv part₀ level width rows b part' (low + width) (high + width) (j + 1)
+      → part' ≡ stored (rows * width + j * width) (derive_at 65537 (j * width) (rows * width + j * width) a b part) width part
+      → Inv part₀ level width rows b part' (j + 1)
   turn l e p = record {
     rows_is = h.rows_is;
     long = h.long;
     b_is = h.b_is;
-    low_is = omega (arith, row_next j width);
-    storing = storing_rows_turn h.storing _ l p (word l e);
+    storing = rw (row_next j width, ← add_assoc (rows * width) (j * width) width) (storing_rows_turn h.storing _ l p (word l e));
   }
 
 abbrev pub invariant-loop-j : goal.invariant-loop-j
-invariant-loop-j l = Inv l.fn.part l.level l.width l.rows l.b l.part l.low l.high l.j
+invariant-loop-j l = Inv l.fn.part l.fn.st.stripe.level l.width l.rows l.b l.part l.j

@@ -55,28 +55,28 @@ module _ (st : Stripe) (ms : List Bool) (ws rows : List ℕ) (long : length rows
 pub evaluate-requires-clause-words : goal.evaluate-requires-clause-words
 evaluate-requires-clause-words c =
     let a = c.args in
-    holds_words (derive_holds a.st a.marks.now a.factors.now a.part.now c.requires.part_len c.derive.ensures) (lit< tt) c.requires.words
+    holds_words (derive_holds a.st.stripe a.marks.now a.factors.now a.part.now c.requires.part_len c.derive.ensures) (lit< tt) c.requires.words
 
 pub select_values-requires-clause-words : goal.select_values-requires-clause-words
 select_values-requires-clause-words c =
     let a = c.args in
-    let D = derive_holds a.st a.marks.now a.factors.now a.part.now c.requires.part_len c.derive.ensures in
-    holds_words (evaluate_holds a.st a.marks.now a.factors.now a.part.now c.requires.part_len D c.evaluate.ensures) (lit< tt) c.requires.words
+    let D = derive_holds a.st.stripe a.marks.now a.factors.now a.part.now c.requires.part_len c.derive.ensures in
+    holds_words (evaluate_holds a.st.stripe a.marks.now a.factors.now a.part.now c.requires.part_len D c.evaluate.ensures) (lit< tt) c.requires.words
 
 pub unmix_all-requires-clause-words : goal.unmix_all-requires-clause-words
 unmix_all-requires-clause-words c =
     let a = c.args in
-    let D = derive_holds a.st a.marks.now a.factors.now a.part.now c.requires.part_len c.derive.ensures in
-    let V = evaluate_holds a.st a.marks.now a.factors.now a.part.now c.requires.part_len D c.evaluate.ensures in
-    let h = ap (λ (n : ℕ). n * a.st.width) c.two_to.ensures in
-    holds_words (select_holds a.st a.marks.now a.factors.now a.part.now c.requires.part_len V h c.select_values.ensures) (lit< tt) c.requires.words
+    let D = derive_holds a.st.stripe a.marks.now a.factors.now a.part.now c.requires.part_len c.derive.ensures in
+    let V = evaluate_holds a.st.stripe a.marks.now a.factors.now a.part.now c.requires.part_len D c.evaluate.ensures in
+    let h = ap (λ (n : ℕ). n * a.st.stripe.width) c.block_count.ensures in
+    holds_words (select_holds a.st.stripe a.marks.now a.factors.now a.part.now c.requires.part_len V h c.select_values.ensures) (lit< tt) c.requires.words
 
 pub returns : goal.returns
 returns c =
     let a = c.args in
-    let D = derive_holds a.st a.marks.now a.factors.now a.part.now c.requires.part_len c.derive.ensures in
-    let V = evaluate_holds a.st a.marks.now a.factors.now a.part.now c.requires.part_len D c.evaluate.ensures in
-    let O = select_holds a.st a.marks.now a.factors.now a.part.now c.requires.part_len V
-    (ap (λ (n : ℕ). n * a.st.width) c.two_to.ensures) c.select_values.ensures in
-    let U = unmix_holds a.st a.marks.now a.factors.now a.part.now c.requires.part_len O c.unmix_all.ensures in
-    take_at c.unmix_all.new.half _ (block_words a.st) (holds_length U) ∙ U.is
+    let D = derive_holds a.st.stripe a.marks.now a.factors.now a.part.now c.requires.part_len c.derive.ensures in
+    let V = evaluate_holds a.st.stripe a.marks.now a.factors.now a.part.now c.requires.part_len D c.evaluate.ensures in
+    let O = select_holds a.st.stripe a.marks.now a.factors.now a.part.now c.requires.part_len V
+    (ap (λ (n : ℕ). n * a.st.stripe.width) c.block_count.ensures) c.select_values.ensures in
+    let U = unmix_holds a.st.stripe a.marks.now a.factors.now a.part.now c.requires.part_len O c.unmix_all.ensures in
+    take_at c.unmix_all.new.half _ (block_words a.st.stripe) (holds_length U) ∙ U.is

@@ -6,7 +6,7 @@ use Rattle.decoder.proofs.decoding.unmix_halves.Goals as goal
 
 pub turn_back-requires-clause-words : goal.turn_back-requires-clause-words
 turn_back-requires-clause-words c =
-    again_words _ _ _ _ _ _ _ _ c.two_to.ensures c.unmix_all.ensures c.unmix_all-2.ensures c.requires.words
+    again_words _ _ _ _ _ _ _ _ c.block_count.ensures c.unmix_all.ensures c.unmix_all-2.ensures c.requires.words
 
 pub returns : goal.returns
-returns c = split_rows _ _ _ _ _ _ _ _ c.two_to.ensures c.unmix_all.ensures c.unmix_all-2.ensures _ _ c.requires.part_len c.turn_back.ensures
+returns c = split_rows _ _ _ _ _ _ _ _ c.block_count.ensures c.unmix_all.ensures c.unmix_all-2.ensures _ _ c.requires.part_len c.turn_back.ensures

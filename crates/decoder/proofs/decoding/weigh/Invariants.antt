@@ -2,7 +2,7 @@
 use mathlib.Core.Path.{◌≡◌, sym, ◌∙◌}
 use mathlib.Core.Bool.{Bool, true, false}
 use mathlib.Core.List.{List}
-use Prim.Native.Nat.{ℕ, ◌<◌}
+use Prim.Native.Nat.{ℕ, ◌*◌, ◌<◌}
 use lib.ListN.{get_or}
 use Rattle.code.specs.declared.Stripe.{Stripe}
 use Rattle.code.specs.Stripe.{modulus_of, generator_of, position_count}
@@ -27,4 +27,5 @@ module _ (st : Stripe) (ms : List Bool) (ws : List ℕ) (i : ℕ) {g : ℕ} wher
 
 abbrev pub invariant-loop-i : goal.invariant-loop-i
 invariant-loop-i l =
-    StoringRows 0 (scaled_rows_word (modulus_of l.st) l.width (multipliers l.st l.marks l.factors) l.fn.part) l.rows l.width l.fn.part l.part l.at l.i
+    StoringRows 0 (scaled_rows_word (modulus_of l.st.stripe) l.width (multipliers l.st.stripe l.marks l.factors) l.fn.part) l.rows l.width l.fn.part l.part
+    (l.i * l.width) l.i

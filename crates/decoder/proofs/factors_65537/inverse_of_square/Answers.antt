@@ -2,6 +2,7 @@
 use Rattle.std.proofs.Common.{◌≡◌, ◌-◌, ◌^◌, ◌≤◌, ◌<◌, ℕ, suc, ◌*◌, ◌%◌, ◌+◌, zero, refl, arith}
 use Rattle.field.specs.Residue.{times}
 use Rattle.field.specs.Power.{power, power_from, inverse}
+use Rattle.decoder.proofs.DecoderShapes.{few_levels}
 use Rattle.decoder.proofs.factors_65537.inverse_of_square.Goals as goal
 
 abbrev low : ℕ → ℕ
@@ -44,12 +45,13 @@ high_is (suc (suc zero)) b = refl
 high_is (suc (suc (suc d))) b = absurd (omega arith)
 
 pub overflow_sub-result-then-e-lt16 : goal.overflow_sub-result-then-e-lt16
-overflow_sub-result-then-e-lt16 c = low_small c.args.level c.if-e-lt16.true
+overflow_sub-result-then-e-lt16 c = low_small c.args.st.stripe.level c.if-e-lt16.true
 
 pub returns-then-e-lt16 : goal.returns-then-e-lt16
-returns-then-e-lt16 c = low_is c.args.level c.if-e-lt16.true
+returns-then-e-lt16 c = low_is c.args.st.stripe.level c.if-e-lt16.true
 
-pub returns : goal.returns
-returns c =
-    let e : 8 + (c.args.level - 8) ≡ c.args.level = omega arith in
-    rw e at (high_is (c.args.level - 8) (omega arith))
+pub returns-else-e-lt16 : goal.returns-else-e-lt16
+returns-else-e-lt16 c =
+    let l = c.args.st.stripe.level in
+    let e : 8 + (l - 8) ≡ l = omega arith in
+    rw e at (high_is (l - 8) (omega (arith, few_levels c.args.st.numbers)))
