@@ -41,7 +41,12 @@ fn shelf_of(answer: Result<(), Fault>) -> u32
     ensures { result ≡ shelf_of (verdict_of answer) }
 {
     match answer {
-        Err(Fault { stripe: Some(stripe), .. }) => stripe,
+        Err(
+            Fault {
+                stripe: Some(stripe),
+                ..
+            },
+        ) => stripe,
         _ => 0xffffffff,
     }
 }
@@ -188,14 +193,7 @@ pub extern "C" fn vault_explain(
     ensures shelf_after { shelf.new ≡ shelf_of (explain_answer (header_of k s c) image.now gaps.now counts.old
         origins.old scratch.old) }
 {
-    let explained = calls::explain(
-        Header { k, s, c },
-        image,
-        gaps,
-        counts,
-        origins,
-        scratch,
-    );
+    let explained = calls::explain(Header { k, s, c }, image, gaps, counts, origins, scratch);
     *shelf = shelf_of(explained);
     fault_number(explained)
 }

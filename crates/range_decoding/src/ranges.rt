@@ -10,7 +10,7 @@ ghost use Rattle.judging.specs.StripeFits.{StripeFits};
 ghost use Rattle.judging.specs.steps.Ready.{Ready};
 ghost use Rattle.range_decoding.specs.steps.Ranges.{RangeFits, is_consistent_range, range_number};
 
-use code::{Range, Stripe};
+use code::{Range, Stripe, ValidStripe};
 use image::source::Source;
 use layout::Refusal;
 
@@ -65,9 +65,11 @@ pub fn decode_range<S: Source>(
     if !image::loading::load(part, source, marks, st, range) {
         return Err(Refusal::OutOfField);
     }
-    let of_range = Stripe {
-        width: range.cols,
-        ..st
+    let of_range = ValidStripe {
+        stripe: Stripe {
+            width: range.cols,
+            ..st
+        },
     };
     if !decoder::decoding::decode(part, marks, factors, of_range) {
         return Err(Refusal::Inconsistent);

@@ -1,7 +1,10 @@
 -- `vault_caller::open_and_recover` meets its contract, by what the vault promises of a history with no events. Assumes nothing.
 use Rattle.std.proofs.Common.{◌≡◌, refl, sym, ap, ap₂, ◌∙◌, Bool, true, ◌&&◌, List, [], ℕ, eq-eqb, arith, length, pow_pos}
 use Rattle.vault.specs.Header.{header_of, raw_size, scratch_size, image_size}
-use Rattle.vault.specs.Refusals.{Tests, done, test, refusal}
+use Rattle.std.specs.Prelude.{Option, Some, None, Result, Ok, Err, IsOk}
+use Rattle.vault.specs.Refusals.{Tests, done, test, refusal, number_of}
+use Rattle.vault.specs.Verdicts.{verdict_of, named_by}
+use Rattle.vault.specs.declared.Fault.{Fault}
 use Rattle.vault.specs.ImageCall.{image_number, image_leaves}
 use Rattle.vault.specs.Image.{image_of}
 use Rattle.vault.specs.RecoveryCall.{recover_answer, recover_leaves, unnamed}
@@ -10,9 +13,8 @@ use Rattle.vault.specs.Model.{fed_all}
 use Rattle.vault.specs.History.{Opens, after, opened_vault, vault_after, header_after, image_after}
 use Rattle.vault.specs.promises.Losses.{LeavesHalf, Survives, Recovers}
 use Rattle.vault.proofs.Proved.{proved}
-use Rattle.vault.proofs.Refusals.{if_taken_lem}
-use Rattle.vault.specs.declared.Opened.{Opened}
-use Rattle.vault.specs.StoreCalls.{open_answer}
+use Rattle.vault.proofs.Refusals.{if_taken_lem, some_number}
+use Rattle.vault.specs.StoreCalls.{Opened, open_answer}
 use Rattle.vault_caller.proofs.open_and_recover.Goals as goal
 
 -- OF AN OPENING WITH NO EVENTS AFTER IT, by the record of promises: its header is that of k and s, with count 0 (demand 2);
@@ -45,6 +47,15 @@ unfolding fed_all
 image_taken o m O long =
     same_lengths _ _ _ _ _ _ _ (proved.blanks.blank_kept o [] 0 O (pow_pos o.k)).0 (eq-eqb (length m) _ (rw (header_opened o O) long))
 
+-- An answer with the number 0 is taken
+named_number : (n : ℕ) (o : Option ℕ) → (named_by n o).number ≡ n
+named_number n None = refl
+named_number n (Some l) = refl
+
+no_fault : (r : Result Unit Fault) → (verdict_of r).number ≡ 0 → IsOk r
+no_fault (Ok x) e = refl
+no_fault (Err f) e = absurd (omega (arith, some_number f.refusal, named_number (number_of f.refusal) f.stripe))
+
 -- THE THREE CALLS, as their contracts say them: d is what the first answers, f and g what it leaves
 module _ (o : Opening) {d : Opened} {f g : List ℕ} (O : Opens o)
     (answers : d ≡ open_answer o.k o.s o.raw o.full o.log) (full : f ≡ (opened_vault o).held.full) (log : g ≡ (opened_vault o).held.log) where
@@ -64,19 +75,27 @@ module _ (o : Opening) {d : Opened} {f g : List ℕ} (O : Opens o)
       let r = (raw_recovered o e O L).call out scratch sizes.0 sizes.1 in
       rw (header, made) (r.0, r.1)
 
-pub returns-then-number-ne0-clause-taken : goal.returns-then-number-ne0-clause-taken
-returns-then-number-ne0-clause-taken c = λ O long sizes L.
-    c.image-number.ensures.value ∙ second _ O c.open-opened.ensures.value c.open-opened.ensures.full_after c.open-opened.ensures.log_after _ long
+pub returns-in_err-image-clause-taken : goal.returns-in_err-image-clause-taken
+returns-in_err-image-clause-taken c = λ O long sizes L.
+    let opened = c.in_ok-header.ensures in
+    absurd (omega (
+      arith,
+      some_number c.in_err-image.field-0.0,
+      c.in_err-image.ensures.value,
+      second _ O opened.value opened.full_after opened.log_after _ long,
+    ))
 
 pub returns-clause-taken : goal.returns-clause-taken
 returns-clause-taken c = λ O long sizes L.
-    let image = third _ O c.open-opened.ensures.value c.open-opened.ensures.full_after c.open-opened.ensures.log_after c.args.image.now c.args.erasures.now
-    c.args.out.now c.args.scratch.now (sym c.image-number.ensures.value ∙ c.if-number-ne0.false) c.image-number.ensures.image_after sizes L in
-    ap (λ x. x.number) (c.recover-verdict.ensures.value ∙ image.0)
+    let opened = c.in_ok-header.ensures in
+    let image = third _ O opened.value opened.full_after opened.log_after c.args.image.now c.args.erasures.now c.args.out.now c.args.scratch.now
+    (sym c.in_ok-image.ensures.value) c.in_ok-image.ensures.image_after sizes L in
+    no_fault c.recover.result (ap (λ x. x.number) (c.recover.ensures.value ∙ image.0))
 
 pub returns-clause-recovered : goal.returns-clause-recovered
-returns-clause-recovered c = λ zero sizes L.
-    let O = ap (λ x. x.number) (sym c.open-opened.ensures.value) ∙ c.if-opened-ne0.false in
-    let image = third _ O c.open-opened.ensures.value c.open-opened.ensures.full_after c.open-opened.ensures.log_after c.args.image.now c.args.erasures.now
-    c.args.out.now c.args.scratch.now (sym c.image-number.ensures.value ∙ c.if-number-ne0.false) c.image-number.ensures.image_after sizes L in
-    c.recover-verdict.ensures.out_after ∙ image.1
+returns-clause-recovered c = λ taken sizes L.
+    let opened = c.in_ok-header.ensures in
+    let O = ap (λ x. x.number) (sym opened.value) in
+    let image = third _ O opened.value opened.full_after opened.log_after c.args.image.now c.args.erasures.now c.args.out.now c.args.scratch.now
+    (sym c.in_ok-image.ensures.value) c.in_ok-image.ensures.image_after sizes L in
+    c.recover.ensures.out_after ∙ image.1
