@@ -1,20 +1,15 @@
 -- A level crossed word by word, each under the factor of its row, which is repeated: the blocks, and the factors. Assumes nothing.
-use mathlib.Core.Path.{◌≡◌, sym, ap, ◌∙◌}
-use mathlib.Core.List.{List, append_assoc}
-use Prim.Native.Nat.{ℕ, zero, suc, ◌+◌, ◌*◌, ◌-◌, ◌/◌, ◌≤◌, ◌<◌}
+use mathlib.Core.Path.{◌≡◌, ap, ◌∙◌}
+use mathlib.Core.List.{List}
+use Prim.Native.Nat.{ℕ, zero, suc, ◌+◌, ◌*◌, ◌/◌, ◌≤◌, ◌<◌}
 use native.Mathlib.Nat.{zero-add, add-mul, mul-zero, div-lt_iff_lt-mul}
 use native.Mathlib.Omega.{arith}
-use borrow.Rule.Slice.PartMut.{put_mid}
-use lib.ListN.{length, get_or, take, drop, replicate, length-drop, length-replicate}
-use lib.Seq.{length-take-le, drop-drop}
-use Rattle.std.proofs.lemmas.List.{get_or-replicate}
+use lib.ListN.{length, get_or}
 use Rattle.field.specs.Power.{power}
-use Rattle.field.specs.Words.{table}
-use Rattle.field.proofs.WordLists.{is_table}
 use Rattle.code.specs.Rows.{lifted}
 use Rattle.code.specs.steps.Mixing.{Crossing, crossed_row, RowFactors, ShortFactors, repeated_at, factor_at, each_block}
-use Rattle.code.specs.steps.Storing.{stored, always}
-use Rattle.code.proofs.RowLaws.{length_stored, stored_at, stored_is}
+use Rattle.code.specs.steps.Storing.{stored}
+use Rattle.code.proofs.RowLaws.{length_stored, stored_at}
 use Rattle.mixing.proofs.Crossing.{Stores, Crosses, length_row, words_row, words_lifted}
 use Rattle.code.proofs.Blocks.{OnBlock, each_same, each_rows}
 

@@ -1,5 +1,5 @@
 -- `transform::large_rows::mix_rows` meets its contract, by the laws of the loop over levels of proofs/QuadLevels. Assumes nothing.
-use Rattle.std.proofs.Common.{◌≡◌, ◌+◌, ◌*◌, ◌%◌, ◌∙◌, add-zero, arith}
+use Rattle.std.proofs.Common.{◌≡◌, ◌+◌, ◌*◌, ◌%◌, ◌∙◌, arith}
 use Rattle.transform.proofs.MixLevels.{mix_start, mix_done}
 use Rattle.transform.proofs.QuadLevels.{quads_here, quad_turn, first_turn, mixing_quads, mixing_root}
 use Rattle.transform.proofs.large_rows.mix_rows.Goals.{then-level-eq1, else-level-eq1}

@@ -1,6 +1,6 @@
 -- `transform::large_rows::unmix_rows` meets its contract, by the laws of the loop over levels of proofs/QuadLevels. Assumes nothing.
 use Rattle.std.proofs.Common.{◌≡◌, ◌+◌, ◌-◌, ◌*◌, ◌/◌, ◌%◌, ◌∙◌, arith}
-use Rattle.transform.proofs.UnmixLevels.{UnmixLoop, unmix_start, unmix_done}
+use Rattle.transform.proofs.UnmixLevels.{unmix_start, unmix_done}
 use Rattle.transform.proofs.QuadLevels.{quads_here, unquad_turn, pairs_in, last_turn, unmixing_quads, unmixing_root}
 use Rattle.transform.proofs.large_rows.unmix_rows.Goals as goal
 

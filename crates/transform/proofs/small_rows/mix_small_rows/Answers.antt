@@ -1,12 +1,11 @@
 -- `transform::small_rows::mix_small_rows` meets its contract, by the laws of the loop over levels of proofs/MixLevels. Assumes nothing.
-use Rattle.std.proofs.Common.{◌≡◌, List, ℕ, ◌+◌, ◌-◌, ◌*◌, ◌/◌, ◌^◌, ◌≤◌, ◌<◌, length, ap, ◌∙◌, arith}
-use lib.Pow.{pow_pos}
+use Rattle.std.proofs.Common.{◌≡◌, List, ℕ, ◌/◌, ◌^◌, ◌≤◌, ◌<◌, ap, ◌∙◌, arith}
 use Rattle.field.specs.Field.{fermat, root_of, power_table}
 use Rattle.field.proofs.Unity.{two_div}
 use Rattle.code.proofs.Factors.{LevelFactors, mixing_factors}
 use Rattle.mixing.proofs.Crossing.{mixing_crosses}
-use Rattle.transform.proofs.MixLevels.{MixLoop, mix_start, mix_turn, mix_done}
-use Rattle.transform.proofs.NarrowLevels.{Narrow, narrow, level_short, level_crossed}
+use Rattle.transform.proofs.MixLevels.{mix_start, mix_turn, mix_done}
+use Rattle.transform.proofs.NarrowLevels.{narrow, level_short, level_crossed}
 use Rattle.transform.proofs.small_rows.mix_small_rows.Goals as goal
 
 -- the factors of a turn

@@ -1,13 +1,12 @@
 -- `transform::small_rows::unmix_small_rows` meets its contract, by the laws of the loop over levels of proofs/UnmixLevels. Assumes nothing.
-use Rattle.std.proofs.Common.{◌≡◌, List, ℕ, ◌+◌, ◌-◌, ◌*◌, ◌/◌, ◌^◌, ◌≤◌, ◌<◌, length, ap, ◌∙◌, arith}
-use lib.Pow.{pow_pos}
+use Rattle.std.proofs.Common.{◌≡◌, List, ℕ, ◌-◌, ◌/◌, ◌^◌, ◌≤◌, ◌<◌, ap, ◌∙◌, arith}
 use Rattle.field.specs.Power.{inverse}
 use Rattle.field.specs.Field.{fermat, root_of, power_table}
 use Rattle.field.proofs.Unity.{two_div}
 use Rattle.code.proofs.Factors.{LevelFactors, unmixing_factors}
 use Rattle.mixing.proofs.Crossing.{unmixing_crosses}
 use Rattle.transform.proofs.UnmixLevels.{unmix_start, unmix_turn, unmix_done}
-use Rattle.transform.proofs.NarrowLevels.{Narrow, narrow, level_short, level_crossed}
+use Rattle.transform.proofs.NarrowLevels.{narrow, level_short, level_crossed}
 use Rattle.transform.proofs.small_rows.unmix_small_rows.Goals as goal
 
 -- the factors of a turn, which unmixes level l
