@@ -8,8 +8,8 @@ ghost use Rattle.field.specs.Power.{inverse};
 
 use mixing::direction::{Mixing, Unmixing};
 
-// All mixing of 2^level rows, from single rows up, two levels at once; where their number is odd, the first one alone. The root of 2^l records, under which 2^l rows are mixed with 2^l rows, is entry
-// 1024 / 2^l.
+// All mixing of 2^level rows, from single rows up, two levels at once; where their number is odd, the first one alone. The root of 2^l records, under which
+// 2^l rows are mixed with 2^l rows, is entry 1024 / 2^l.
 pub(crate) fn mix_rows(half: &mut [u32], level: usize, width: usize, powers: &[u32])
     requires level_bound { level ≤ 11 }
     requires half_len { length half.old ≡ 2 ^ level * width }

@@ -22,7 +22,7 @@ pub fn mix_small_rows(half: &mut [u32], level: usize, width: usize, powers: &[u3
         let m = code::number::two_to(l);
         let blocks = code::number::two_to(level - l - 1);
         mixing::words::repeat(&mut factors, m, width, powers, 1024 / m);
-        mixing::words::cross_words_each::<Mixing>(half, blocks, m * width, &factors);
+        mixing::words::cross_words_each::<Mixing>(half, blocks, &factors[..m * width]);
     }
 }
 
@@ -41,6 +41,6 @@ pub fn unmix_small_rows(half: &mut [u32], level: usize, width: usize, powers: &[
         let m = code::number::two_to(l);
         let blocks = code::number::two_to(level - l - 1);
         mixing::words::repeat(&mut factors, m, width, powers, 2048 - 1024 / m);
-        mixing::words::cross_words_each::<Unmixing>(half, blocks, m * width, &factors);
+        mixing::words::cross_words_each::<Unmixing>(half, blocks, &factors[..m * width]);
     }
 }
