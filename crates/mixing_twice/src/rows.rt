@@ -9,7 +9,7 @@ ghost use Rattle.mixing_twice.specs.steps.Quads.{quad_row, EntryFactors, QuadFac
 use crate::direction::{ThreeFactors, TwoLevels, UnreducedFactor};
 use mixing::direction::{One, Power};
 
-// Crosses `width` words of four rows, `far` apart, under the factors t.
+// Crosses `width` words of four rows, `far` apart, under the factors t. By index: of what is written through `iter_mut` a proof knows the length alone.
 fn cross_rows<D: TwoLevels, F: UnreducedFactor>(
     part: &mut [u32],
     at: usize,
@@ -107,6 +107,7 @@ pub fn cross_each<D: TwoLevels>(
         (lifted width (m + m + (m + m)) (m + m + (m + m)) (twice D.unmixing fermat.modulus (get_or powers.now step 0) m)) half.old }
 {
     let size = (m + m + (m + m)) * width;
+    // by index: of what is written to `chunks_exact_mut` a proof knows the length alone
     for b in 0..blocks {
         let at = b * size;
         cross::<D>(&mut half[at..at + size], m, width, powers, step);
