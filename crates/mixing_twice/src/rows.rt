@@ -50,17 +50,12 @@ fn cross_by<D: TwoLevels>(
         quad_row (four_of D.unmixing) (get_or powers.now (2 * e % 2048) 0) (get_or powers.now (e % 2048) 0) far width at part.old }
 {
     if e == 0 {
-        cross_rows::<D, One>(
-            part,
-            at,
-            far,
-            width,
-            &ThreeFactors {
-                t1: One,
-                t2: One,
-                t3: One,
-            },
-        );
+        let t = ThreeFactors {
+            t1: One,
+            t2: One,
+            t3: One,
+        };
+        cross_rows::<D, _>(part, at, far, width, &t);
     } else {
         let t1 = Power {
             g: powers[2 * e % 2048],
@@ -71,7 +66,8 @@ fn cross_by<D: TwoLevels>(
         let t3 = Power {
             g: powers[3 * e % 2048],
         };
-        cross_rows::<D, Power>(part, at, far, width, &ThreeFactors { t1, t2, t3 });
+        let t = ThreeFactors { t1, t2, t3 };
+        cross_rows::<D, _>(part, at, far, width, &t);
     }
 }
 
