@@ -92,9 +92,6 @@ module _ {c : Crossing} {part₀ : List ℕ} {low high width : ℕ} {f : ℕ →
   unfolding crossed_row
   row_start w = record { turns = omega arith; same = refl; words = w; now = refl }
 
-  pub row_word : {part : List ℕ} {j : ℕ} → RowLoop c part₀ low high width f part j → (i : ℕ) → get_or part i 0 < 65537
-  row_word h i = h.words.word i
-
   pub row_turn : {part : List ℕ} {j r s : ℕ} → Stores 65537 c → RowLoop c part₀ low high width f part j → j < width
       → r ≡ c.low (f j) (get_or part (low + j) 0) (get_or part (high + j) 0) → s ≡ c.high (f j) (get_or part (low + j) 0) (get_or part (high + j) 0)
       → RowLoop c part₀ low high width f (set (set part (low + j) r) (high + j) s) (j + 1)

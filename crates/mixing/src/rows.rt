@@ -9,7 +9,8 @@ ghost use Rattle.mixing.specs.steps.Words.{crossing_of};
 
 use crate::direction::{Direction, Factors, Mixing, One, Power, Same};
 
-// Crosses `width` words from index `low` with as many from index `high`, each pair under its factor.
+// Crosses `width` words from index `low` with as many from index `high`, each pair under its factor. By index: of what is written through `iter_mut` a proof
+// knows the length alone.
 pub(crate) fn cross_row<D: Direction, F: Factors>(
     part: &mut [u32],
     low: usize,
@@ -41,9 +42,9 @@ fn mix_row(part: &mut [u32], low: usize, high: usize, width: usize, g: u32)
     ensures { part.new ≡ mix_row fermat.modulus width low high g part.old }
 {
     if g == 1 {
-        cross_row::<Mixing, Same<One>>(part, low, high, width, Same(One));
+        cross_row::<Mixing, _>(part, low, high, width, Same(One));
     } else {
-        cross_row::<Mixing, Same<Power>>(part, low, high, width, Same(Power { g }));
+        cross_row::<Mixing, _>(part, low, high, width, Same(Power { g }));
     }
 }
 
@@ -71,8 +72,9 @@ pub fn sum_each(half: &mut [u32], blocks: usize, width: usize)
     ensures { half.new ≡ each_block blocks (width + width) (sum_row fermat.modulus width 0 width) half.old }
 {
     let size = width + width;
+    // by index: of what is written to `chunks_exact_mut` a proof knows the length alone
     for b in 0..blocks {
         let at = b * size;
-        cross_row::<Mixing, Same<One>>(&mut half[at..at + size], 0, width, width, Same(One));
+        cross_row::<Mixing, _>(&mut half[at..at + size], 0, width, width, Same(One));
     }
 }

@@ -1,5 +1,5 @@
 -- Two levels at once along four rows: the words that are stored, and the loop over the rows' words. Assumes nothing.
-use mathlib.Core.Path.{◌≡◌, refl, sym, ap, ◌∙◌}
+use mathlib.Core.Path.{◌≡◌, refl, ap, ◌∙◌}
 use mathlib.Core.Bool.{Bool, true, false}
 use mathlib.Core.List.{List}
 use Prim.Native.Nat.{ℕ, zero, suc, ◌+◌, ◌*◌, ◌%◌, ◌≤◌, ◌<◌}
@@ -10,7 +10,7 @@ use Rattle.field.specs.Residue.{plus, minus, times}
 use Rattle.field.specs.Words.{Words}
 use Rattle.field.proofs.Congruence.{Cong, of_eq, sym~, trans~, add~, cancel~, mod~}
 use Rattle.field.proofs.Ring.{v, ◌⊕◌, ◌⊖◌, ◌⊗◌, ◌⊞◌, ◌⊠◌, none, fact, from}
-use Rattle.field.proofs.Laws.{plus_lt, minus_lt, times_lt, times_one, times_comm}
+use Rattle.field.proofs.Laws.{plus_lt, minus_lt, times_lt}
 use Rattle.field.proofs.WordLists.{words_set}
 use Rattle.mixing_twice.specs.steps.Quads.{Quad, mixing_four, unmixing_four, four_of, set_four, quad_at, quad_row}
 

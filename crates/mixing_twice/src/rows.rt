@@ -9,7 +9,7 @@ ghost use Rattle.mixing_twice.specs.steps.Quads.{quad_row, EntryFactors, QuadFac
 use crate::direction::{ThreeFactors, TwoLevels, UnreducedFactor};
 use mixing::direction::{One, Power};
 
-// Crosses `width` words of four rows, `far` apart, under the factors t.
+// Crosses `width` words of four rows, `far` apart, under the factors t. By index: of what is written through `iter_mut` a proof knows the length alone.
 fn cross_rows<D: TwoLevels, F: UnreducedFactor>(
     part: &mut [u32],
     at: usize,
@@ -50,17 +50,12 @@ fn cross_by<D: TwoLevels>(
         quad_row (four_of D.unmixing) (get_or powers.now (2 * e % 2048) 0) (get_or powers.now (e % 2048) 0) far width at part.old }
 {
     if e == 0 {
-        cross_rows::<D, One>(
-            part,
-            at,
-            far,
-            width,
-            &ThreeFactors {
-                t1: One,
-                t2: One,
-                t3: One,
-            },
-        );
+        let t = ThreeFactors {
+            t1: One,
+            t2: One,
+            t3: One,
+        };
+        cross_rows::<D, _>(part, at, far, width, &t);
     } else {
         let t1 = Power {
             g: powers[2 * e % 2048],
@@ -71,7 +66,8 @@ fn cross_by<D: TwoLevels>(
         let t3 = Power {
             g: powers[3 * e % 2048],
         };
-        cross_rows::<D, Power>(part, at, far, width, &ThreeFactors { t1, t2, t3 });
+        let t = ThreeFactors { t1, t2, t3 };
+        cross_rows::<D, _>(part, at, far, width, &t);
     }
 }
 
@@ -107,6 +103,7 @@ pub fn cross_each<D: TwoLevels>(
         (lifted width (m + m + (m + m)) (m + m + (m + m)) (twice D.unmixing fermat.modulus (get_or powers.now step 0) m)) half.old }
 {
     let size = (m + m + (m + m)) * width;
+    // by index: of what is written to `chunks_exact_mut` a proof knows the length alone
     for b in 0..blocks {
         let at = b * size;
         cross::<D>(&mut half[at..at + size], m, width, powers, step);

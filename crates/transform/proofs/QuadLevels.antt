@@ -187,10 +187,9 @@ pub quads_here : {width level l len blocks m : ℕ} → suc l < level → level 
 quads_here {width} {level} {l} {len} {blocks} {m} lt few e eb em =
     let top : blocks ≡ 2 ^ (level - suc l - 1) = eb ∙ ap (λ (n : ℕ). 2 ^ n) {x = level - l - 2} {y = level - suc l - 1} (omega arith) in
     let over : Level width level (suc l) len blocks (m + m) = level_here lt few e top (omega (arith, pow-suc 2 l)) in
-    let twice : blocks * 2 ≡ 2 ^ (level - l - 1) =
-    ap (λ (n : ℕ). n * 2) over.blocks_is ∙ sym (pow_down {n = level} {l = suc l} lt) ∙ ap (λ (n : ℕ). 2 ^ n) {x = level - suc l} {y = level - l - 1} (omega arith)
-    in
-    record { under = level_here (omega arith) few e twice em; over = over; rows = over.rows; fits = over.fits }
+    let one : level - suc l ≡ level - l - 1 = omega arith in
+    let both : blocks * 2 ≡ 2 ^ (level - l - 1) = rw (← one) (ap (λ (n : ℕ). n * 2) over.blocks_is ∙ sym (pow_down {n = level} {l = suc l} lt)) in
+    record { under = level_here (omega arith) few e both em; over = over; rows = over.rows; fits = over.fits }
 
 -- two turns of the loop over levels
 pub quad_turn : {half₀ : List ℕ} {level width : ℕ} {half half' : List ℕ} {blocks m l x : ℕ} → MixLoop half₀ level width half l → suc l < level
@@ -237,7 +236,8 @@ module _ (level l : ℕ) {m : ℕ} {powers : List ℕ} (is : powers ≡ power_ta
       rw (is, step_is is em (omega arith)) (table_back (suc l) (omega arith) ∙ sym (level_inverse level (suc l) (omega arith) (omega arith)))
 
 -- ROWS ALONE, the first level of mixing and the last one of unmixing: sums and differences
-module _ (width : ℕ) (half : List ℕ) {level blocks : ℕ} (some : 0 < level) (few : level ≤ 11) (e : length half ≡ 2 ^ level * width) (eb : blocks ≡ 2 ^ (level - 1)) where
+module _ (width : ℕ) (half : List ℕ) {level blocks : ℕ} (some : 0 < level) (few : level ≤ 11) (e : length half ≡ 2 ^ level * width)
+    (eb : blocks ≡ 2 ^ (level - 1)) where
   alone : Level width level 0 (length half) blocks 1
   alone = level_here some few e (eb ∙ ap (λ (n : ℕ). 2 ^ n) {x = level - 1} {y = level - 0 - 1} (omega arith)) refl
 

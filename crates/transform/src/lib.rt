@@ -6,18 +6,17 @@ mod large_rows;
 pub mod small_rows;
 
 ghost use Rattle.std.specs.Prelude.{◌≡◌, ◌*◌, ◌^◌, ◌≤◌, ◌<◌, length};
-ghost use Rattle.field.specs.Field.{fermat, root_of};
+ghost use Rattle.field.specs.Field.{fermat, root_of, power_table};
 ghost use Rattle.field.specs.Words.{Words};
 ghost use Rattle.code.specs.Rows.{lifted};
 ghost use Rattle.code.specs.Transform.{transform, untransform};
 ghost use Rattle.field.specs.Power.{inverse};
 
-use code::table_65537::PowerTable;
-
 // All mixing of 2^level rows.
-pub fn mix_all(half: &mut [u32], level: usize, width: usize, powers: &PowerTable)
+pub fn mix_all(half: &mut [u32], level: usize, width: usize, powers: &[u32])
     requires level_bound { level ≤ 10 }
     requires half_len { length half.old ≡ 2 ^ level * width }
+    requires powers_value { powers.now ≡ power_table }
     requires words { Words fermat.modulus half.old }
     ensures { half.new ≡
         lifted width (2 ^ level) (2 ^ level) (transform fermat.modulus (root_of fermat level) level level) half.old }
@@ -30,9 +29,10 @@ pub fn mix_all(half: &mut [u32], level: usize, width: usize, powers: &PowerTable
 }
 
 // The inverse of all mixing of 2^level rows, but for the factor 2^level.
-pub fn unmix_all(half: &mut [u32], level: usize, width: usize, powers: &PowerTable)
+pub fn unmix_all(half: &mut [u32], level: usize, width: usize, powers: &[u32])
     requires level_bound { level ≤ 10 }
     requires half_len { length half.old ≡ 2 ^ level * width }
+    requires powers_value { powers.now ≡ power_table }
     requires words { Words fermat.modulus half.old }
     ensures { half.new ≡
         lifted width (2 ^ level) (2 ^ level)

@@ -14,4 +14,4 @@ pub loop-b-preserved : goal.loop-b-preserved
 unfolding factor_at
 loop-b-preserved g c =
     rw row_next
-    (blocks_turn (words_block (crossing_stores g.D.Direction.unmixing) c.args.factors.now c.args.size) c.loop-b.invariant c.loop-b-test.true c.cross_row.ensures)
+    (blocks_turn (words_block (crossing_stores g.D.Direction.unmixing) c.args.factors.now _) c.loop-b.invariant c.loop-b-test.true c.cross_row.ensures)

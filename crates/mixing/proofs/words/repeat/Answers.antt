@@ -1,5 +1,5 @@
 -- `mixing::words::repeat` meets its contract, by the laws of a loop that stores rows. Assumes nothing.
-use Rattle.std.proofs.Common.{ℕ, ◌*◌, ◌%◌, get_or, sym, ap, ◌∙◌}
+use Rattle.std.proofs.Common.{ℕ, ◌*◌, ◌%◌, get_or, sym, ap}
 use lib.Arith.{digits_div}
 use native.Mathlib.Nat.{zero-mul}
 use Rattle.code.specs.steps.Mixing.{repeated_at}

@@ -1,5 +1,5 @@
 -- `transform::large_rows::mix_rows` meets its contract, by the laws of the loop over levels of proofs/QuadLevels. Assumes nothing.
-use Rattle.std.proofs.Common.{◌≡◌, ◌+◌, ◌*◌, ◌%◌, ◌∙◌, add-zero, arith}
+use Rattle.std.proofs.Common.{◌≡◌, ◌+◌, ◌*◌, ◌%◌, ◌∙◌, arith}
 use Rattle.transform.proofs.MixLevels.{mix_start, mix_done}
 use Rattle.transform.proofs.QuadLevels.{quads_here, quad_turn, first_turn, mixing_quads, mixing_root}
 use Rattle.transform.proofs.large_rows.mix_rows.Goals.{then-level-eq1, else-level-eq1}
@@ -27,7 +27,7 @@ cross_each-requires-clause-width_bound c =
     omega (arith, (quads_here (omega arith) i.few (i.same ∙ i.long) c.two_to-blocks.ensures c.two_to-m.ensures).fits)
 
 pub cross_each-requires-clause-quad_factors : goal.cross_each-requires-clause-quad_factors
-cross_each-requires-clause-quad_factors c = mixing_quads c.args.powers.now.is_table c.two_to-m.ensures (omega (arith, c.requires.level_bound))
+cross_each-requires-clause-quad_factors c = mixing_quads c.requires.powers_value c.two_to-m.ensures (omega (arith, c.requires.level_bound))
 
 pub loop-pair-preserved : goal.loop-pair-preserved
 loop-pair-preserved c =
@@ -36,7 +36,7 @@ loop-pair-preserved c =
     let next : c.args.level % 2 + 2 * (c.loop-pair.pair + 1) ≡ c.args.level % 2 + 2 * c.loop-pair.pair + 2 = omega arith in
     rw next
     (quad_turn i (omega arith) q c.cross_each.auto.half
-    (mixing_root c.args.level _ c.args.powers.now.is_table c.two_to-m.ensures i.few (omega arith)) c.cross_each.ensures)
+    (mixing_root c.args.level _ c.requires.powers_value c.two_to-m.ensures i.few (omega arith)) c.cross_each.ensures)
 
 pub returns : goal.returns
 returns c = mix_done c.loop-pair.invariant (omega arith)

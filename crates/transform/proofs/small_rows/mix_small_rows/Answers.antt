@@ -1,57 +1,70 @@
 -- `transform::small_rows::mix_small_rows` meets its contract, by the laws of the loop over levels of proofs/MixLevels. Assumes nothing.
-use Rattle.std.proofs.Common.{◌≡◌, List, ℕ, ◌+◌, ◌-◌, ◌*◌, ◌/◌, ◌^◌, ◌≤◌, ◌<◌, length, ap, ◌∙◌, arith}
-use lib.Pow.{pow_pos}
+use Rattle.std.proofs.Common.{◌≡◌, List, ℕ, ◌-◌, ◌*◌, ◌/◌, ◌^◌, ◌≤◌, ◌<◌, length, sym, ap, ◌∙◌, arith}
 use Rattle.field.specs.Field.{fermat, root_of, power_table}
 use Rattle.field.proofs.Unity.{two_div}
-use Rattle.code.proofs.Factors.{LevelFactors, mixing_factors}
+use Rattle.code.proofs.Factors.{mixing_factors}
 use Rattle.mixing.proofs.Crossing.{mixing_crosses}
 use Rattle.transform.proofs.MixLevels.{MixLoop, mix_start, mix_turn, mix_done}
-use Rattle.transform.proofs.NarrowLevels.{Narrow, narrow, level_short, level_crossed}
+use Rattle.transform.proofs.NarrowLevels.{Narrow, narrow, lent, level_crossed}
 use Rattle.transform.proofs.small_rows.mix_small_rows.Goals as goal
 
--- the factors of a turn
-factors_are : {level l m : ℕ} {powers : List ℕ} → l < level → level ≤ 11 → powers ≡ power_table → m ≡ 2 ^ l
-    → LevelFactors (root_of fermat level) level l m (1024 / m) powers
-factors_are {l = l} lt few is e =
-    mixing_factors is (omega arith) (omega arith, omega arith) e (ap (λ (n : ℕ). 1024 / n) e ∙ two_div 10 l (omega arith))
+-- the level that a turn mixes, and its factors
+turn : {half₀ half powers : List ℕ} {level width blocks m l : ℕ} → MixLoop half₀ level width half l → l < level → 2 ^ level * width ≤ 3072
+    → blocks ≡ 2 ^ (level - l - 1) → m ≡ 2 ^ l → powers ≡ power_table
+    → Narrow (root_of fermat level) width level l (length half) blocks m (1024 / m) powers
+turn {l = l} i lt small eb em is =
+    narrow lt i.few small (i.same ∙ i.long) eb em
+    (mixing_factors is (omega arith) (omega (arith, i.few), omega (arith, i.few)) em
+    (ap (λ (n : ℕ). 1024 / n) em ∙ two_div 10 l (omega (arith, i.few))))
 
 pub loop-l-init : goal.loop-l-init
 loop-l-init c = mix_start c.requires.level_bound.0 c.requires.half_len c.requires.words
 
 pub repeat-requires-clause-width_in_bounds : goal.repeat-requires-clause-width_in_bounds
 repeat-requires-clause-width_in_bounds c =
-    let t = narrow c.loop-l-test.true c.requires.level_bound (c.loop-l.invariant.same ∙ c.requires.half_len) c.two_to-blocks.ensures c.two_to-m.ensures in
+    let t = turn c.loop-l.invariant c.loop-l-test.true c.requires.level_bound.1 c.two_to-blocks.ensures c.two_to-m.ensures c.requires.powers_value in
     omega (arith, t.room)
 
 pub repeat-requires-clause-row_factors : goal.repeat-requires-clause-row_factors
-repeat-requires-clause-row_factors c = (factors_are c.loop-l-test.true c.requires.level_bound.0 c.args.powers.now.is_table c.two_to-m.ensures).rows
+repeat-requires-clause-row_factors c =
+    let t = turn c.loop-l.invariant c.loop-l-test.true c.requires.level_bound.1 c.two_to-blocks.ensures c.two_to-m.ensures c.requires.powers_value in
+    t.factors.rows
 
-pub overflow_mul-m : goal.overflow_mul-m
-overflow_mul-m c =
-    let t = narrow c.loop-l-test.true c.requires.level_bound (c.loop-l.invariant.same ∙ c.requires.half_len) c.two_to-blocks.ensures c.two_to-m.ensures in
+pub overflow_mul-factors : goal.overflow_mul-factors
+overflow_mul-factors c =
+    let t = turn c.loop-l.invariant c.loop-l-test.true c.requires.level_bound.1 c.two_to-blocks.ensures c.two_to-m.ensures c.requires.powers_value in
     record { fits = omega (arith, t.room) }
+
+pub slice_bounds-factors-end : goal.slice_bounds-factors-end
+slice_bounds-factors-end c =
+    let t = turn c.loop-l.invariant c.loop-l-test.true c.requires.level_bound.1 c.two_to-blocks.ensures c.two_to-m.ensures c.requires.powers_value in
+    omega (arith, t.room)
+
+pub slice_bounds-cross_words_each-end : goal.slice_bounds-cross_words_each-end
+slice_bounds-cross_words_each-end c =
+    let t = turn c.loop-l.invariant c.loop-l-test.true c.requires.level_bound.1 c.two_to-blocks.ensures c.two_to-m.ensures c.requires.powers_value in
+    sym (lent c.loop-l.half c.loop-l.factors t (omega arith) c.repeat.ensures).long
 
 pub cross_words_each-requires-clause-half_len : goal.cross_words_each-requires-clause-half_len
 cross_words_each-requires-clause-half_len c =
-    (narrow c.loop-l-test.true c.requires.level_bound (c.loop-l.invariant.same ∙ c.requires.half_len) c.two_to-blocks.ensures c.two_to-m.ensures).words
+    let t = turn c.loop-l.invariant c.loop-l-test.true c.requires.level_bound.1 c.two_to-blocks.ensures c.two_to-m.ensures c.requires.powers_value in
+    (lent c.loop-l.half c.loop-l.factors t (omega arith) c.repeat.ensures).words
 
 pub cross_words_each-requires-clause-size_bound : goal.cross_words_each-requires-clause-size_bound
 cross_words_each-requires-clause-size_bound c =
-    let t = narrow c.loop-l-test.true c.requires.level_bound (c.loop-l.invariant.same ∙ c.requires.half_len) c.two_to-blocks.ensures c.two_to-m.ensures in
-    omega (arith, t.room)
+    let t = turn c.loop-l.invariant c.loop-l-test.true c.requires.level_bound.1 c.two_to-blocks.ensures c.two_to-m.ensures c.requires.powers_value in
+    omega (arith, (lent c.loop-l.half c.loop-l.factors t (omega arith) c.repeat.ensures).few)
 
 pub cross_words_each-requires-clause-short_factors : goal.cross_words_each-requires-clause-short_factors
 cross_words_each-requires-clause-short_factors c =
-    let t = narrow c.loop-l-test.true c.requires.level_bound (c.loop-l.invariant.same ∙ c.requires.half_len) c.two_to-blocks.ensures c.two_to-m.ensures in
-    let f = factors_are c.loop-l-test.true c.requires.level_bound.0 c.args.powers.now.is_table c.two_to-m.ensures in
-    level_short c.loop-l.half c.loop-l.factors t f (omega arith) c.repeat.ensures
+    let t = turn c.loop-l.invariant c.loop-l-test.true c.requires.level_bound.1 c.two_to-blocks.ensures c.two_to-m.ensures c.requires.powers_value in
+    (lent c.loop-l.half c.loop-l.factors t (omega arith) c.repeat.ensures).short
 
 pub loop-l-preserved : goal.loop-l-preserved
 loop-l-preserved c =
-    let t = narrow c.loop-l-test.true c.requires.level_bound (c.loop-l.invariant.same ∙ c.requires.half_len) c.two_to-blocks.ensures c.two_to-m.ensures in
-    let f = factors_are c.loop-l-test.true c.requires.level_bound.0 c.args.powers.now.is_table c.two_to-m.ensures in
-    mix_turn c.loop-l.invariant c.loop-l-test.true t.here c.cross_words_each.auto.half f.entry
-    (level_crossed c.loop-l.half c.loop-l.factors t f (omega arith) c.repeat.ensures (mixing_crosses _ _) c.cross_words_each.ensures)
+    let t = turn c.loop-l.invariant c.loop-l-test.true c.requires.level_bound.1 c.two_to-blocks.ensures c.two_to-m.ensures c.requires.powers_value in
+    mix_turn c.loop-l.invariant c.loop-l-test.true t.here c.cross_words_each.auto.half t.factors.entry
+    (level_crossed c.loop-l.half c.loop-l.factors t (omega arith) c.repeat.ensures (mixing_crosses _ _) c.cross_words_each.ensures)
 
 pub returns : goal.returns
 returns c = mix_done c.loop-l.invariant c.loop-l-test.false

@@ -1,5 +1,4 @@
 -- `mixing::direction::Mixing` meets the contract of a direction: a product is a word of the field. Assumes nothing.
-use Rattle.std.proofs.Common.{◌≡◌, ◌∙◌, ap}
 use Rattle.mixing.proofs.Crossing.{product_word}
 use Rattle.mixing.proofs.direction.MixingDirection.cross.Goals as goal
 
