@@ -3,7 +3,7 @@ ghost use Rattle.std.specs.Prelude.{◌≡◌};
 ghost use Rattle.field.specs.Field.{fermat, powers_of};
 ghost use Rattle.logarithms.specs.Logarithms.{log_table};
 
-const LOGARITHMS: [u32; 2048] = [
+static LOGARITHMS: [u32; 2048] = [
     0, 9538, 52826, 41106, 44236, 26654, 21553, 14482, 8560, 35906, 19149, 4196, 4106, 17962,
     23082, 383, 5900, 62128, 18256, 13193, 48330, 21637, 8310, 4779, 59435, 3115, 39234, 11099,
     42100, 20097, 20670, 2034, 25294, 20163, 31155, 32009, 18793, 37206, 627, 39055, 63188, 32398,
@@ -156,37 +156,22 @@ const LOGARITHMS: [u32; 2048] = [
     55402, 50314, 36490, 36612, 51597, 2850, 41072, 47026, 54129, 59262, 11340, 8242, 19994, 42274,
 ];
 
-// The table, all of which is stored on the stack where it is made.
-pub fn logarithms() -> [u32; 2048]
-    ensures { result ≡ log_table }
+// The table.
+pub fn logarithms() -> &'static [u32; 2048]
+    ensures { result.now ≡ log_table }
 {
-    LOGARITHMS
+    &LOGARITHMS
 }
 
-// The whole table, as it is lent to what looks up its entries.
-#[derive(Drop)]
-pub struct LogTable {
-    pub entries: [u32; 2048],
-    ghost is_table: { entries ≡ log_table },
-}
-
-impl LogTable {
-    pub fn new() -> Self {
-        LogTable {
-            entries: logarithms(),
-        }
-    }
-}
-
-const THREES: [u32; 32] = [
+static THREES: [u32; 32] = [
     1, 3, 9, 27, 81, 243, 729, 2187, 6561, 19683, 59049, 46073, 7145, 21435, 64305, 61841, 54449,
     32273, 31282, 28309, 19390, 58170, 43436, 64771, 63239, 58643, 44855, 3491, 10473, 31419,
     28720, 20623,
 ];
 
-// 3^0, 3^1, .., 3^31: the powers of the last digits of `PowersOfThree`.
-pub fn threes() -> [u32; 32]
-    ensures { result ≡ powers_of fermat.modulus fermat.generator 32 }
+// 3^0, 3^1, .., 3^31: the powers of the last digits of `power_of_three`.
+pub fn threes() -> &'static [u32; 32]
+    ensures { result.now ≡ powers_of fermat.modulus fermat.generator 32 }
 {
-    THREES
+    &THREES
 }

@@ -12,10 +12,8 @@ ghost use Rattle.code.specs.Rows.{lifted};
 ghost use Rattle.code.specs.Transform.{transform, untransform};
 ghost use Rattle.field.specs.Power.{inverse};
 
-use code::table_65537::PowerTable;
-
 // All mixing of 2^level rows.
-pub fn mix_all(half: &mut [u32], level: usize, width: usize, powers: &PowerTable)
+pub fn mix_all(half: &mut [u32], level: usize, width: usize)
     requires level_bound { level ≤ 10 }
     requires half_len { length half.old ≡ 2 ^ level * width }
     requires words { Words fermat.modulus half.old }
@@ -23,14 +21,14 @@ pub fn mix_all(half: &mut [u32], level: usize, width: usize, powers: &PowerTable
         lifted width (2 ^ level) (2 ^ level) (transform fermat.modulus (root_of fermat level) level level) half.old }
 {
     if width < 4 {
-        crate::small_rows::mix_small_rows(half, level, width, powers);
+        crate::small_rows::mix_small_rows(half, level, width);
     } else {
-        crate::large_rows::mix_rows(half, level, width, powers);
+        crate::large_rows::mix_rows(half, level, width);
     }
 }
 
 // The inverse of all mixing of 2^level rows, but for the factor 2^level.
-pub fn unmix_all(half: &mut [u32], level: usize, width: usize, powers: &PowerTable)
+pub fn unmix_all(half: &mut [u32], level: usize, width: usize)
     requires level_bound { level ≤ 10 }
     requires half_len { length half.old ≡ 2 ^ level * width }
     requires words { Words fermat.modulus half.old }
@@ -39,8 +37,8 @@ pub fn unmix_all(half: &mut [u32], level: usize, width: usize, powers: &PowerTab
         (untransform fermat.modulus (inverse fermat.modulus (root_of fermat level)) level level) half.old }
 {
     if width < 4 {
-        crate::small_rows::unmix_small_rows(half, level, width, powers);
+        crate::small_rows::unmix_small_rows(half, level, width);
     } else {
-        crate::large_rows::unmix_rows(half, level, width, powers);
+        crate::large_rows::unmix_rows(half, level, width);
     }
 }

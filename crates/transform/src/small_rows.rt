@@ -6,23 +6,22 @@ ghost use Rattle.field.specs.Words.{Words};
 ghost use Rattle.code.specs.Rows.{lifted};
 ghost use Rattle.code.specs.Transform.{transform, untransform};
 
-use code::table_65537::PowerTable;
-
 // All mixing of 2^level rows of `width` words, at most 3,072 in all: at most 1,536 words have a factor in a level.
-pub fn mix_small_rows(half: &mut [u32], level: usize, width: usize, powers: &PowerTable)
+pub fn mix_small_rows(half: &mut [u32], level: usize, width: usize)
     requires level_bound { (level ≤ 11) × (2 ^ level * width ≤ 3072) }
     requires half_len { length half.old ≡ 2 ^ level * width }
     requires words { Words fermat.modulus half.old }
     ensures { half.new ≡
         lifted width (2 ^ level) (2 ^ level) (transform fermat.modulus (root_of fermat level) level level) half.old }
 {
+    let powers = code::table_65537::powers();
     let mut factors = [0u32; 1536];
     let mut blocks = code::number::two_to(level);
     let mut step: usize = 1024;
     let mut m: usize = 1;
     for l in 0..level {
         blocks = blocks / 2;
-        mixing::words::repeat(&mut factors, m, width, &powers.entries, step);
+        mixing::words::repeat(&mut factors, m, width, powers, step);
         mixing::words::cross_words_each(half, blocks, m * width, &factors, false);
         step = step / 2;
         m = m * 2;
@@ -30,7 +29,7 @@ pub fn mix_small_rows(half: &mut [u32], level: usize, width: usize, powers: &Pow
 }
 
 // The inverse of all mixing, but for the factor 2^level, of as many words.
-pub fn unmix_small_rows(half: &mut [u32], level: usize, width: usize, powers: &PowerTable)
+pub fn unmix_small_rows(half: &mut [u32], level: usize, width: usize)
     requires level_bound { (level ≤ 11) × (2 ^ level * width ≤ 3072) }
     requires half_len { length half.old ≡ 2 ^ level * width }
     requires words { Words fermat.modulus half.old }
@@ -38,6 +37,7 @@ pub fn unmix_small_rows(half: &mut [u32], level: usize, width: usize, powers: &P
         lifted width (2 ^ level) (2 ^ level)
         (untransform fermat.modulus (inverse fermat.modulus (root_of fermat level)) level level) half.old }
 {
+    let powers = code::table_65537::powers();
     let mut factors = [0u32; 1536];
     let mut blocks: usize = 1;
     let mut m = code::number::two_to(level);
@@ -45,7 +45,7 @@ pub fn unmix_small_rows(half: &mut [u32], level: usize, width: usize, powers: &P
     while 0 < left {
         m = m / 2;
         left = left - 1;
-        mixing::words::repeat(&mut factors, m, width, &powers.entries, 2048 - 1024 / m);
+        mixing::words::repeat(&mut factors, m, width, powers, 2048 - 1024 / m);
         mixing::words::cross_words_each(half, blocks, m * width, &factors, true);
         blocks = blocks * 2;
     }

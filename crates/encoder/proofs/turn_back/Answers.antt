@@ -40,7 +40,7 @@ bounds-powers-e c = mod-lt _ (lit< tt)
 
 pub invariant_of-g : goal.invariant_of-g
 invariant_of-g c = record {
-  is_short = (back_entry c.args.st.numbers c.block_count-rows.ensures c.loop-j-test.true c.args.powers.now.is_table c.reversed.ensures).short;
+  is_short = (back_entry c.args.st.numbers c.block_count-rows.ensures c.loop-j-test.true c.powers-powers.ensures c.reversed.ensures).short;
 }
 
 pub scale_row-requires-clause-width_in_bounds : goal.scale_row-requires-clause-width_in_bounds
@@ -52,7 +52,7 @@ scale_row-requires-clause-words c = scaling_words 65537 _ _ c.loop-j.invariant (
 pub loop-j-preserved : goal.loop-j-preserved
 loop-j-preserved c =
     rw (row_next c.loop-j.j c.args.st.stripe.width) (scaling_turn 65537 _ _ c.loop-j.invariant c.loop-j-test.true
-    (back_entry c.args.st.numbers c.block_count-rows.ensures c.loop-j-test.true c.args.powers.now.is_table c.reversed.ensures).is
+    (back_entry c.args.st.numbers c.block_count-rows.ensures c.loop-j-test.true c.powers-powers.ensures c.reversed.ensures).is
     c.scale_row.ensures)
 
 pub returns : goal.returns

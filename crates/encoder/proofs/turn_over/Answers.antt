@@ -68,7 +68,7 @@ bounds-powers-e c =
 
 pub invariant_of-g : goal.invariant_of-g
 invariant_of-g c = record {
-  is_short = (over_entry c.args.st.numbers c.block_count-rows.ensures c.loop-j-test.true c.args.powers.now.is_table c.reversed-e.ensures).short;
+  is_short = (over_entry c.args.st.numbers c.block_count-rows.ensures c.loop-j-test.true c.powers-powers.ensures c.reversed-e.ensures).short;
 }
 
 pub scale_row_over-requires-clause-apart : goal.scale_row_over-requires-clause-apart
@@ -87,7 +87,7 @@ scale_row_over-requires-clause-by_index c =
 pub loop-j-preserved : goal.loop-j-preserved
 loop-j-preserved c =
     turn c.loop-j.invariant c.loop-j-test.true
-    (over_entry c.args.st.numbers c.block_count-rows.ensures c.loop-j-test.true c.args.powers.now.is_table c.reversed-e.ensures).is
+    (over_entry c.args.st.numbers c.block_count-rows.ensures c.loop-j-test.true c.powers-powers.ensures c.reversed-e.ensures).is
     c.scale_row_over.ensures
 
 pub returns : goal.returns

@@ -51,13 +51,13 @@ cross_each-requires-clause-width_bound c =
 pub cross_each-requires-clause-quad_factors : goal.cross_each-requires-clause-quad_factors
 cross_each-requires-clause-quad_factors c =
     let i = c.loop-blocks.invariant in
-    mixing_quads c.args.powers.now.is_table i.levels.m_is (omega (arith, two_left i c.loop-blocks-test.true, i.levels.few))
+    mixing_quads c.powers-powers.ensures i.levels.m_is (omega (arith, two_left i c.loop-blocks-test.true, i.levels.few))
 
 pub loop-blocks-preserved : goal.loop-blocks-preserved
 loop-blocks-preserved c =
     let i = c.loop-blocks.invariant in
     loop_turn i c.loop-blocks-test.true c.cross_each.auto.half
-    (mixing_root c.args.level i.l c.args.powers.now.is_table i.levels.m_is i.levels.few (two_left i c.loop-blocks-test.true)) c.cross_each.ensures
+    (mixing_root c.args.level i.l c.powers-powers.ensures i.levels.m_is i.levels.few (two_left i c.loop-blocks-test.true)) c.cross_each.ensures
 
 pub returns : goal.returns
 returns c = mix_done c.loop-blocks.invariant.levels (none_left c.loop-blocks.invariant c.loop-blocks-test.false)

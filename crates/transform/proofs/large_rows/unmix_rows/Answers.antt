@@ -22,7 +22,7 @@ cross_each-requires-clause-width_bound c = omega (arith, quarters_fit c.loop-m.i
 pub cross_each-requires-clause-quad_factors : goal.cross_each-requires-clause-quad_factors
 cross_each-requires-clause-quad_factors c =
     let i = c.loop-m.invariant in
-    unmixing_quads c.args.powers.now.is_table (quarter_is i c.loop-m-test.true)
+    unmixing_quads c.powers-powers.ensures (quarter_is i c.loop-m-test.true)
     (omega (arith, i.levels.turns, i.levels.few, two_to_go i c.loop-m-test.true))
 
 pub loop-m-preserved : goal.loop-m-preserved
@@ -30,7 +30,7 @@ loop-m-preserved c =
     let i = c.loop-m.invariant in
     let b = c.loop-m-test.true in
     unquad_again i b c.cross_each.auto.half
-    (unmixing_root c.args.level (i.left - 2) c.args.powers.now.is_table (quarter_is i b) i.levels.few (omega (arith, two_to_go i b, i.levels.turns)))
+    (unmixing_root c.args.level (i.left - 2) c.powers-powers.ensures (quarter_is i b) i.levels.few (omega (arith, two_to_go i b, i.levels.turns)))
     c.cross_each.ensures
 
 pub sum_each-requires-clause-half_len : goal.sum_each-requires-clause-half_len

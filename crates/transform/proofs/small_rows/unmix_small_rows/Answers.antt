@@ -43,7 +43,7 @@ repeat-requires-clause-width_in_bounds c =
     omega (arith, level_room (here h c.loop-left-test.true) (few h c.requires.level_bound.1), h.held)
 
 pub repeat-requires-clause-row_factors : goal.repeat-requires-clause-row_factors
-repeat-requires-clause-row_factors c = (factors_are c.loop-left.invariant c.loop-left-test.true c.args.powers.now.is_table).rows
+repeat-requires-clause-row_factors c = (factors_are c.loop-left.invariant c.loop-left-test.true c.powers-powers.ensures).rows
 
 pub overflow_mul-m : goal.overflow_mul-m
 overflow_mul-m c =
@@ -61,13 +61,13 @@ cross_words_each-requires-clause-size_bound c =
 pub cross_words_each-requires-clause-short_factors : goal.cross_words_each-requires-clause-short_factors
 cross_words_each-requires-clause-short_factors c =
     let h = c.loop-left.invariant in
-    let f = factors_are h c.loop-left-test.true c.args.powers.now.is_table in
+    let f = factors_are h c.loop-left-test.true c.powers-powers.ensures in
     level_short c.loop-left.half c.loop-left.factors (here h c.loop-left-test.true) (few h c.requires.level_bound.1) f h.held c.repeat.ensures
 
 pub loop-left-preserved : goal.loop-left-preserved
 loop-left-preserved c =
     let h = c.loop-left.invariant in
-    let f = factors_are h c.loop-left-test.true c.args.powers.now.is_table in
+    let f = factors_are h c.loop-left-test.true c.powers-powers.ensures in
     record {
       levels = unmix_turn h.levels c.loop-left-test.true c.cross_words_each.auto.half f.entry
           (level_crossed c.loop-left.half c.loop-left.factors (here h c.loop-left-test.true) (few h c.requires.level_bound.1) f h.held c.repeat.ensures
