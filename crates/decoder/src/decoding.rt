@@ -62,14 +62,7 @@ fn same_row(part: &[u32], low: usize, high: usize, width: usize) -> bool
     requires { (low + width ≤ length part.now) × (high + width ≤ length part.now) }
     ensures { result ≡ all_to width (same_at low high part.now) }
 {
-    for j in 0..width {
-        let x = low + j;
-        let y = high + j;
-        if part[x] != part[y] {
-            return false;
-        }
-    }
-    true
+    part[low..low + width] == part[high..high + width]
 }
 
 // The check: whether row j of the first half is row j of the second, for each j whose reversed bits are not below the count of erasures.
