@@ -1,14 +1,19 @@
 -- Laws of tests: that two numbers are equal unless .., and of `all_to` of specs/steps/RowTests, a test for each number below n. Assumes nothing.
-use mathlib.Core.Path.{◌≡◌, refl, sym, ap₂, ◌∙◌}
+use mathlib.Core.Path.{◌≡◌, refl, sym, ap, ap₂, ◌∙◌}
 use mathlib.Core.Bool.{Bool, true, false, false≢true, ◌&&◌, ◌||◌}
 use mathlib.Core.Logic.{⊎_elim}
-use Prim.Native.Nat.{ℕ, zero, suc, ◌<◌}
+use mathlib.Core.List.{List}
+use Prim.Native.Nat.{ℕ, zero, suc, ◌+◌, ◌≤◌, ◌<◌}
 use native.Mathlib.Nat.{eq-or-lt_of_le}
 use native.Mathlib.Omega.{arith}
 use lib.Dec.{eqb}
+use lib.ListN.{length, get_or, take, drop, length-drop}
+use lib.Seq.{length-take-le, get_or-take, get_or-drop}
+use Rattle.std.proofs.Common.{ext_get_or}
+use Rattle.std.specs.Bool.{Decides}
 use borrow.Author.Tests.{eqb-true, eq-eqb}
 use Rattle.field.proofs.Booleans.{either, same_truth, both_true, first_true, second_true}
-use Rattle.decoder.specs.steps.RowTests.{all_to}
+use Rattle.decoder.specs.steps.RowTests.{all_to, same_at}
 
 -- two numbers are equal unless b
 pub unless_same : (b : Bool) (x y : ℕ) → (b ≡ false → x ≡ y) → (b || eqb x y) ≡ true
@@ -48,6 +53,24 @@ all_to_swap n m f = same_truth (all_to n (λ i. all_to m (f i))) (all_to m (λ j
     swapped n m f e =
         all_to_all m (λ j. all_to n (λ i. f i j))
         (λ j b. all_to_all n (λ i. f i j) (λ i a. all_to_each m (f i) (all_to_each n (λ i. all_to m (f i)) e i a) j b))
+
+-- two parts of a list are the same where all their words are
+module _ (n low high : ℕ) (l : List ℕ) (a : low + n ≤ length l) (b : high + n ≤ length l) where
+  part_long : (at : ℕ) → at + n ≤ length l → length (take n (drop at l)) ≡ n
+  part_long at h = length-take-le n (drop at l) (rw (length-drop at l) (omega arith))
+
+  part_at : (at j : ℕ) → j < n → get_or (take n (drop at l)) j 0 ≡ get_or l (at + j) 0
+  part_at at j h = get_or-take n (drop at l) j 0 h ∙ get_or-drop at l j 0
+
+  pub parts_same : {r : Bool} → Decides r (take n (drop low l) ≡ take n (drop high l)) → r ≡ all_to n (same_at low high l)
+  unfolding same_at
+  parts_same {r} d =
+      same_truth r (all_to n (same_at low high l))
+      (λ e. all_to_all n (same_at low high l)
+      (λ j h. eq-eqb _ _ (sym (part_at low j h) ∙ ap (λ (p : List ℕ). get_or p j 0) (d.0 e) ∙ part_at high j h)))
+      (λ e. d.1 (ext_get_or 0 (take n (drop low l)) (take n (drop high l)) (part_long low a ∙ sym (part_long high b))
+      (λ j t. let h : j < n = omega (arith, part_long low a) in
+      part_at low j h ∙ eqb-true _ _ (all_to_each n (same_at low high l) e j h) ∙ sym (part_at high j h))))
 
 pub or_all_to : (b : Bool) (n : ℕ) (f : ℕ → Bool) → b || all_to n f ≡ all_to n (λ j. b || f j)
 or_all_to true n f = sym (all_to_all n (λ j. true) (λ j h. refl))

@@ -82,7 +82,7 @@ module _ (ms : List Bool) where
       let r : count_by (λ m. m) (take n ms) ≡ erased_to ms n = marks_counted n (omega arith) in
       ap (λ k. count_by (λ m. m) (take k ms)) {x = suc n} {y = n + 1} (omega arith)
       ∙ ⊎_elim (λ e. count_by_more_yes (λ m. m) ms n false (omega arith) e ∙ omega (arith, r, erased_true n e))
-          (λ e. count_by_more_no (λ m. m) ms n false (omega arith) e ∙ r ∙ sym (erased_false n e)) (either (get_or ms n false))
+      (λ e. count_by_more_no (λ m. m) ms n false (omega arith) e ∙ r ∙ sym (erased_false n e)) (either (get_or ms n false))
 
   survivors_true : (i n : ℕ) → get_or ms i false ≡ true → length (survivors_from ms i (suc n)) ≡ length (survivors_from ms (suc i) n)
   unfolding survivors_from

@@ -14,13 +14,11 @@ ghost use Rattle.decoder.specs.steps.RowTests.{derive_at, all_to, same_at, low_r
 ghost use Rattle.decoder.specs.Promises.{Enough};
 
 use code::ValidStripe;
-use code::table_65537::PowerTable;
 use encoder::factors::Word;
-use logarithms::powers_65537::PowersOfThree;
 
 // Step 1: multiplies each row by its position's factor, and clears the rows of erased positions. Here and below marks and factors stay slices beside the
 // stripe: of a struct with references in it a contract would have to say at each place that it means the value at entry.
-fn weigh(part: &mut [u32], marks: &[bool], factors: &[u32], st: ValidStripe, powers: &PowerTable)
+fn weigh(part: &mut [u32], marks: &[bool], factors: &[u32], st: ValidStripe)
     requires marks_len { position_count st.stripe ≤ length marks.now }
     requires factors_len { position_count st.stripe ≤ length factors.now }
     requires factors_small { Words (modulus_of st.stripe - 1) factors.now }
@@ -33,20 +31,19 @@ fn weigh(part: &mut [u32], marks: &[bool], factors: &[u32], st: ValidStripe, pow
 {
     let width = st.stripe.width;
     let rows = st.position_count();
-    let threes = PowersOfThree::new(powers);
     for i in 0..rows {
         let at = i * width;
         let g = if marks[i] {
             0
         } else {
-            crate::factors_65537::factor(factors[i], st.stripe, &threes)
+            crate::factors_65537::factor(factors[i], st.stripe)
         };
         encoder::scale_row(part, at, width, Word { value: g });
     }
 }
 
 // Step 2: the inverse transforms of X and of Y, and Y's turned back.
-fn unmix_halves(part: &mut [u32], st: ValidStripe, powers: &PowerTable)
+fn unmix_halves(part: &mut [u32], st: ValidStripe)
     requires part_len { length part.old ≡ stripe_words st.stripe }
     requires words { Words (modulus_of st.stripe) part.old }
     ensures { part.new ≡
@@ -55,9 +52,9 @@ fn unmix_halves(part: &mut [u32], st: ValidStripe, powers: &PowerTable)
         part.old }
 {
     let half = st.block_count() * st.stripe.width;
-    encoder::unmix_all(&mut part[..half], st, powers);
-    encoder::unmix_all(&mut part[half..], st, powers);
-    encoder::turn_back(&mut part[half..], st, powers);
+    encoder::unmix_all(&mut part[..half], st);
+    encoder::unmix_all(&mut part[half..], st);
+    encoder::turn_back(&mut part[half..], st);
 }
 
 // Whether two rows are equal.
@@ -65,14 +62,7 @@ fn same_row(part: &[u32], low: usize, high: usize, width: usize) -> bool
     requires { (low + width ≤ length part.now) × (high + width ≤ length part.now) }
     ensures { result ≡ all_to width (same_at low high part.now) }
 {
-    for j in 0..width {
-        let x = low + j;
-        let y = high + j;
-        if part[x] != part[y] {
-            return false;
-        }
-    }
-    true
+    part[low..low + width] == part[high..high + width]
 }
 
 // The check: whether row j of the first half is row j of the second, for each j whose reversed bits are not below the count of erasures.
@@ -130,7 +120,7 @@ fn derive(part: &mut [u32], st: ValidStripe)
 }
 
 // Step 4: both halves transformed.
-fn evaluate(part: &mut [u32], st: ValidStripe, powers: &PowerTable)
+fn evaluate(part: &mut [u32], st: ValidStripe)
     requires part_len { length part.old ≡ stripe_words st.stripe }
     requires words { Words (modulus_of st.stripe) part.old }
     ensures { part.new ≡
@@ -138,18 +128,12 @@ fn evaluate(part: &mut [u32], st: ValidStripe, powers: &PowerTable)
         (Decoder.evaluated (modulus_of st.stripe) (root_in st.stripe) st.stripe.k st.stripe.level) part.old }
 {
     let half = st.block_count() * st.stripe.width;
-    encoder::mix_all(&mut part[..half], st, powers);
-    encoder::mix_all(&mut part[half..], st, powers);
+    encoder::mix_all(&mut part[..half], st);
+    encoder::mix_all(&mut part[half..], st);
 }
 
 // Step 5: the first half becomes the polynomial's values at the points of X, from the second half where the position is erased.
-fn select_values(
-    part: &mut [u32],
-    marks: &[bool],
-    factors: &[u32],
-    st: ValidStripe,
-    powers: &PowerTable,
-)
+fn select_values(part: &mut [u32], marks: &[bool], factors: &[u32], st: ValidStripe)
     requires marks_len { position_count st.stripe ≤ length marks.now }
     requires factors_len { position_count st.stripe ≤ length factors.now }
     requires factors_small { Words (modulus_of st.stripe - 1) factors.now }
@@ -164,11 +148,10 @@ fn select_values(
     let width = st.stripe.width;
     let rows = st.block_count();
     let half = rows * width;
-    let threes = PowersOfThree::new(powers);
     let over = crate::factors_65537::inverse_of_square(st);
     for i in 0..rows {
         let at = i * width;
-        let d = crate::factors_65537::reciprocal(factors[i], st.stripe, &threes);
+        let d = crate::factors_65537::reciprocal(factors[i], st.stripe);
         let g = Word {
             value: field::mul(over, d),
         };
@@ -191,13 +174,7 @@ pub fn count_erased(marks: &[bool], level: usize) -> usize
 }
 
 // Steps 3 to 5, and the inverse transform of what they give: the blocks in the first half. What is left in the second half is open.
-fn interpolate(
-    part: &mut [u32],
-    marks: &[bool],
-    factors: &[u32],
-    st: ValidStripe,
-    powers: &PowerTable,
-)
+fn interpolate(part: &mut [u32], marks: &[bool], factors: &[u32], st: ValidStripe)
     requires marks_len { position_count st.stripe ≤ length marks.now }
     requires factors_len { position_count st.stripe ≤ length factors.now }
     requires factors_small { Words (modulus_of st.stripe - 1) factors.now }
@@ -210,9 +187,9 @@ fn interpolate(
 {
     let half = st.block_count() * st.stripe.width;
     derive(part, st);
-    evaluate(part, st, powers);
-    select_values(part, marks, factors, st, powers);
-    encoder::unmix_all(&mut part[..half], st, powers);
+    evaluate(part, st);
+    select_values(part, marks, factors, st);
+    encoder::unmix_all(&mut part[..half], st);
 }
 
 // Where nothing is erased and the check holds: the blocks are what step 2 left in the first half, over the count of rows.
@@ -241,18 +218,17 @@ pub fn decode(part: &mut [u32], marks: &[bool], factors: &[u32], st: ValidStripe
 {
     let rows = st.block_count();
     let half = rows * st.stripe.width;
-    let powers = PowerTable::new();
     let erased = count_erased(marks, st.stripe.level);
     if 0 < erased {
-        weigh(part, marks, factors, st, &powers);
+        weigh(part, marks, factors, st);
     }
-    unmix_halves(part, st, &powers);
+    unmix_halves(part, st);
     if !has_low_degree(part, st, erased) {
         part.fill(0);
         return false;
     }
     if 0 < erased {
-        interpolate(part, marks, factors, st, &powers);
+        interpolate(part, marks, factors, st);
     } else {
         unscale(part, st);
     }

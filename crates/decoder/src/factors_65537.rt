@@ -6,22 +6,21 @@ ghost use Rattle.code.specs.Stripe.{modulus_of, block_count};
 ghost use Rattle.decoder.specs.steps.Decoder.{factor_from};
 
 use code::{Stripe, ValidStripe};
-use logarithms::powers_65537::PowersOfThree;
 
 // The factor that a word stands for.
-pub(crate) fn factor(word: u32, st: Stripe, threes: &PowersOfThree) -> u32
+pub(crate) fn factor(word: u32, st: Stripe) -> u32
     requires { word < modulus_of st - 1 }
     ensures { result ≡ factor_from st word }
 {
-    threes.power(word)
+    logarithms::powers_65537::power_of_three(word)
 }
 
 // Its inverse: the power of the negated logarithm, since exponents of 3 count modulo 65536.
-pub(crate) fn reciprocal(word: u32, st: Stripe, threes: &PowersOfThree) -> u32
+pub(crate) fn reciprocal(word: u32, st: Stripe) -> u32
     requires { word < modulus_of st - 1 }
     ensures { result ≡ inverse (modulus_of st) (factor_from st word) }
 {
-    threes.power((65536 - word) % 65536)
+    logarithms::powers_65537::power_of_three((65536 - word) % 65536)
 }
 
 // The inverse of the square of 2^level: 2^16 is -1, so that it is a power of 2 again, or the negative of one.

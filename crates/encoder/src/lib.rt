@@ -12,30 +12,29 @@ ghost use Rattle.code.specs.Transform.{transform, untransform, turned};
 ghost use Rattle.code.specs.Stripe.{modulus_of, root_in, block_count, block_words, coded_stripe};
 ghost use Rattle.code.specs.steps.Storing.{stored, scaled_word, scale_row};
 
-use code::ValidStripe;
-use code::table_65537::PowerTable;
+use code::{ValidStripe, table_65537};
 use factors::{Factor, ShortWord};
 
 // All mixing of a half of a stripe.
-pub fn mix_all(half: &mut [u32], st: ValidStripe, powers: &PowerTable)
+pub fn mix_all(half: &mut [u32], st: ValidStripe)
     requires half_len { length half.old ≡ block_words st.stripe }
     requires words { Words (modulus_of st.stripe) half.old }
     ensures { half.new ≡
         lifted st.stripe.width (block_count st.stripe) (block_count st.stripe)
         (transform (modulus_of st.stripe) (root_in st.stripe) st.stripe.k st.stripe.level) half.old }
 {
-    transform::mix_all(half, st.stripe.level, st.stripe.width, powers);
+    transform::mix_all(half, st.stripe.level, st.stripe.width);
 }
 
 // The inverse of all mixing of a half of a stripe, but for the factor 2^level.
-pub fn unmix_all(half: &mut [u32], st: ValidStripe, powers: &PowerTable)
+pub fn unmix_all(half: &mut [u32], st: ValidStripe)
     requires half_len { length half.old ≡ block_words st.stripe }
     requires words { Words (modulus_of st.stripe) half.old }
     ensures { half.new ≡
         lifted st.stripe.width (block_count st.stripe) (block_count st.stripe)
         (untransform (modulus_of st.stripe) (inverse (modulus_of st.stripe) (root_in st.stripe)) st.stripe.k st.stripe.level) half.old }
 {
-    transform::unmix_all(half, st.stripe.level, st.stripe.width, powers);
+    transform::unmix_all(half, st.stripe.level, st.stripe.width);
 }
 
 // Multiplies the row from index `at` on by `g`.
@@ -66,7 +65,7 @@ pub fn scale_row_over<F: Factor>(part: &mut [u32], from: usize, to: usize, width
 
 // Turns the first half of the rows, over the second half: the row of write t is multiplied by w^rev(t), where w is the stripe's root. That is entry rev(t)
 // times 1024 / n of the powers, which is t with its ten bits reversed.
-fn turn_over(part: &mut [u32], st: ValidStripe, powers: &PowerTable)
+fn turn_over(part: &mut [u32], st: ValidStripe)
     requires part_len { length part.old ≡ block_words st.stripe + block_words st.stripe }
     requires words { Words (modulus_of st.stripe) (take (block_words st.stripe) part.old) }
     ensures { part.new ≡ take (block_words st.stripe) part.old ++
@@ -77,18 +76,17 @@ fn turn_over(part: &mut [u32], st: ValidStripe, powers: &PowerTable)
     let width = st.stripe.width;
     let rows = st.block_count();
     let half = rows * width;
+    let powers = table_65537::powers();
     for j in 0..rows {
         let from = j * width;
         let e = code::number::reversed(10, first + j) as usize;
-        let g = ShortWord {
-            value: powers.entries[e],
-        };
+        let g = ShortWord { value: powers[e] };
         scale_row_over(part, from, half + from, width, g);
     }
 }
 
 // Turns a half of the rows back, in its place: by the powers of entry 2047, the inverse of entry 1.
-pub fn turn_back(part: &mut [u32], st: ValidStripe, powers: &PowerTable)
+pub fn turn_back(part: &mut [u32], st: ValidStripe)
     requires part_len { length part.old ≡ block_words st.stripe }
     requires words { Words (modulus_of st.stripe) part.old }
     ensures { part.new ≡
@@ -98,11 +96,12 @@ pub fn turn_back(part: &mut [u32], st: ValidStripe, powers: &PowerTable)
     let first = st.stripe.first;
     let width = st.stripe.width;
     let rows = st.block_count();
+    let powers = table_65537::powers();
     for j in 0..rows {
         let at = j * width;
         let e = code::number::reversed(10, first + j) as usize * 2047;
         let g = ShortWord {
-            value: powers.entries[e % 2048],
+            value: powers[e % 2048],
         };
         scale_row(part, at, width, g);
     }
@@ -116,8 +115,7 @@ pub fn code(part: &mut [u32], st: ValidStripe)
     ensures { part.new ≡ coded_stripe st.stripe (take (block_words st.stripe) part.old) }
 {
     let half = st.block_count() * st.stripe.width;
-    let powers = PowerTable::new();
-    turn_over(part, st, &powers);
-    mix_all(&mut part[..half], st, &powers);
-    mix_all(&mut part[half..], st, &powers);
+    turn_over(part, st);
+    mix_all(&mut part[..half], st);
+    mix_all(&mut part[half..], st);
 }

@@ -156,26 +156,16 @@ const LOGARITHMS: [u32; 2048] = [
     55402, 50314, 36490, 36612, 51597, 2850, 41072, 47026, 54129, 59262, 11340, 8242, 19994, 42274,
 ];
 
-// The table, all of which is stored on the stack where it is made.
-pub fn logarithms() -> [u32; 2048]
-    ensures { result ≡ log_table }
+// The constants as they stand in memory, once: a constant that is named is laid on the stack each time.
+static TABLE: [u32; 2048] = LOGARITHMS;
+
+static FIRST_POWERS: [u32; 32] = THREES;
+
+// The table.
+pub fn logarithms() -> &'static [u32; 2048]
+    ensures { result.now ≡ log_table }
 {
-    LOGARITHMS
-}
-
-// The whole table, as it is lent to what looks up its entries.
-#[derive(Drop)]
-pub struct LogTable {
-    pub entries: [u32; 2048],
-    ghost is_table: { entries ≡ log_table },
-}
-
-impl LogTable {
-    pub fn new() -> Self {
-        LogTable {
-            entries: logarithms(),
-        }
-    }
+    &TABLE
 }
 
 const THREES: [u32; 32] = [
@@ -184,9 +174,9 @@ const THREES: [u32; 32] = [
     28720, 20623,
 ];
 
-// 3^0, 3^1, .., 3^31: the powers of the last digits of `PowersOfThree`.
-pub fn threes() -> [u32; 32]
-    ensures { result ≡ powers_of fermat.modulus fermat.generator 32 }
+// 3^0, 3^1, .., 3^31: the powers of the last digits of `power_of_three`.
+pub fn threes() -> &'static [u32; 32]
+    ensures { result.now ≡ powers_of fermat.modulus fermat.generator 32 }
 {
-    THREES
+    &FIRST_POWERS
 }

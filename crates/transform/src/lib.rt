@@ -6,41 +6,39 @@ mod large_rows;
 pub mod small_rows;
 
 ghost use Rattle.std.specs.Prelude.{◌≡◌, ◌*◌, ◌^◌, ◌≤◌, ◌<◌, length};
-ghost use Rattle.field.specs.Field.{fermat, root_of, power_table};
+ghost use Rattle.field.specs.Field.{fermat, root_of};
 ghost use Rattle.field.specs.Words.{Words};
 ghost use Rattle.code.specs.Rows.{lifted};
 ghost use Rattle.code.specs.Transform.{transform, untransform};
 ghost use Rattle.field.specs.Power.{inverse};
 
 // All mixing of 2^level rows.
-pub fn mix_all(half: &mut [u32], level: usize, width: usize, powers: &[u32])
+pub fn mix_all(half: &mut [u32], level: usize, width: usize)
     requires level_bound { level ≤ 10 }
     requires half_len { length half.old ≡ 2 ^ level * width }
-    requires powers_value { powers.now ≡ power_table }
     requires words { Words fermat.modulus half.old }
     ensures { half.new ≡
         lifted width (2 ^ level) (2 ^ level) (transform fermat.modulus (root_of fermat level) level level) half.old }
 {
     if width < 4 {
-        crate::small_rows::mix_small_rows(half, level, width, powers);
+        crate::small_rows::mix_small_rows(half, level, width);
     } else {
-        crate::large_rows::mix_rows(half, level, width, powers);
+        crate::large_rows::mix_rows(half, level, width);
     }
 }
 
 // The inverse of all mixing of 2^level rows, but for the factor 2^level.
-pub fn unmix_all(half: &mut [u32], level: usize, width: usize, powers: &[u32])
+pub fn unmix_all(half: &mut [u32], level: usize, width: usize)
     requires level_bound { level ≤ 10 }
     requires half_len { length half.old ≡ 2 ^ level * width }
-    requires powers_value { powers.now ≡ power_table }
     requires words { Words fermat.modulus half.old }
     ensures { half.new ≡
         lifted width (2 ^ level) (2 ^ level)
         (untransform fermat.modulus (inverse fermat.modulus (root_of fermat level)) level level) half.old }
 {
     if width < 4 {
-        crate::small_rows::unmix_small_rows(half, level, width, powers);
+        crate::small_rows::unmix_small_rows(half, level, width);
     } else {
-        crate::large_rows::unmix_rows(half, level, width, powers);
+        crate::large_rows::unmix_rows(half, level, width);
     }
 }

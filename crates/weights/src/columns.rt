@@ -7,8 +7,6 @@ ghost use Rattle.code.specs.Convolution.{products};
 ghost use Rattle.weights.specs.steps.Digits.{flags, digits, crossed_column, sum_rows};
 
 use crate::exponents::Positions;
-use code::table_65537::PowerTable;
-use logarithms::table_65537::LogTable;
 
 // The marks, 1 where a position is erased.
 pub fn load_flags(column: &mut [u32], marks: &[bool], at: Positions)
@@ -25,28 +23,28 @@ pub fn load_flags(column: &mut [u32], marks: &[bool], at: Positions)
 }
 
 // A digit of the logarithms of u^d - 1, for all exponents d.
-fn load_digits(column: &mut [u32], at: Positions, unit: u32, table: &LogTable)
+fn load_digits(column: &mut [u32], at: Positions, unit: u32)
     requires unit_bound { 0 < unit }
     requires column_len { length column.old ≡ 2 ^ suc at.level }
     ensures { column.new ≡ bit_reversed (suc at.level) (digits at.level unit) }
 {
     let count = at.count();
     for j in 0..count {
-        column[j] = at.log_of_less(at.reversed(j), table) / unit % 64;
+        column[j] = at.log_of_less(at.reversed(j)) / unit % 64;
     }
 }
 
 // All mixing of a column, which is rows of one word, or its inverse, but for a factor 2^(level + 1). Each caller knows which: a trait with an impl for either
 // would be longer than the flag.
-pub fn cross(column: &mut [u32], at: Positions, powers: &PowerTable, unmixing: bool)
+pub fn cross(column: &mut [u32], at: Positions, unmixing: bool)
     requires column_len { length column.old ≡ 2 ^ suc at.level }
     requires words { Words fermat.modulus column.old }
     ensures { column.new ≡ crossed_column unmixing at.level column.old }
 {
     if unmixing {
-        transform::small_rows::unmix_small_rows(column, at.level + 1, 1, powers);
+        transform::small_rows::unmix_small_rows(column, at.level + 1, 1);
     } else {
-        transform::small_rows::mix_small_rows(column, at.level + 1, 1, powers);
+        transform::small_rows::mix_small_rows(column, at.level + 1, 1);
     }
 }
 
@@ -64,7 +62,7 @@ fn multiply(part: &mut [u32], count: usize)
 }
 
 // The sums of a digit for all positions, behind the mixed marks.
-pub fn store_sums(part: &mut [u32], at: Positions, unit: u32, powers: &PowerTable, table: &LogTable)
+pub fn store_sums(part: &mut [u32], at: Positions, unit: u32)
     requires unit_bound { 0 < unit }
     requires part_len { length part.old ≡ 2 ^ suc at.level + 2 ^ suc at.level }
     requires words { Words fermat.modulus (take (2 ^ suc at.level) part.old) }
@@ -72,8 +70,8 @@ pub fn store_sums(part: &mut [u32], at: Positions, unit: u32, powers: &PowerTabl
         take (2 ^ suc at.level) part.old ++ sum_rows at.level unit (take (2 ^ suc at.level) part.old) }
 {
     let count = at.count();
-    load_digits(&mut part[count..], at, unit, table);
-    cross(&mut part[count..], at, powers, false);
+    load_digits(&mut part[count..], at, unit);
+    cross(&mut part[count..], at, false);
     multiply(part, count);
-    cross(&mut part[count..], at, powers, true);
+    cross(&mut part[count..], at, true);
 }

@@ -8,17 +8,16 @@ ghost use Rattle.weights.specs.steps.Direct.{Sums, row_sum, direct_at};
 
 use crate::exponents::Positions;
 use crate::sums;
-use logarithms::table_65537::LogTable;
 
 // The logarithms of u^d - 1 for all exponents d, behind the first words.
-fn load_terms(part: &mut [u32], at: Positions, table: &LogTable)
+fn load_terms(part: &mut [u32], at: Positions)
     requires { 2 * 2 ^ suc at.level ≤ length part.old }
     ensures { part.new ≡ stored (2 ^ suc at.level) (log_of_less at.level) (2 ^ suc at.level) part.old }
 {
     let count = at.count();
     for d in 0..count {
         let to = count + d;
-        part[to] = at.log_of_less(d, table);
+        part[to] = at.log_of_less(d);
     }
 }
 
@@ -67,13 +66,7 @@ fn store_words(logs: &mut [u32], part: &[u32], at: Positions, shared: u32)
 }
 
 // Stores the logarithms of all positions at the beginning of their array. What is left in the part is open.
-pub fn store_direct(
-    logs: &mut [u32],
-    part: &mut [u32],
-    marks: &[bool],
-    at: Positions,
-    table: &LogTable,
-)
+pub fn store_direct(logs: &mut [u32], part: &mut [u32], marks: &[bool], at: Positions)
     requires marks_len { 2 ^ suc at.level ≤ length marks.now }
     requires logs_len { 2 ^ suc at.level ≤ length logs.old }
     requires room { 3 * 2 ^ suc at.level ≤ length part.old }
@@ -82,7 +75,7 @@ pub fn store_direct(
 {
     let count = at.count();
     part[..count].fill(0);
-    load_terms(part, at, table);
+    load_terms(part, at);
     part.copy_within(count..2 * count, 2 * count);
     add_rows(part, marks, at);
     store_words(logs, part, at, sums::powers_sum(marks, at));

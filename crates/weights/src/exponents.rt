@@ -4,8 +4,6 @@ ghost use Rattle.code.specs.Transform as Transform;
 ghost use Rattle.logarithms.specs.Weights.{exponent_at, log_of_power, log_of_less};
 ghost use Rattle.weights.specs.steps.Digits.{position_at};
 
-use logarithms::table_65537::LogTable;
-
 // The positions of a stripe of 2^level blocks. Their marks stay a slice beside them: of a struct with a reference in it a contract would have to say at each
 // place that it means the value at entry.
 #[derive(Clone, Copy)]
@@ -59,10 +57,10 @@ impl Positions {
     }
 
     // The logarithm of u^d - 1.
-    pub fn log_of_less(self, d: usize, table: &LogTable) -> u32
+    pub fn log_of_less(self, d: usize) -> u32
         requires { d < 2 ^ suc self.level }
         ensures { result ≡ log_of_less self.level d }
     {
-        table.entries[d * (1024 / code::number::two_to(self.level))]
+        logarithms::table_65537::logarithms()[d * (1024 / code::number::two_to(self.level))]
     }
 }

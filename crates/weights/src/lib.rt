@@ -15,7 +15,6 @@ ghost use Rattle.logarithms.specs.Weights.{erased_to};
 ghost use Rattle.logarithms.specs.Weights as Weights;
 
 use exponents::Positions;
-use logarithms::table_65537::LogTable;
 
 // From this level on the convolution takes no longer than the sums made directly, or hardly longer, where half of the positions are erased; and it grows less.
 const CONVOLVED_FROM: usize = 9;
@@ -29,11 +28,10 @@ pub fn store_logs(logs: &mut [u32], part: &mut [u32], marks: &[bool], level: usi
     requires room { 3 * 2 ^ suc level ≤ length part.old }
     ensures { logs.new ≡ Weights.logs level marks.now ++ drop (2 ^ suc level) logs.old }
 {
-    let table = LogTable::new();
     let at = Positions { level };
     if level < CONVOLVED_FROM {
-        direct::store_direct(logs, part, marks, at, &table);
+        direct::store_direct(logs, part, marks, at);
     } else {
-        convolved::store_convolved(logs, part, marks, at, &table);
+        convolved::store_convolved(logs, part, marks, at);
     }
 }

@@ -7,8 +7,6 @@ ghost use Rattle.weights.specs.steps.Digits.{Holds, mixed_flags, powers_to, adde
 
 use crate::columns;
 use crate::exponents::Positions;
-use code::table_65537::PowerTable;
-use logarithms::table_65537::LogTable;
 
 // The sum of the logarithms of the erased points: at most 2,048 numbers of 16 bits.
 pub fn powers_sum(marks: &[bool], at: Positions) -> u32
@@ -24,7 +22,7 @@ pub fn powers_sum(marks: &[bool], at: Positions) -> u32
 }
 
 // The mixed marks in the first words of the part, and what all logarithms share at each position.
-pub fn start(logs: &mut [u32], part: &mut [u32], marks: &[bool], at: Positions, powers: &PowerTable)
+pub fn start(logs: &mut [u32], part: &mut [u32], marks: &[bool], at: Positions)
     requires marks_len { 2 ^ suc at.level ≤ length marks.now }
     requires logs_len { 2 ^ suc at.level ≤ length logs.old }
     requires room { 2 ^ suc at.level ≤ length part.old }
@@ -35,7 +33,7 @@ pub fn start(logs: &mut [u32], part: &mut [u32], marks: &[bool], at: Positions, 
 {
     let count = at.count();
     columns::load_flags(&mut part[..count], marks, at);
-    columns::cross(&mut part[..count], at, powers, false);
+    columns::cross(&mut part[..count], at, false);
     logs[..count].fill(powers_sum(marks, at) % 65536);
 }
 
@@ -57,14 +55,7 @@ fn add_sums(logs: &mut [u32], part: &[u32], at: Positions, unit: u32)
 }
 
 // Adds a digit of the logarithms to the words at the positions. The first words of the part stay; those behind them are open.
-pub fn add_digit(
-    logs: &mut [u32],
-    part: &mut [u32],
-    at: Positions,
-    unit: u32,
-    powers: &PowerTable,
-    table: &LogTable,
-)
+pub fn add_digit(logs: &mut [u32], part: &mut [u32], at: Positions, unit: u32)
     requires unit_bound { (0 < unit) × (unit ≤ 4096) }
     requires logs_len { 2 ^ suc at.level ≤ length logs.old }
     requires room { 2 * 2 ^ suc at.level ≤ length part.old }
@@ -75,6 +66,6 @@ pub fn add_digit(
         (drop (2 ^ suc at.level) logs.old) }
 {
     let both = 2 * at.count();
-    columns::store_sums(&mut part[..both], at, unit, powers, table);
+    columns::store_sums(&mut part[..both], at, unit);
     add_sums(logs, part, at, unit);
 }

@@ -23,5 +23,3 @@ loop-j-preserved g c =
     storing_turn c.loop-j.invariant c.loop-j-test.true
     (c.product.ensures ∙ ap (times 65537 (g.F.Factor.value c.args.g)) (as_it_was c.loop-j.invariant c.loop-j-test.true c.requires.apart))
 
-pub returns : goal.returns
-returns g c = storing_done c.loop-j.invariant c.loop-j-test.false

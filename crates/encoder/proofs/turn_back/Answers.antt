@@ -8,16 +8,10 @@ use Rattle.field.specs.Field.{fermat, root_of}
 use Rattle.code.specs.Rows.{lifted}
 use Rattle.code.specs.Transform.{turned}
 use Rattle.code.proofs.Lifting.{row_next}
-use Rattle.code.proofs.RowLaws.{stored_last, StoringRows, storing_rows_start, storing_rows_room, storing_rows_done, scaled_rows_word}
+use Rattle.code.proofs.RowLaws.{stored_last, StoringRows, storing_rows_start, storing_rows_done, scaled_rows_word}
 use Rattle.code.proofs.RowLaws.{scaling_words, scaling_turn}
 use Rattle.encoder.proofs.Turning.{factor, back_entry, turned_rows}
 use Rattle.encoder.proofs.turn_back.Goals as goal
-
--- row j ends within the part
-room : {f : ℕ → ℕ} {m n width : ℕ} {u v : List ℕ} {at j : ℕ} → StoringRows 0 f m width u v at j → j < m → m ≡ n → length u ≡ n * width
-    → at + width ≤ length v
-room {width = width} h b e long =
-    omega (arith, storing_rows_room h b, h.same, ap (λ (x : ℕ). x * width) e)
 
 -- all rows turned
 all_turned : (first k width w : ℕ) {m n : ℕ} {u v : List ℕ} {at j : ℕ}
@@ -32,19 +26,10 @@ all_turned first k width w {m} {u = u} h b e l =
 pub loop-j-init : goal.loop-j-init
 loop-j-init c = rw (zero-mul c.args.st.stripe.width) (storing_rows_start 0 _ _ _ _)
 
-pub overflow_mul-at : goal.overflow_mul-at
-overflow_mul-at c = omega (arith, room c.loop-j.invariant c.loop-j-test.true c.block_count-rows.ensures c.requires.part_len)
-
-pub bounds-powers-e : goal.bounds-powers-e
-bounds-powers-e c = mod-lt _ (lit< tt)
-
 pub invariant_of-g : goal.invariant_of-g
 invariant_of-g c = record {
-  is_short = (back_entry c.args.st.numbers c.block_count-rows.ensures c.loop-j-test.true c.args.powers.now.is_table c.reversed.ensures).short;
+  is_short = (back_entry c.args.st.numbers c.block_count-rows.ensures c.loop-j-test.true c.powers-powers.ensures c.reversed.ensures).short;
 }
-
-pub scale_row-requires-clause-width_in_bounds : goal.scale_row-requires-clause-width_in_bounds
-scale_row-requires-clause-width_in_bounds c = room c.loop-j.invariant c.loop-j-test.true c.block_count-rows.ensures c.requires.part_len
 
 pub scale_row-requires-clause-words : goal.scale_row-requires-clause-words
 scale_row-requires-clause-words c = scaling_words 65537 _ _ c.loop-j.invariant (lit< tt) c.requires.words
@@ -52,7 +37,7 @@ scale_row-requires-clause-words c = scaling_words 65537 _ _ c.loop-j.invariant (
 pub loop-j-preserved : goal.loop-j-preserved
 loop-j-preserved c =
     rw (row_next c.loop-j.j c.args.st.stripe.width) (scaling_turn 65537 _ _ c.loop-j.invariant c.loop-j-test.true
-    (back_entry c.args.st.numbers c.block_count-rows.ensures c.loop-j-test.true c.args.powers.now.is_table c.reversed.ensures).is
+    (back_entry c.args.st.numbers c.block_count-rows.ensures c.loop-j-test.true c.powers-powers.ensures c.reversed.ensures).is
     c.scale_row.ensures)
 
 pub returns : goal.returns

@@ -55,12 +55,6 @@ all_turned first k width w {m} {u = u} h b e long =
 pub loop-j-init : goal.loop-j-init
 loop-j-init c = over_start _ _ _ _
 
-pub overflow_mul-from : goal.overflow_mul-from
-overflow_mul-from c = omega (arith, room c.loop-j.invariant c.loop-j-test.true, half_is c.args.st.stripe.width c.block_count-rows.ensures)
-
-pub overflow_add-half : goal.overflow_add-half
-overflow_add-half c = omega (arith, room c.loop-j.invariant c.loop-j-test.true, half_is c.args.st.stripe.width c.block_count-rows.ensures)
-
 pub bounds-powers-e : goal.bounds-powers-e
 bounds-powers-e c =
     let small : c.reversed-e.result < 1024 = rw c.reversed-e.ensures (reversed_lt 10 _) in
@@ -68,17 +62,8 @@ bounds-powers-e c =
 
 pub invariant_of-g : goal.invariant_of-g
 invariant_of-g c = record {
-  is_short = (over_entry c.args.st.numbers c.block_count-rows.ensures c.loop-j-test.true c.args.powers.now.is_table c.reversed-e.ensures).short;
+  is_short = (over_entry c.args.st.numbers c.block_count-rows.ensures c.loop-j-test.true c.powers-powers.ensures c.reversed-e.ensures).short;
 }
-
-pub scale_row_over-requires-clause-apart : goal.scale_row_over-requires-clause-apart
-scale_row_over-requires-clause-apart c = inl (omega (arith, room c.loop-j.invariant c.loop-j-test.true))
-
-pub scale_row_over-requires-clause-width_bound : goal.scale_row_over-requires-clause-width_bound
-scale_row_over-requires-clause-width_bound c = (
-  omega (arith, room c.loop-j.invariant c.loop-j-test.true, half_is c.args.st.stripe.width c.block_count-rows.ensures),
-  omega (arith, room c.loop-j.invariant c.loop-j-test.true, half_is c.args.st.stripe.width c.block_count-rows.ensures),
-)
 
 pub scale_row_over-requires-clause-by_index : goal.scale_row_over-requires-clause-by_index
 scale_row_over-requires-clause-by_index c =
@@ -87,7 +72,7 @@ scale_row_over-requires-clause-by_index c =
 pub loop-j-preserved : goal.loop-j-preserved
 loop-j-preserved c =
     turn c.loop-j.invariant c.loop-j-test.true
-    (over_entry c.args.st.numbers c.block_count-rows.ensures c.loop-j-test.true c.args.powers.now.is_table c.reversed-e.ensures).is
+    (over_entry c.args.st.numbers c.block_count-rows.ensures c.loop-j-test.true c.powers-powers.ensures c.reversed-e.ensures).is
     c.scale_row_over.ensures
 
 pub returns : goal.returns

@@ -1,15 +1,18 @@
 -- `decoder::decoding::same_row` meets its contract. Assumes nothing.
-use Rattle.decoder.proofs.decoding.same_row.Invariants.{start, turn, failed, done}
+use Rattle.std.proofs.Common.{◌≡◌, ℕ, ◌+◌, ◌-◌, ◌∙◌, ap₂, take, drop, arith}
+use lib.Dec.{eqb}
+use Rattle.std.specs.Cmp.Lexicographic.{pointwise}
+use Rattle.std.proofs.lemmas.Bool.Decides.{Decides-eqb}
+use Rattle.std.proofs.lemmas.Slice.Eq.{slice_eq-Decides}
+use Rattle.decoder.proofs.AllTo.{parts_same}
 use Rattle.decoder.proofs.decoding.same_row.Goals as goal
 
-pub loop-j-init : goal.loop-j-init
-loop-j-init c = start c.args.low c.args.high c.args.width c.args.part.now
-
-pub returns-then-part-x : goal.returns-then-part-x
-returns-then-part-x c = failed c.loop-j.invariant c.loop-j-test.true c.if-part-x.true
-
-pub loop-j-preserved : goal.loop-j-preserved
-loop-j-preserved c = turn c.loop-j.invariant c.loop-j-test.true c.if-part-x.false
-
 pub returns : goal.returns
-returns c = done c.loop-j.invariant c.loop-j-test.false
+returns c =
+    let a = c.args in
+    let l = a.part.now in
+    let low : a.low + a.width - a.low ≡ a.width = omega arith in
+    let high : a.high + a.width - a.high ≡ a.width = omega arith in
+    parts_same a.width a.low a.high l c.requires.0 c.requires.1
+    (slice_eq-Decides Decides-eqb (take a.width (drop a.low l)) (take a.width (drop a.high l)) _
+    (c.eq.ensures ∙ ap₂ (λ (m n : ℕ). pointwise eqb (take m (drop a.low l)) (take n (drop a.high l))) low high))

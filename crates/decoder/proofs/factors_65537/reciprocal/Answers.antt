@@ -4,4 +4,4 @@ use Rattle.decoder.proofs.WeightLogs.{power_back}
 use Rattle.decoder.proofs.factors_65537.reciprocal.Goals as goal
 
 pub returns : goal.returns
-returns c = c.power.ensures ∙ power_back c.args.word (omega arith)
+returns c = c.power_of_three.ensures ∙ power_back c.args.word (omega arith)

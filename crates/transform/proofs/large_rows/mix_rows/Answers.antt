@@ -27,7 +27,7 @@ cross_each-requires-clause-width_bound c =
     omega (arith, (quads_here (omega arith) i.few (i.same ∙ i.long) c.two_to-blocks.ensures c.two_to-m.ensures).fits)
 
 pub cross_each-requires-clause-quad_factors : goal.cross_each-requires-clause-quad_factors
-cross_each-requires-clause-quad_factors c = mixing_quads c.requires.powers_value c.two_to-m.ensures (omega (arith, c.requires.level_bound))
+cross_each-requires-clause-quad_factors c = mixing_quads c.powers-powers.ensures c.two_to-m.ensures (omega (arith, c.requires.level_bound))
 
 pub loop-pair-preserved : goal.loop-pair-preserved
 loop-pair-preserved c =
@@ -36,7 +36,7 @@ loop-pair-preserved c =
     let next : c.args.level % 2 + 2 * (c.loop-pair.pair + 1) ≡ c.args.level % 2 + 2 * c.loop-pair.pair + 2 = omega arith in
     rw next
     (quad_turn i (omega arith) q c.cross_each.auto.half
-    (mixing_root c.args.level _ c.requires.powers_value c.two_to-m.ensures i.few (omega arith)) c.cross_each.ensures)
+    (mixing_root c.args.level _ c.powers-powers.ensures c.two_to-m.ensures i.few (omega arith)) c.cross_each.ensures)
 
 pub returns : goal.returns
 returns c = mix_done c.loop-pair.invariant (omega arith)

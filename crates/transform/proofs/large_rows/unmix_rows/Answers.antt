@@ -20,7 +20,7 @@ cross_each-requires-clause-width_bound c =
     omega (arith, (quads_here (omega arith) i.few (i.same ∙ i.long) c.two_to-blocks.ensures c.two_to-m.ensures).fits)
 
 pub cross_each-requires-clause-quad_factors : goal.cross_each-requires-clause-quad_factors
-cross_each-requires-clause-quad_factors c = unmixing_quads c.requires.powers_value c.two_to-m.ensures (omega (arith, c.requires.level_bound))
+cross_each-requires-clause-quad_factors c = unmixing_quads c.powers-powers.ensures c.two_to-m.ensures (omega (arith, c.requires.level_bound))
 
 pub loop-pair-preserved : goal.loop-pair-preserved
 loop-pair-preserved c =
@@ -28,7 +28,7 @@ loop-pair-preserved c =
     let q = quads_here (omega arith) i.few (i.same ∙ i.long) c.two_to-blocks.ensures c.two_to-m.ensures in
     let next : c.args.level % 2 + 2 * c.loop-pair.pair ≡ c.args.level % 2 + 2 * (c.loop-pair.pair - 1) + 2 = omega arith in
     unquad_turn (rw next at i) q c.cross_each.auto.half
-    (unmixing_root c.args.level _ c.requires.powers_value c.two_to-m.ensures i.few (omega arith)) c.cross_each.ensures
+    (unmixing_root c.args.level _ c.powers-powers.ensures c.two_to-m.ensures i.few (omega arith)) c.cross_each.ensures
 
 pub sum_each-requires-clause-half_len : goal.sum_each-requires-clause-half_len
 sum_each-requires-clause-half_len c =

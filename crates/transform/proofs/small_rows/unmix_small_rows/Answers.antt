@@ -23,47 +23,47 @@ loop-l-init c = unmix_start c.requires.level_bound.0 c.requires.half_len c.requi
 
 pub repeat-requires-clause-width_in_bounds : goal.repeat-requires-clause-width_in_bounds
 repeat-requires-clause-width_in_bounds c =
-    let t = turn c.loop-l.invariant c.loop-l-test.true c.requires.level_bound.1 c.two_to-blocks.ensures c.two_to-m.ensures c.requires.powers_value in
+    let t = turn c.loop-l.invariant c.loop-l-test.true c.requires.level_bound.1 c.two_to-blocks.ensures c.two_to-m.ensures c.powers-powers.ensures in
     omega (arith, t.room)
 
 pub repeat-requires-clause-row_factors : goal.repeat-requires-clause-row_factors
 repeat-requires-clause-row_factors c =
-    let t = turn c.loop-l.invariant c.loop-l-test.true c.requires.level_bound.1 c.two_to-blocks.ensures c.two_to-m.ensures c.requires.powers_value in
+    let t = turn c.loop-l.invariant c.loop-l-test.true c.requires.level_bound.1 c.two_to-blocks.ensures c.two_to-m.ensures c.powers-powers.ensures in
     t.factors.rows
 
 pub overflow_mul-factors : goal.overflow_mul-factors
 overflow_mul-factors c =
-    let t = turn c.loop-l.invariant c.loop-l-test.true c.requires.level_bound.1 c.two_to-blocks.ensures c.two_to-m.ensures c.requires.powers_value in
+    let t = turn c.loop-l.invariant c.loop-l-test.true c.requires.level_bound.1 c.two_to-blocks.ensures c.two_to-m.ensures c.powers-powers.ensures in
     record { fits = omega (arith, t.room) }
 
 pub slice_bounds-factors-end : goal.slice_bounds-factors-end
 slice_bounds-factors-end c =
-    let t = turn c.loop-l.invariant c.loop-l-test.true c.requires.level_bound.1 c.two_to-blocks.ensures c.two_to-m.ensures c.requires.powers_value in
+    let t = turn c.loop-l.invariant c.loop-l-test.true c.requires.level_bound.1 c.two_to-blocks.ensures c.two_to-m.ensures c.powers-powers.ensures in
     omega (arith, t.room)
 
 pub slice_bounds-cross_words_each-end : goal.slice_bounds-cross_words_each-end
 slice_bounds-cross_words_each-end c =
-    let t = turn c.loop-l.invariant c.loop-l-test.true c.requires.level_bound.1 c.two_to-blocks.ensures c.two_to-m.ensures c.requires.powers_value in
+    let t = turn c.loop-l.invariant c.loop-l-test.true c.requires.level_bound.1 c.two_to-blocks.ensures c.two_to-m.ensures c.powers-powers.ensures in
     sym (lent c.loop-l.half c.loop-l.factors t (omega arith) c.repeat.ensures).long
 
 pub cross_words_each-requires-clause-half_len : goal.cross_words_each-requires-clause-half_len
 cross_words_each-requires-clause-half_len c =
-    let t = turn c.loop-l.invariant c.loop-l-test.true c.requires.level_bound.1 c.two_to-blocks.ensures c.two_to-m.ensures c.requires.powers_value in
+    let t = turn c.loop-l.invariant c.loop-l-test.true c.requires.level_bound.1 c.two_to-blocks.ensures c.two_to-m.ensures c.powers-powers.ensures in
     (lent c.loop-l.half c.loop-l.factors t (omega arith) c.repeat.ensures).words
 
 pub cross_words_each-requires-clause-size_bound : goal.cross_words_each-requires-clause-size_bound
 cross_words_each-requires-clause-size_bound c =
-    let t = turn c.loop-l.invariant c.loop-l-test.true c.requires.level_bound.1 c.two_to-blocks.ensures c.two_to-m.ensures c.requires.powers_value in
+    let t = turn c.loop-l.invariant c.loop-l-test.true c.requires.level_bound.1 c.two_to-blocks.ensures c.two_to-m.ensures c.powers-powers.ensures in
     omega (arith, (lent c.loop-l.half c.loop-l.factors t (omega arith) c.repeat.ensures).few)
 
 pub cross_words_each-requires-clause-short_factors : goal.cross_words_each-requires-clause-short_factors
 cross_words_each-requires-clause-short_factors c =
-    let t = turn c.loop-l.invariant c.loop-l-test.true c.requires.level_bound.1 c.two_to-blocks.ensures c.two_to-m.ensures c.requires.powers_value in
+    let t = turn c.loop-l.invariant c.loop-l-test.true c.requires.level_bound.1 c.two_to-blocks.ensures c.two_to-m.ensures c.powers-powers.ensures in
     (lent c.loop-l.half c.loop-l.factors t (omega arith) c.repeat.ensures).short
 
 pub loop-l-preserved : goal.loop-l-preserved
 loop-l-preserved c =
-    let t = turn c.loop-l.invariant c.loop-l-test.true c.requires.level_bound.1 c.two_to-blocks.ensures c.two_to-m.ensures c.requires.powers_value in
+    let t = turn c.loop-l.invariant c.loop-l-test.true c.requires.level_bound.1 c.two_to-blocks.ensures c.two_to-m.ensures c.powers-powers.ensures in
     unmix_turn c.loop-l.invariant c.loop-l-test.true t.here c.cross_words_each.auto.half t.factors.entry
     (level_crossed c.loop-l.half c.loop-l.factors t (omega arith) c.repeat.ensures (unmixing_crosses _ _) c.cross_words_each.ensures)
 

@@ -4,8 +4,8 @@ use Rattle.logarithms.proofs.Logarithms.{length_logs}
 use Rattle.weights.proofs.ExponentLaws.{entry_in, log_of_less_is}
 use Rattle.weights.proofs.exponents.Positions.log_of_less.Goals as goal
 
-pub bounds-table-d : goal.bounds-table-d
-bounds-table-d c =
+pub bounds-logarithms-d : goal.bounds-logarithms-d
+bounds-logarithms-d c =
     omega (
       arith,
       ap (λ (n : ℕ). c.args.d * (1024 / n)) c.two_to.ensures,
@@ -14,5 +14,5 @@ bounds-table-d c =
 
 pub returns : goal.returns
 returns c =
-    ap₂ (λ (l : List ℕ) (n : ℕ). get_or l (c.args.d * (1024 / n)) 0) c.args.table.now.is_table c.two_to.ensures
+    ap₂ (λ (l : List ℕ) (n : ℕ). get_or l (c.args.d * (1024 / n)) 0) c.logarithms.ensures c.two_to.ensures
     ∙ sym (log_of_less_is c.args.self.level c.args.d c.requires)

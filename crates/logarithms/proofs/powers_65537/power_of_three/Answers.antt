@@ -1,5 +1,4 @@
--- `logarithms::powers_65537::PowersOfThree::power` meets its contract: 3^e is the product of (3^32)^(e / 32) and 3^(e % 32), which are entries. Assumes
--- nothing.
+-- `logarithms::powers_65537::power_of_three` meets its contract: 3^e is the product of (3^32)^(e / 32) and 3^(e % 32), which are entries. Assumes nothing.
 use mathlib.Core.List.{List}
 use mathlib.Core.Path.{◌≡◌, sym, ap₂, ◌∙◌}
 use Prim.Native.Nat.{ℕ, ◌/◌, ◌%◌, ◌<◌}
@@ -11,7 +10,7 @@ use Rattle.field.specs.Power.{power}
 use Rattle.field.specs.Field.{powers_of, power_table}
 use Rattle.field.proofs.PowerTables.{powers_entry}
 use Rattle.logarithms.proofs.Logarithms.{powers_lt, power_digits}
-use Rattle.logarithms.proofs.powers_65537.PowersOfThree.power.Goals as goal
+use Rattle.logarithms.proofs.powers_65537.power_of_three.Goals as goal
 
 -- the powers that stand at the digits of the exponent
 product : {high low : List ℕ} (e : ℕ) → e < 65536 → high ≡ power_table → low ≡ powers_of 65537 3 32 → {r : ℕ}
@@ -21,11 +20,7 @@ product e small f g q =
     ∙ sym (power_digits 65537 3 32 e (lit< tt))
 
 pub mul-requires : goal.mul-requires
-mul-requires c =
-    let s = c.args.self.now in
-    (powers_lt 65537 _ 2048 _ (lit< tt) s.high.now.is_table, powers_lt 65537 _ 32 _ (lit< tt) s.are_first)
+mul-requires c = (powers_lt 65537 _ 2048 _ (lit< tt) c.powers-high.ensures, powers_lt 65537 _ 32 _ (lit< tt) c.threes-low.ensures)
 
 pub returns : goal.returns
-returns c =
-    let s = c.args.self.now in
-    product c.args.e c.requires s.high.now.is_table s.are_first c.mul.ensures
+returns c = product c.args.e c.requires c.powers-high.ensures c.threes-low.ensures c.mul.ensures
