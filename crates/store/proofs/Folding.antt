@@ -127,10 +127,3 @@ module _ {half₀ : List ℕ} {level width : ℕ} {v : ℕ → ℕ} {half : List
         from_is = omega (arith, room, h.from_is, double);
         now = ap (λ (r : List ℕ). take f half₀ ++ r) (y ∙ folded_more ev);
       })
-
-pub fold_done : {half₀ : List ℕ} {level width : ℕ} {v : ℕ → ℕ} {half : List ℕ} {from l : ℕ} → FoldLoop half₀ level width v half from l → level ≤ l
-    → half ≡ folded 65537 v width level half₀
-fold_done {half₀} {level} {width} {v} {half} {from} {l} h b =
-    let e : l ≡ level = omega (arith, h.turns) in
-    let z : from ≡ 0 = omega (arith, h.from_is, h.long, ap (λ (i : ℕ). 2 ^ i * width) e) in
-    h.now ∙ rw (z, e)

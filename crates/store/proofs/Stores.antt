@@ -6,7 +6,7 @@ use native.Mathlib.Nat.{zero-add}
 use native.Mathlib.Omega.{arith}
 use borrow.Rule.Slice.PartMut.{put_mid}
 use lib.ListN.{length, get_or, set, take, drop, length-drop, drop_of_length-le}
-use lib.Seq.{sets, sets-eq, length-take-le, get_or-take, get_or-drop}
+use lib.Seq.{sets, sets-eq, length-take-le}
 use Rattle.std.proofs.lemmas.List.{append_assoc, drop-drop}
 use Rattle.field.proofs.WordLists.{is_table}
 use Rattle.code.specs.steps.Storing.{stored}
@@ -27,10 +27,6 @@ unfolding reduced
 reduced_at p [] i h = absurd (omega arith)
 reduced_at p (x ∷ l) zero h = refl
 reduced_at p (x ∷ l) (suc i) h = reduced_at p l i (omega arith)
-
-pub copy_at : (p from n : ℕ) (l : List ℕ) → from + n ≤ length l → (i : ℕ) → i < n → get_or (reduced p (take n (drop from l))) i 0 ≡ get_or l (from + i) 0 % p
-copy_at p from n l h i b =
-    reduced_at p (take n (drop from l)) i (omega (arith, part_long p from n l h)) ∙ rw (get_or-take n (drop from l) i 0 b, get_or-drop)
 
 -- as many words stored as there is room for
 pub stored_all : (f : ℕ → ℕ) (ws l : List ℕ) → length l ≡ length ws → ((i : ℕ) → i < length ws → get_or ws i 0 ≡ f i) → stored 0 f (length ws) l ≡ ws

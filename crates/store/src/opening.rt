@@ -1,5 +1,5 @@
 // Opening: the full stripe built from raw records.
-ghost use Rattle.std.specs.Prelude.{◌≡◌, ◌∷◌, ◌+◌, ◌*◌, ◌^◌, ◌≤◌, ◌<◌, suc, length, IfOk};
+ghost use Rattle.std.specs.Prelude.{◌≡◌, ◌∷◌, ◌<◌, suc, length, IfOk};
 ghost use Rattle.field.specs.Field.{fermat};
 ghost use Rattle.layout.specs.Header.{header_of, raw_size, full_size};
 ghost use Rattle.layout.specs.Refusals.{answer_number};

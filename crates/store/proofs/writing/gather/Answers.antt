@@ -11,7 +11,7 @@ use Rattle.code.proofs.Shapes.{length_scaled}
 use Rattle.store.specs.Buffers.{reduced}
 use Rattle.store.specs.steps.Writing.{half_start, gathered}
 use Rattle.store.proofs.Stores.{put_over}
-use Rattle.store.proofs.Gathering.{GatherLoop, gather_turn, gather_done, gather_high, gather_room, rows_double}
+use Rattle.store.proofs.Gathering.{GatherLoop, gather_turn, gather_done, gather_high, gather_room, rows_double, half_end}
 use Rattle.store.proofs.writing.gather.Goals as goal
 
 -- the halves end at `end`, and what is left of them stands before it
@@ -63,6 +63,12 @@ module _ {width : ℕ} {log₀ : List ℕ} {level half : ℕ} {log : List ℕ} {
       rw eq (put_over (end - width) (end - (end - width)) log row (omega (arith, one, end_is, er, ew)) (omega (arith, inside)))
       ∙ ap (λ (i : ℕ). sets log (end - i) row) (sym one) ∙ gather_done h b row
       ∙ ap (λ (w : ℕ). sets log₀ (half_start w level half) (gathered 65537 w log₀ half row level)) ew
+
+pub overflow_add-end : goal.overflow_add-end
+overflow_add-end c =
+    let w = length c.args.block.words.now + 1 in
+    let n = ap (λ (m : ℕ). m * w) c.two_to.ensures in
+    omega (arith, half_end w c.args.level c.requires.level_bound.1, rw (← add-one (length c.args.block.words.now)) at c.requires.level_in_bounds, n)
 
 pub overflow_sub-end : goal.overflow_sub-end
 overflow_sub-end c = enough c.loop-l.invariant c.half_at.ensures c.two_to.ensures refl c.loop-l-test.true c.two_to-in-loop-l.ensures
