@@ -65,5 +65,9 @@ pub fn decode_and_lay<S: Source>(
         }
         from += range.cols;
     }
-    if fit { Ok(()) } else { Err(Refusal::NotRecords) }
+    if fit {
+        Ok(())
+    } else {
+        Err(Refusal::NotRecords)
+    }
 }

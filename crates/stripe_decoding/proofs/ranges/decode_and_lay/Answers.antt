@@ -3,15 +3,12 @@ use Rattle.std.proofs.Common.{◌≡◌, ◌*◌, ◌∙◌, refl, add-one, arit
 use Rattle.code.specs.Stripe.{block_count}
 use Rattle.layout.specs.declared.refusal.Refusal.{Refusal}
 use Rattle.layout.specs.Refusals.{number_of}
-use Rattle.layout.proofs.Refusals.{passed_on, some_number, some_refused}
+use Rattle.layout.proofs.Refusals.{passed_on, not_zero, some_refused}
 use Rattle.judging.proofs.ColumnRanges.{length_columns}
 use Rattle.stripe_decoding.proofs.RangeLoop.{blocks, first_words, same_length, ranging_start, range_stops, range_left, range_placed, range_taken}
 use Rattle.stripe_decoding.proofs.RangeLoop.{ranges_ten, ranges_zero, ranges_laid, ranges_left}
 use Rattle.stripe_decoding.proofs.ranges.decode_and_lay.Goals.{then-fit, else-fit}
 use Rattle.stripe_decoding.proofs.ranges.decode_and_lay.Goals as goal
-
-some_is : (x : Refusal) → number_of x ≡ 0 → ⊥
-some_is x z = absurd (omega (arith, some_number x))
 
 pub loop-from-init : goal.loop-from-init
 loop-from-init g c =
@@ -24,7 +21,7 @@ returns-in_err-decode_range-clause-value g c =
     let f = rw R.sized at c.range_at-range.ensures in
     passed_on _ c.from_residual.result c.from_residual.ensures.1
     ∙ range_stops c.args.content c.args.ready.vault.stripe c.args.ready.marks.now (g.S.Source.words c.args.source) R f c.in_err-decode_range.ensures.value c.args.ready.ready
-    (some_is c.in_err-decode_range.field-0.0)
+    (not_zero c.in_err-decode_range.field-0.0)
 
 pub returns-in_err-decode_range-clause-out_after : goal.returns-in_err-decode_range-clause-out_after
 returns-in_err-decode_range-clause-out_after g c z =
@@ -35,7 +32,7 @@ returns-in_err-decode_range-clause-level_after g c w =
     let R = c.loop-from.invariant in
     let f = rw R.sized at c.range_at-range.ensures in
     range_left c.args.content c.args.ready.vault.stripe c.args.ready.marks.now (g.S.Source.words c.args.source) R f c.in_err-decode_range.ensures.value c.args.ready.ready
-    (some_is c.in_err-decode_range.field-0.0) c.requires.out_len w
+    (not_zero c.in_err-decode_range.field-0.0) c.requires.out_len w
 
 pub lay_range-requires-clause-placed : goal.lay_range-requires-clause-placed
 lay_range-requires-clause-placed g c =
