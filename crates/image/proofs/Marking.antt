@@ -1,16 +1,18 @@
 -- The marks of a stripe's positions: which positions an erasure touches, and the loops that mark them. Assumes nothing.
 use mathlib.Core.Path.{◌≡◌, refl, sym, ap, ◌∙◌}
 use mathlib.Core.Bool.{Bool, true, false, ◌&&◌, ◌||◌, and-false, or-true, or-false, or_assoc}
-use mathlib.Core.List.{List, [], ◌∷◌}
-use Prim.Native.Nat.{ℕ, zero, suc, ◌+◌, ◌*◌, ◌-◌, ◌/◌, ◌^◌, ◌≤◌, ◌<◌, max}
+use mathlib.Core.List.{List, [], ◌∷◌, ◌++◌}
+use Prim.Native.Nat.{ℕ, zero, suc, ◌+◌, ◌*◌, ◌-◌, ◌/◌, ◌^◌, ◌≤◌, ◌<◌}
 use native.Mathlib.Nat.{le-div_iff_mul-le, div-lt_iff_lt-mul, mul-le-mul_right, suc-mul}
 use native.Mathlib.Decide.{dec_lt}
 use native.Mathlib.Numerals.{add-one}
 use native.Mathlib.Omega.{arith}
 use lib.Dec.{ltb, leb}
 use borrow.Author.Tests.{lt-ltb, le-ltb, le-leb, lt-leb}
-use lib.ListN.{length, get_or, set, replicate, length-set, length-replicate}
-use lib.Seq.{get_or-set_same, get_or-set_other, ext_get_or}
+use borrow.Rule.Slice.PartMut.{put_mid}
+use Rattle.std.proofs.lemmas.List.{get_or-append_right}
+use lib.ListN.{length, get_or, take, drop, replicate, length-replicate, get_or-replicate, length-append, get_or-append, length-drop}
+use lib.Seq.{ext_get_or, length-take-le, get_or-take, get_or-drop}
 use Rattle.layout.specs.declared.Header.{Header}
 use Rattle.layout.specs.Header.{width, stripe_at}
 use Rattle.image.specs.Image.{number_at}
@@ -47,49 +49,46 @@ marked_same {f} {g} {a} {b} e m = record { same = m.same; each = λ i. m.each i 
 pub marked_none : {f : ℕ → Bool} (a : List Bool) → ((i : ℕ) → f i ≡ false) → Marked f a a
 marked_none a e = record { same = refl; each = λ i. rw (e i) (sym (or-false (get_or a i false))) }
 
--- THE LOOP that marks positions
-pub record BetweenLoop (low high : ℕ) (entry marks : List Bool) (i : ℕ) : Type 0 where
-  pub from : low ≤ i
-  pub upto : i ≤ max low high
-  pub marked : Marked (is_between low i) entry marks
+-- THE MARKS from low up to high written over: those before and behind stay
+module _ {low high : ℕ} (marks : List Bool) {x : List Bool} (h : low ≤ high) (fit : high ≤ length marks)
+    (e : x ≡ replicate (length (take (high - low) (drop low marks))) true) where
+  long : length x ≡ high - low
+  long = ap length e ∙ length-replicate (length (take (high - low) (drop low marks))) true
+      ∙ length-take-le (high - low) (drop low marks) (omega (arith, length-drop low marks))
 
-pub between_start : (low high : ℕ) (entry : List Bool) → BetweenLoop low high entry entry low
-between_start low high entry =
-    record {
-      from = omega arith;
-      upto = omega arith;
-      marked = marked_none entry
-          (λ i. is_between_lem low low i false (λ a b. absurd (omega arith)) (λ a. refl) (λ a. refl));
-    }
+  front : length (take low marks) ≡ low
+  front = length-take-le low marks (omega arith)
 
-pub between_turn : {low high : ℕ} {entry marks : List Bool} {i : ℕ} → BetweenLoop low high entry marks i → i < high → high ≤ length entry
-    → BetweenLoop low high entry (set marks i true) (i + 1)
-between_turn {low} {high} {entry} {marks} {i} r h fit =
-    record {
-      from = omega arith;
-      upto = omega arith;
-      marked = record { same = length-set marks i true ∙ r.marked.same; each = λ k. at k (dec_lt k i) (dec_lt i k) };
-    }
-  where
-    kept : (k : ℕ) → (k ≡ i → ⊥) → get_or (set marks i true) k false ≡ (get_or entry k false || is_between low (i + 1) k)
-    kept k ne =
-        get_or-set_other marks i k true false ne ∙ r.marked.each k
-        ∙ ap (λ (t : Bool). get_or entry k false || t)
-        (is_between_lem low i k (is_between low (i + 1) k) (λ a b. between_in low (i + 1) k a (omega arith)) (λ a. between_low low (i + 1) k a)
-        (λ a. between_high low (i + 1) k (omega arith)))
+  behind : (i : ℕ) → low ≤ i → get_or (put_mid low (high - low) marks x) i false ≡ get_or (x ++ drop (high - low) (drop low marks)) (i - low) false
+  behind i b = get_or-append_right (take low marks) (x ++ drop (high - low) (drop low marks)) low i false front b
 
-    at : (k : ℕ) → Dec (k < i) → Dec (i < k) → get_or (set marks i true) k false ≡ (get_or entry k false || is_between low (i + 1) k)
-    at k (yes a) b = kept k (λ e. omega arith)
-    at k (no a) (yes b) = kept k (λ e. omega arith)
-    at k (no a) (no b) =
-        let e : k ≡ i = omega arith in
-        rw (e, get_or-set_same marks i true false (omega (arith, r.marked.same)), between_in low (i + 1) i r.from (omega arith))
-        (sym (or-true (get_or entry i false)))
+  written : (i : ℕ) → get_or (put_mid low (high - low) marks x) i false ≡ (get_or marks i false || is_between low high i)
+  written i = at (dec_lt i low) (dec_lt i high)
+    where
+      at : Dec (i < low) → Dec (i < high) → get_or (put_mid low (high - low) marks x) i false ≡ (get_or marks i false || is_between low high i)
+      at (yes a) b =
+          get_or-append (take low marks) (x ++ drop (high - low) (drop low marks)) false i (omega (arith, front)) ∙ get_or-take low marks i false a
+          ∙ rw (between_low low high i a) (sym (or-false (get_or marks i false)))
+      at (no a) (yes b) =
+          let n = length (take (high - low) (drop low marks)) in
+          behind i (omega arith) ∙ get_or-append x (drop (high - low) (drop low marks)) false (i - low) (omega (arith, long))
+          ∙ ap (λ (y : List Bool). get_or y (i - low) false) e
+          ∙ get_or-replicate n (i - low) true false (omega (arith, long, ap length e, length-replicate n true))
+          ∙ rw (between_in low high i (omega arith) b) (sym (or-true (get_or marks i false)))
+      at (no a) (no b) =
+          behind i (omega arith) ∙ get_or-append_right x (drop (high - low) (drop low marks)) (high - low) (i - low) false long (omega arith)
+          ∙ get_or-drop (high - low) (drop low marks) (i - low - (high - low)) false
+          ∙ get_or-drop low marks (high - low + (i - low - (high - low))) false
+          ∙ ap (λ (k : ℕ). get_or marks k false) {x = low + (high - low + (i - low - (high - low)))} {y = i} (omega arith)
+          ∙ rw (between_high low high i (omega arith)) (sym (or-false (get_or marks i false)))
 
-pub between_end : {low high : ℕ} {entry marks : List Bool} {i : ℕ} → BetweenLoop low high entry marks i → high ≤ i → Marked (is_between low high) entry marks
-between_end {low} {high} {entry} {marks} {i} r h =
-    marked_same (λ k. is_between_lem low i k (is_between low high k) (λ a b. between_in low high k a (omega (arith, r.upto))) (λ a. between_low low high k a)
-    (λ a. between_high low high k (omega arith))) r.marked
+  pub fill_marked : Marked (is_between low high) marks (put_mid low (high - low) marks x)
+  fill_marked = record {
+    same =
+        length-append (take low marks) (x ++ drop (high - low) (drop low marks))
+        ∙ omega (arith, front, long, length-append x (drop (high - low) (drop low marks)), length-drop (high - low) (drop low marks), length-drop low marks);
+    each = written;
+  }
 
 -- THE POSITIONS THAT ONE ERASURE TOUCHES
 touched_cons : (a b : ℕ) (g : Erasure) (gs : List Erasure) → touched a b (g ∷ gs) ≡ (touched a b (g ∷ []) || touched a b gs)
@@ -188,6 +187,16 @@ module _ (base step : ℕ) (pos : 0 < step) where
 
   pub erased_behind : (n o s : ℕ) (marks : List Bool) → base + n * step ≤ o → Marked (mark_for base step n (erasure o s ∷ [])) marks marks
   erased_behind n o s marks h = marked_none marks (λ i. mark_before base step n o s i (λ b. omega (arith, position_end b)))
+
+-- the first position that is touched is not behind the last one
+pub lowest_below : {base step n o end low high : ℕ} → 0 < step → Lowest base step o low → Highest base step n end high → o ≤ end → o < base + n * step
+    → low ≤ high
+lowest_below {base} {step} {n} {o} {end} {low} {high} z l h b c = by (dec_lt high low) (dec_lt high n)
+  where
+    by : Dec (high < low) → Dec (high < n) → low ≤ high
+    by (no x) y = omega arith
+    by (yes x) (yes y) = absurd (omega (arith, l.before high x, h.behind high (omega arith) y))
+    by (yes x) (no y) = let e : high ≡ n = omega (arith, h.within) in absurd (omega (arith, rw e at (l.before high x)))
 
 -- FLAGS
 flag_at_lem : (i n : ℕ) (f : ℕ → Bool) (k : ℕ) → k < n → get_or (flags_from i n f) k false ≡ f (i + k)

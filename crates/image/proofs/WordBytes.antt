@@ -1,10 +1,11 @@
 -- Laws of the bytes of words, and of stores of one list after the other. Assumes nothing.
 use mathlib.Core.Path.{◌≡◌, refl, sym, ap, ◌∙◌}
 use mathlib.Core.List.{List, [], ◌∷◌, ◌++◌, append_assoc}
-use Prim.Native.Nat.{ℕ, zero, suc, ◌+◌, ◌*◌, ◌/◌}
+use Prim.Native.Nat.{ℕ, zero, suc, ◌+◌, ◌*◌, ◌/◌, ◌%◌, ◌≤◌}
 use native.Mathlib.Omega.{arith}
-use lib.ListN.{length, length-append}
-use lib.Seq.{sets}
+use borrow.Rule.Slice.PartMut.{put_mid}
+use lib.ListN.{length, take, drop, length-append}
+use lib.Seq.{sets, sets-eq, drop-drop}
 use Rattle.field.proofs.WordLists.{sets_append, sets_all}
 use Rattle.image.specs.Image.{little, bytes_of, image_of}
 
@@ -30,3 +31,16 @@ image_stored m f g e =
     ∙ sym (sets_append m 0 (bytes_of f) (bytes_of g))
     ∙ sets_all m (bytes_of f ++ bytes_of g) (e ∙ sym (length-append (bytes_of f) (bytes_of g) ∙ omega (arith, length_bytes f, length_bytes g)))
     ∙ sym (bytes_append f g)
+
+-- the four bytes of a word as the library has them
+pub four_bytes : (x : ℕ) → x % 256 ∷ x / 256 % 256 ∷ x / 65536 % 256 ∷ x / 16777216 % 256 ∷ [] ≡ little 4 x
+unfolding little
+four_bytes x =
+    ap (λ (y : ℕ). x % 256 ∷ x / 256 % 256 ∷ y % 256 ∷ x / 16777216 % 256 ∷ []) {x = x / 65536} {y = x / 256 / 256} (omega arith)
+    ∙ ap (λ (y : ℕ). x % 256 ∷ x / 256 % 256 ∷ x / 256 / 256 % 256 ∷ y % 256 ∷ []) {x = x / 16777216} {y = x / 256 / 256 / 256} (omega arith)
+
+-- a part of a list that is written over
+pub part_over : {k : ℕ} (a : ℕ) (l ws : List ℕ) → k ≡ length ws → a + length ws ≤ length l → put_mid a k l ws ≡ sets l a ws
+part_over {k} a l ws e b =
+    ap (λ (m : ℕ). put_mid a m l ws) e ∙ ap (λ (y : List ℕ). take a l ++ (ws ++ y)) (drop-drop (length ws) a l)
+    ∙ sym (append_assoc (take a l) ws (drop (a + length ws) l)) ∙ sym (sets-eq ws l a b)

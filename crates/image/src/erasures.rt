@@ -1,13 +1,33 @@
 // Erasure lists (docs/FORMAT.md, section 6), the marks of a stripe's positions, and the tests of the calls that are lent an image.
-ghost use Rattle.std.specs.Prelude.{◌≡◌, false, ◌&&◌, true, [], ◌∷◌, ◌+◌, ◌*◌, ◌%◌, ◌≤◌, ◌<◌, ◌-◌, suc, eqb, length, replicate, IfOk};
+ghost use Rattle.std.specs.Prelude.{◌≡◌, false, ◌&&◌, true, [], ◌∷◌, ◌+◌, ◌*◌, ◌/◌, ◌%◌, ◌≤◌, ◌<◌, ◌-◌, suc, eqb, length, replicate, IfOk};
+ghost use Rattle.image.specs.Image.{number_at};
 ghost use Rattle.image.specs.Erasures.{erasures_in, erasures_rise, marks_of};
 ghost use Rattle.image.specs.ImageTests.{image_tests};
-ghost use Rattle.image.specs.steps.Marking.{Marked, is_between, erasure, mark_for, marks_for};
+ghost use Rattle.image.specs.steps.Marking.{Marked, erasure, mark_for, marks_for};
 ghost use Rattle.layout.specs.Header.{record_count, scratch_size};
 ghost use Rattle.layout.specs.Refusals.{done, refusal, answer_number};
 
 use crate::Reading;
 use layout::{Header, Refusal, ValidHeader};
+
+// An erasure: so many bytes of an image, from an offset on.
+#[derive(Clone, Copy)]
+struct Erasure {
+    offset: u32,
+    size: u32,
+}
+
+// Pair i of an erasure list.
+fn erasure_at(erasures: &[u8], i: usize) -> Erasure
+    requires { i < length erasures.now / 8 }
+    ensures { (result.offset ≡ number_at erasures.now (8 * i)) × (result.size ≡ number_at erasures.now (8 * i + 4)) }
+{
+    let at = 8 * i;
+    Erasure {
+        offset: crate::bytes::number_at(erasures, at),
+        size: crate::bytes::number_at(erasures, at + 4),
+    }
+}
 
 // Test 3: whether an erasure list is whole, sorted, and ends inside an image of `size` bytes.
 fn erasures_fit(erasures: &[u8], size: usize) -> bool
@@ -17,60 +37,29 @@ fn erasures_fit(erasures: &[u8], size: usize) -> bool
     if erasures.len() % 8 != 0 {
         return false;
     }
-    let count = erasures.len() / 8;
     let mut least: usize = 0;
-    let mut i = 0;
-    while i < count {
-        let at = 8 * i;
-        let offset = crate::bytes::number_at(erasures, at) as usize;
-        let end = offset + crate::bytes::number_at(erasures, at + 4) as usize;
-        if offset < least {
-            return false;
-        }
-        if end <= offset {
-            return false;
-        }
-        if size < end {
+    for i in 0..erasures.len() / 8 {
+        let lost = erasure_at(erasures, i);
+        let offset = lost.offset as usize;
+        let end = offset + lost.size as usize;
+        if offset < least || end <= offset || size < end {
             return false;
         }
         least = end + 1;
-        i += 1;
     }
     true
 }
 
-// Marks the positions from `low` up to `high`.
-fn mark_between(marks: &mut [bool], low: usize, high: usize)
-    requires { high ≤ length marks.old }
-    ensures { Marked (is_between low high) marks.old marks.new }
-{
-    let mut i = low;
-    while i < high {
-        marks[i] = true;
-        i += 1;
-    }
-}
-
-// Marks the positions that the bytes from `offset` up to `offset + size` touch.
-fn mark_touched(
-    marks: &mut [bool],
-    offset: usize,
-    size: usize,
-    base: usize,
-    step: usize,
-    positions: usize,
-)
+// Marks the positions that the bytes of an erasure touch.
+fn mark_touched(marks: &mut [bool], lost: Erasure, base: usize, step: usize, positions: usize)
     requires positions_in_bounds { positions ≤ length marks.old }
-    requires size_bound { offset + size < 18446744073709551616 }
     requires step_nonzero { (0 < step) × (base + positions * step < 4294967296) }
-    ensures { Marked (mark_for base step positions (erasure offset size ∷ [])) marks.old marks.new }
+    ensures { Marked (mark_for base step positions (erasure lost.offset lost.size ∷ [])) marks.old marks.new }
 {
+    let offset = lost.offset as usize;
+    let end = offset + lost.size as usize;
     let last = base + positions * step;
-    let end = offset + size;
-    if end <= base {
-        return;
-    }
-    if last <= offset {
+    if end <= base || last <= offset {
         return;
     }
     let low = if offset < base {
@@ -83,7 +72,7 @@ fn mark_touched(
     } else {
         positions
     };
-    mark_between(marks, low, high);
+    marks[low..high].fill(true);
 }
 
 // Marks the positions of a stripe that an erasure touches: position i is the `step` bytes from `base + i * step` on.
@@ -92,14 +81,8 @@ fn mark(marks: &mut [bool], erasures: &[u8], base: usize, step: usize, positions
     requires step_nonzero { (0 < step) × (base + positions * step < 4294967296) }
     ensures { marks.new ≡ marks_for base step positions (erasures_in erasures.now) }
 {
-    let count = erasures.len() / 8;
-    let mut i = 0;
-    while i < count {
-        let at = 8 * i;
-        let offset = crate::bytes::number_at(erasures, at) as usize;
-        let size = crate::bytes::number_at(erasures, at + 4) as usize;
-        mark_touched(marks, offset, size, base, step, positions);
-        i += 1;
+    for i in 0..erasures.len() / 8 {
+        mark_touched(marks, erasure_at(erasures, i), base, step, positions);
     }
 }
 
@@ -125,7 +108,11 @@ pub fn check<'a>(
     if !erasures_fit(erasures, size) {
         return Err(Refusal::ErasureList);
     }
-    Ok(Reading { header, image, erasures })
+    Ok(Reading {
+        header,
+        image,
+        erasures,
+    })
 }
 
 impl<'a> Reading<'a> {

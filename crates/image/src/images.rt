@@ -12,10 +12,8 @@ fn put_words(bytes: &mut [u8], at: usize, words: &[u32])
     requires { at + 4 * length words.now ≤ length bytes.old }
     ensures { bytes.new ≡ sets bytes.old at (bytes_of words.now) }
 {
-    let mut to = at;
-    for i in 0..words.len() {
-        crate::bytes::put_word(bytes, to, words[i]);
-        to += 4;
+    for (i, word) in words.iter().enumerate() {
+        crate::bytes::put_word(bytes, at + 4 * i, *word);
     }
 }
 
@@ -25,7 +23,10 @@ pub fn image(header: Header, full: &[u32], log: &[u32], image: &mut [u8]) -> Res
     ensures image_after { image.new ≡ image_leaves header full.now log.now image.old }
 {
     let header = ValidHeader::try_from(header)?;
-    if full.len() != header.full_size() || log.len() != header.log_size() || image.len() != header.image_size() {
+    if full.len() != header.full_size()
+        || log.len() != header.log_size()
+        || image.len() != header.image_size()
+    {
         return Err(Refusal::Length);
     }
     put_words(image, 0, full);

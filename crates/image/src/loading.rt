@@ -29,14 +29,12 @@ fn row_in_field<S: Source>(source: S, at: usize, st: Stripe) -> bool
     requires size { S.count source < 18446744073709551616 }
     ensures { result ≡ are_below (modulus_of st) (table st.width (word_from (S.words source) at)) }
 {
-    let width = st.width;
+    // No early end: a loop that has none takes four words at a time.
     let mut fine = true;
-    let mut j = 0;
-    while j < width {
+    for j in 0..st.width {
         if field::MODULUS <= source.word(at + j) {
             fine = false;
         }
-        j += 1;
     }
     fine
 }
@@ -48,22 +46,8 @@ fn load_row<S: Source>(part: &mut [u32], to: usize, source: S, at: usize, cols: 
     requires size { S.count source < 18446744073709551616 }
     ensures { part.new ≡ stored to (word_from (S.words source) at) cols part.old }
 {
-    let mut j = 0;
-    while j < cols {
+    for j in 0..cols {
         part[to + j] = source.word(at + j);
-        j += 1;
-    }
-}
-
-// Stores `cols` zeros from the index `to` on.
-fn clear_row(part: &mut [u32], to: usize, cols: usize)
-    requires { to + cols ≤ length part.old }
-    ensures { part.new ≡ stored to (λ j. 0) cols part.old }
-{
-    let mut j = 0;
-    while j < cols {
-        part[to + j] = 0;
-        j += 1;
     }
 }
 
@@ -93,19 +77,17 @@ pub fn load<S: Source>(
     let from = range.from;
     let cols = range.cols;
     let mut fine = true;
-    let mut i = 0;
-    while i < rows {
+    for i in 0..rows {
         let to = i * cols;
         let at = i * width;
         if marks[i] {
-            clear_row(part, to, cols);
+            part[to..to + cols].fill(0);
         } else {
             load_row(part, to, source, at + from, cols);
             if from == 0 {
                 fine = fine & row_in_field(source, at, st);
             }
         }
-        i += 1;
     }
     fine
 }

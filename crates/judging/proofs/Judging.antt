@@ -59,24 +59,23 @@ module _ (fs gs : List Bool) where
   hold_same (suc n) e = ap₂ ◌&&◌ (e n (omega arith)) (hold_same n (λ j b. e j (omega arith)))
 
 -- THE LOOP that judges the words of blocks, after j of them
-pub record JudgeLoop (st : Stripe) (from cols : ℕ) (words : List ℕ) (before fits : List Bool) (all : Bool) (at j : ℕ) : Type 0 where
-  pub stands : at ≡ j * cols
+pub record JudgeLoop (st : Stripe) (from cols : ℕ) (words : List ℕ) (before fits : List Bool) (all : Bool) (j : ℕ) : Type 0 where
   pub same : length fits ≡ length before
   pub done : (i : ℕ) → i < j → get_or fits i false ≡ (get_or before i false && row_fits st from (take cols (drop (i * cols) words)) i)
   pub left : (i : ℕ) → j ≤ i → get_or fits i false ≡ get_or before i false
   pub held : all ≡ all_hold fits j
 
-pub judge_start : (st : Stripe) (from cols : ℕ) (words : List ℕ) (before : List Bool) → JudgeLoop st from cols words before before true 0 0
+pub judge_start : (st : Stripe) (from cols : ℕ) (words : List ℕ) (before : List Bool) → JudgeLoop st from cols words before before true 0
 unfolding all_hold
 judge_start st from cols words before =
-    record { stands = sym (zero-mul cols); same = refl; done = λ i b. absurd (omega arith); left = λ i b. refl; held = refl }
+    record { same = refl; done = λ i b. absurd (omega arith); left = λ i b. refl; held = refl }
 
-module _ {st : Stripe} {from cols : ℕ} {words : List ℕ} {before fits : List Bool} {all : Bool} {at j : ℕ}
-    (J : JudgeLoop st from cols words before fits all at j) where
-  pub judge_reads : {n b m : ℕ} → j < n → n ≡ b → b * cols ≤ m → at + cols ≤ m
-  judge_reads h e u = let x = rw e at (row_in cols h) in omega (arith, J.stands)
+module _ {st : Stripe} {from cols : ℕ} {words : List ℕ} {before fits : List Bool} {all : Bool} {j : ℕ}
+    (J : JudgeLoop st from cols words before fits all j) where
+  pub judge_reads : {n b m : ℕ} → j < n → n ≡ b → b * cols ≤ m → j * cols + cols ≤ m
+  judge_reads h e u = let x = rw e at (row_in cols h) in omega arith
 
-  module _ {r : Bool} (b : j < length before) (f : r ≡ row_fits st from (take (at + cols - at) (drop at words)) j) where
+  module _ {r : Bool} (b : j < length before) (f : r ≡ row_fits st from (take (j * cols + cols - j * cols) (drop (j * cols) words)) j) where
     abbrev fine : Bool
     fine = get_or fits j false && r
 
@@ -92,7 +91,7 @@ module _ {st : Stripe} {from cols : ℕ} {words : List ℕ} {before fits : List 
     word : fine ≡ (get_or before j false && row_fits st from (take cols (drop (j * cols) words)) j)
     word =
         ap₂ ◌&&◌ (J.left j (omega arith))
-        (f ∙ ap₂ (λ (m o : ℕ). row_fits st from (take m (drop o words)) j) {x = at + cols - at} {y = cols} (omega arith) J.stands)
+        (f ∙ ap (λ (m : ℕ). row_fits st from (take m (drop (j * cols) words)) j) {x = j * cols + cols - j * cols} {y = cols} (omega arith))
 
     passed : (i : ℕ) → i < j + 1 → get_or marks i false ≡ (get_or before i false && row_fits st from (take cols (drop (i * cols) words)) i)
     passed i h = by (dec_lt i j)
@@ -105,9 +104,8 @@ module _ {st : Stripe} {from cols : ℕ} {words : List ℕ} {before fits : List 
     unfolding all_hold
     all_held = and_comm all fine ∙ ap₂ ◌&&◌ (sym mine) (J.held ∙ hold_same fits marks j (λ i h. sym (other i (λ e. omega arith))))
 
-    pub judge_turn : JudgeLoop st from cols words before marks (all && fine) (at + cols) (j + 1)
+    pub judge_turn : JudgeLoop st from cols words before marks (all && fine) (j + 1)
     judge_turn = record {
-      stands = ap (λ (x : ℕ). x + cols) J.stands ∙ sym (row_next j cols);
       same = length-set fits j fine ∙ J.same;
       done = passed;
       left = λ i h. other i (λ e. omega arith) ∙ J.left i (omega arith);

@@ -1,4 +1,4 @@
--- The tests of one stripe: 7 before it is loaded, 9 and 10 after it is decoded. Assumes nothing.
+-- The tests of one stripe after it is decoded, 9 and 10; and that the stripes of a header are those of a vault. Assumes nothing.
 use mathlib.Core.Path.{◌≡◌, refl, sym}
 use mathlib.Core.Bool.{Bool, true, false, not}
 use mathlib.Core.List.{List}
@@ -17,18 +17,6 @@ use Rattle.layout.proofs.StripePlaces.{stripe_numbers}
 use Rattle.judging.specs.Decoding.{failed, decoded, are_records, from_test9}
 use Rattle.judging.specs.steps.Ready.{Ready}
 use Rattle.judging.specs.StripeFits.{StripeFits}
-
--- ENOUGH SURVIVES, by test 7
-module _ (st : Stripe) (ms : List Bool) where
-  abbrev few : Bool
-  few = ltb (length (survivors st.level ms)) (block_count st)
-
-  enough_when : (b : Bool) → not b ≡ true → b ≡ false
-  enough_when true e = sym e
-  enough_when false e = refl
-
-  pub ready : StripeFits st → position_count st ≤ length ms → not few ≡ true → Ready st ms
-  ready f n e = record { fits = f; long = n; enough = ltb-false (length (survivors st.level ms)) (block_count st) (enough_when few e) }
 
 -- WHAT A STRIPE DECODES TO where its surviving words are of the field
 module _ (st : Stripe) (ms : List Bool) (r : List ℕ) where

@@ -3,3 +3,6 @@
 
 pub mod counting;
 pub mod records;
+pub mod stripes;
+
+pub use stripes::{ReadyStripe, VaultStripe};

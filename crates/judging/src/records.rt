@@ -1,19 +1,16 @@
 // Test 10, range by range of columns: a mark for each block says whether its words so far may be those of a record.
 ghost use Rattle.std.specs.Prelude.{◌≡◌, true, false, ◌+◌, ◌*◌, ◌^◌, ◌≤◌, ◌<◌, eqb, ltb, length};
 ghost use Rattle.code.specs.Stripe.{block_count};
-ghost use Rattle.judging.specs.StripeFits.{StripeFits};
 ghost use Rattle.judging.specs.steps.Judging.{row_fits, Judged, all_hold};
 
+use crate::VaultStripe;
 use code::{Range, Stripe};
 
 // Whether a number is one that block j may have: its place on the full stripe, and below n on a level.
 fn number_fits(full: bool, n: usize, j: usize, number: usize) -> bool
     ensures { result ≡ elim full [ true ↦ eqb number j | false ↦ ltb number n ] }
 {
-    if full {
-        return number == j;
-    }
-    number < n
+    if full { number == j } else { number < n }
 }
 
 // Whether these may be the words of block j in the columns from `from` on.
@@ -25,34 +22,28 @@ fn row_fits(st: Stripe, n: usize, from: usize, row: &[u32], j: usize) -> bool
     if 0 < from {
         return layout::words::all_data(row);
     }
-    if number_fits(st.level == st.k, n, j, row[0] as usize) {
-        return layout::words::all_data(&row[1..]);
-    }
-    false
+    number_fits(st.level == st.k, n, j, row[0] as usize) && layout::words::all_data(&row[1..])
 }
 
 // Judges the words of a range of columns, which stand in rows: whether those of all blocks so far may be those of records.
-pub fn judge(words: &[u32], st: Stripe, range: Range, fits: &mut [bool]) -> bool
-    requires stripe_fits { StripeFits st }
+pub fn judge(words: &[u32], vault: VaultStripe, range: Range, fits: &mut [bool]) -> bool
     requires some { 0 < range.cols }
-    requires words_len { block_count st * range.cols ≤ length words.now }
-    requires fits_len { block_count st ≤ length fits.old }
-    ensures fits_after { Judged st range.from range.cols words.now fits.old fits.new }
-    ensures value { result ≡ all_hold fits.new (block_count st) }
+    requires words_len { block_count vault.stripe * range.cols ≤ length words.now }
+    requires fits_len { block_count vault.stripe ≤ length fits.old }
+    ensures fits_after { Judged vault.stripe range.from range.cols words.now fits.old fits.new }
+    ensures value { result ≡ all_hold fits.new (block_count vault.stripe) }
 {
     // locals of their own, since the loop's invariant speaks of them
-    let from = range.from;
+    let st = vault.stripe;
     let cols = range.cols;
     let n = code::number::two_to(st.k);
     let rows = code::number::two_to(st.level);
     let mut all = true;
-    let mut at = 0;
     for j in 0..rows {
-        let next = at + cols;
-        let fine = fits[j] & row_fits(st, n, from, &words[at..next], j);
+        let at = j * cols;
+        let fine = fits[j] & row_fits(st, n, range.from, &words[at..at + cols], j);
         fits[j] = fine;
         all = all & fine;
-        at = next;
     }
     all
 }

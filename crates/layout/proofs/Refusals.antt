@@ -97,6 +97,9 @@ some_number Inconsistent = omega arith
 some_number NotRecords = omega arith
 some_number Blank = omega arith
 
+pub not_zero : (x : Refusal) → number_of x ≡ 0 → ⊥
+not_zero x z = absurd (omega (arith, some_number x))
+
 pub some_refused : {A : Type 0} (x : Refusal) (r : Result A Refusal) → IsErrAnd r (λ y. y ≡ x) → 0 < answer_number r
 some_refused x r i = omega (arith, some_number x, passed_on x r i)
 
@@ -107,7 +110,7 @@ ok_number (Err x) e = absurd (false≢true e)
 
 pub err_number : {A : Type 0} (r : Result A Refusal) → is_ok r ≡ false → answer_number r ≡ 0 → ⊥
 err_number (Ok x) e z = absurd (false≢true (sym e))
-err_number (Err x) e z = absurd (omega (arith, some_number x))
+err_number (Err x) e z = not_zero x z
 
 -- what test 1 refuses has number 1
 pub header_passed_on : {A : Type 0} (h : Header) (x : Refusal) (r : Result A Refusal) (rest : Tests) → IsErrAnd r (λ y. y ≡ x)

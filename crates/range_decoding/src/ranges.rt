@@ -6,12 +6,11 @@ ghost use Rattle.decoder.specs.steps.Decoder.{Factors};
 ghost use Rattle.image.specs.Loading.{are_below, rows_in};
 ghost use Rattle.image.specs.steps.Loading.{columns_of};
 ghost use Rattle.layout.specs.Refusals.{answer_number};
-ghost use Rattle.judging.specs.StripeFits.{StripeFits};
-ghost use Rattle.judging.specs.steps.Ready.{Ready};
 ghost use Rattle.range_decoding.specs.steps.Ranges.{RangeFits, is_consistent_range, range_number};
 
 use code::{Range, Stripe, ValidStripe};
 use image::source::Source;
+use judging::{ReadyStripe, VaultStripe};
 use layout::Refusal;
 
 // So many columns of n that the loops over words, which take four at a time, leave none over: which number is open, but that it is 0 only where n is.
@@ -23,12 +22,12 @@ fn in_fours(n: usize) -> usize
 }
 
 // The range of columns from `from` on that is decoded at once: all that are left, or as many as the room is for, in fours.
-pub fn range_at(st: Stripe, from: usize, room: usize) -> Range
-    requires stripe_fits { StripeFits st }
-    requires left { from < st.width }
-    requires room { position_count st ≤ room }
-    ensures { RangeFits st from room result }
+pub fn range_at(vault: VaultStripe, from: usize, room: usize) -> Range
+    requires left { from < vault.stripe.width }
+    requires room { position_count vault.stripe ≤ room }
+    ensures { RangeFits vault.stripe from room result }
 {
+    let st = vault.stripe;
     let left = st.width - from;
     let most = room / code::number::two_to(st.level + 1);
     Range {
@@ -40,28 +39,30 @@ pub fn range_at(st: Stripe, from: usize, room: usize) -> Range
 // Decodes a range of columns in a part that has room for exactly these: 8 if a surviving word of any column is not of the field, 9 if no blocks have the
 // surviving words of the range. Taken, the part holds the blocks' columns and zeros after them, after 9 zeros; after 8 it is open.
 pub fn decode_range<S: Source>(
-    st: Stripe,
+    ready: ReadyStripe,
     source: S,
-    marks: &[bool],
     factors: &[u32],
     range: Range,
     part: &mut [u32],
 ) -> Result<(), Refusal>
-    requires ready { Ready st marks.now }
-    requires source_len { S.count source ≡ stripe_words st }
-    requires factors_are { Factors st marks.now factors.now }
-    requires inside { range.from + range.cols ≤ st.width }
-    requires all_in_field { 0 < range.from → are_below (modulus_of st) (rows_in st marks.now (S.words source)) ≡ true }
-    requires part_len { length part.old ≡ position_count st * range.cols }
+    requires source_len { S.count source ≡ stripe_words ready.vault.stripe }
+    requires factors_are { Factors ready.vault.stripe ready.marks.now factors.now }
+    requires inside { range.from + range.cols ≤ ready.vault.stripe.width }
+    requires all_in_field { 0 < range.from →
+        are_below (modulus_of ready.vault.stripe) (rows_in ready.vault.stripe ready.marks.now (S.words source)) ≡ true }
+    requires part_len { length part.old ≡ position_count ready.vault.stripe * range.cols }
     ensures value { answer_number result ≡
-        range_number (are_below (modulus_of st) (rows_in st marks.now (S.words source)))
-        (is_consistent_range st marks.now (rows_in st marks.now (S.words source)) range) }
+        range_number (are_below (modulus_of ready.entry.vault.stripe) (rows_in ready.entry.vault.stripe ready.entry.marks.now (S.words source)))
+        (is_consistent_range ready.entry.vault.stripe ready.entry.marks.now (rows_in ready.entry.vault.stripe ready.entry.marks.now (S.words source)) range) }
     ensures part_after { answer_number result ≡ 0 →
         part.new ≡
-        columns_of st.width range.from range.cols (block_count st) (blocks_in st marks.now (rows_in st marks.now (S.words source))) ++
-        replicate (block_count st * range.cols) 0 }
-    ensures part_after_9 { answer_number result ≡ 9 → part.new ≡ replicate (position_count st * range.cols) 0 }
+        columns_of ready.entry.vault.stripe.width range.from range.cols (block_count ready.entry.vault.stripe)
+        (blocks_in ready.entry.vault.stripe ready.entry.marks.now (rows_in ready.entry.vault.stripe ready.entry.marks.now (S.words source))) ++
+        replicate (block_count ready.entry.vault.stripe * range.cols) 0 }
+    ensures part_after_9 { answer_number result ≡ 9 → part.new ≡ replicate (position_count ready.entry.vault.stripe * range.cols) 0 }
 {
+    let st = ready.vault.stripe;
+    let marks = ready.marks;
     if !image::loading::load(part, source, marks, st, range) {
         return Err(Refusal::OutOfField);
     }

@@ -20,30 +20,28 @@ row_put s i from bs r b =
     (λ k c. get_or-take s (drop from bs) k 0 c ∙ get_or-drop from bs k 0)
 
 -- THE LOOP after j blocks of s data words
-pub record Laying (s : ℕ) (bs : List ℕ) (rows : ℕ) (r o : List ℕ) (at j : ℕ) : Type 0 where
+pub record Laying (s : ℕ) (bs : List ℕ) (rows : ℕ) (r o : List ℕ) (j : ℕ) : Type 0 where
   pub turns : j ≤ rows
   pub same : length o ≡ length r
-  pub stands : at ≡ j * suc s
   pub now : o ≡ laid s bs j r
 
-pub laying_start : (s : ℕ) (bs : List ℕ) (rows : ℕ) (r : List ℕ) → Laying s bs rows r r 0 0
+pub laying_start : (s : ℕ) (bs : List ℕ) (rows : ℕ) (r : List ℕ) → Laying s bs rows r r 0
 unfolding laid
-laying_start s bs rows r = record { turns = omega arith; same = refl; stands = sym (zero-mul (suc s)); now = refl }
+laying_start s bs rows r = record { turns = omega arith; same = refl; now = refl }
 
-module _ {s : ℕ} {bs : List ℕ} {rows : ℕ} {r o : List ℕ} {at j : ℕ} (L : Laying s bs rows r o at j) (b : j < rows) where
-  -- the block lies inside
-  pub laying_reads : rows * suc s ≤ length bs → at + 1 + s ≤ length bs
-  laying_reads e = omega (arith, L.stands, mul-le-mul_right (suc s) b)
+-- block j lies inside
+pub laying_reads : (s : ℕ) {j rows n : ℕ} → j < rows → rows * suc s ≤ n → j * (s + 1) + 1 + s ≤ n
+laying_reads s {j} b e = omega (arith, mul-le-mul_right (suc s) b)
 
-  pub laying_turn : {o' : List ℕ} (i : ℕ) → i ≡ get_or bs at 0 → i * s + s ≤ length o → rows * suc s ≤ length bs
-      → o' ≡ stored (i * s) (word_from bs (at + 1)) s o → Laying s bs rows r o' (at + 1 + s) (j + 1)
+module _ {s : ℕ} {bs : List ℕ} {rows : ℕ} {r o : List ℕ} {j : ℕ} (L : Laying s bs rows r o j) (b : j < rows) where
+  pub laying_turn : {o' : List ℕ} (i : ℕ) → i ≡ get_or bs (j * (s + 1)) 0 → rows * suc s ≤ length bs
+      → o' ≡ stored (i * s) (word_from bs (j * (s + 1) + 1)) s o → Laying s bs rows r o' (j + 1)
   unfolding laid
-  laying_turn {o'} i n f e q = record {
+  laying_turn {o'} i n f q = record {
     turns = omega arith;
-    same = ap length q ∙ length_stored (i * s) (word_from bs (at + 1)) s o ∙ L.same;
-    stands = omega (arith, L.stands);
-    now = q ∙ row_put s i (at + 1) bs o (laying_reads e) ∙ rw (add-one j, add-one at, n, L.stands, ← L.now);
+    same = ap length q ∙ length_stored (i * s) (word_from bs (j * (s + 1) + 1)) s o ∙ L.same;
+    now = q ∙ row_put s i (j * (s + 1) + 1) bs o (laying_reads s b f) ∙ rw (n, add-one (j * (s + 1)), add-one j, add-one s, ← L.now);
   }
 
-pub laying_done : {s : ℕ} {bs : List ℕ} {rows : ℕ} {r o : List ℕ} {at j : ℕ} → Laying s bs rows r o at j → rows ≤ j → o ≡ laid s bs rows r
+pub laying_done : {s : ℕ} {bs : List ℕ} {rows : ℕ} {r o : List ℕ} {j : ℕ} → Laying s bs rows r o j → rows ≤ j → o ≡ laid s bs rows r
 laying_done {rows} {j} L b = let e : j ≡ rows = omega (arith, L.turns) in rw e at L.now

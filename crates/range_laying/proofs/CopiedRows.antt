@@ -26,28 +26,23 @@ module _ (to width from stride count : ℕ) (l : List ℕ) where
   copied_none e (suc n) o = rw (e, stored_none) (copied_none e n o)
 
   -- THE LOOP after i of its rows
-  pub record Copying (rows : ℕ) (out₀ out : List ℕ) (x y i : ℕ) : Type 0 where
+  pub record Copying (rows : ℕ) (out₀ out : List ℕ) (i : ℕ) : Type 0 where
     pub turns : i ≤ rows
     pub same : length out ≡ length out₀
-    pub source : x ≡ from + i * stride
-    pub target : y ≡ to + i * width
     pub now : out ≡ copied_rows to width from stride count l i out₀
 
-  pub copying_start : (rows : ℕ) (o : List ℕ) → Copying rows o o from to 0
+  pub copying_start : (rows : ℕ) (o : List ℕ) → Copying rows o o 0
   unfolding copied_rows
-  copying_start rows o =
-      record { turns = omega arith; same = refl; source = omega (arith, zero-mul stride); target = omega (arith, zero-mul width); now = refl }
+  copying_start rows o = record { turns = omega arith; same = refl; now = refl }
 
-module _ {to width from stride count : ℕ} {l : List ℕ} {rows : ℕ} {o₀ o : List ℕ} {x y i : ℕ} (h : Copying to width from stride count l rows o₀ o x y i) where
-  pub copying_turn : {o' : List ℕ} → i < rows → o' ≡ stored y (word_from l x) count o
-      → Copying to width from stride count l rows o₀ o' (x + stride) (y + width) (i + 1)
+module _ {to width from stride count : ℕ} {l : List ℕ} {rows : ℕ} {o₀ o : List ℕ} {i : ℕ} (h : Copying to width from stride count l rows o₀ o i) where
+  pub copying_turn : {o' : List ℕ} → i < rows → o' ≡ stored (to + i * width) (word_from l (from + i * stride)) count o
+      → Copying to width from stride count l rows o₀ o' (i + 1)
   unfolding copied_rows
   copying_turn {o'} b e = record {
     turns = omega arith;
-    same = ap length e ∙ length_stored y (word_from l x) count o ∙ h.same;
-    source = omega (arith, h.source);
-    target = omega (arith, h.target);
-    now = e ∙ rw (add-one, h.source, h.target, h.now);
+    same = ap length e ∙ length_stored (to + i * width) (word_from l (from + i * stride)) count o ∙ h.same;
+    now = e ∙ rw (add-one, h.now);
   }
 
 -- WHERE EACH WORD STANDS afterwards

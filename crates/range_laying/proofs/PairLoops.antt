@@ -88,24 +88,22 @@ same_pair r r' i i' e = (rw (add-zero (2 * i), add-zero (2 * i')) at (word 0 (om
     word j b = sym (at r i j b) ∙ ap (λ (x : List ℕ). get_or x j 0) e ∙ at r' i' j b
 
 -- THE ORIGINS of a level's blocks: the loop after j of them
-pub record Naming (width l t : ℕ) (bs : List ℕ) (rows : ℕ) (r o : List ℕ) (at j : ℕ) : Type 0 where
+pub record Naming (width l t : ℕ) (bs : List ℕ) (rows : ℕ) (r o : List ℕ) (j : ℕ) : Type 0 where
   pub turns : j ≤ rows
   pub same : length o ≡ length r
-  pub stands : at ≡ j * width
   pub now : o ≡ origins_laid width l t bs j r
 
-pub naming_start : (width l t : ℕ) (bs : List ℕ) (rows : ℕ) (r : List ℕ) → Naming width l t bs rows r r 0 0
+pub naming_start : (width l t : ℕ) (bs : List ℕ) (rows : ℕ) (r : List ℕ) → Naming width l t bs rows r r 0
 unfolding origins_laid
-naming_start width l t bs rows r = record { turns = omega arith; same = refl; stands = sym (zero-mul width); now = refl }
+naming_start width l t bs rows r = record { turns = omega arith; same = refl; now = refl }
 
-module _ {width l t : ℕ} {bs : List ℕ} {rows : ℕ} {r o : List ℕ} {at j : ℕ} (N : Naming width l t bs rows r o at j) where
-  pub naming_turn : {o' : List ℕ} → j < rows → o' ≡ replaced 2 o (get_or bs at 0) (l ∷ (t + j) ∷ []) → Naming width l t bs rows r o' (at + width) (j + 1)
+module _ {width l t : ℕ} {bs : List ℕ} {rows : ℕ} {r o : List ℕ} {j : ℕ} (N : Naming width l t bs rows r o j) where
+  pub naming_turn : {o' : List ℕ} → j < rows → o' ≡ replaced 2 o (get_or bs (j * width) 0) (l ∷ (t + j) ∷ []) → Naming width l t bs rows r o' (j + 1)
   unfolding origins_laid
   naming_turn b q = record {
     turns = omega arith;
-    same = ap length q ∙ length-sets o (get_or bs at 0 * 2) (l ∷ (t + j) ∷ []) ∙ N.same;
-    stands = omega (arith, N.stands);
-    now = q ∙ rw (add-one j, N.stands, ← N.now);
+    same = ap length q ∙ length-sets o (get_or bs (j * width) 0 * 2) (l ∷ (t + j) ∷ []) ∙ N.same;
+    now = q ∙ rw (add-one j, ← N.now);
   }
 
   pub naming_done : rows ≤ j → o ≡ origins_laid width l t bs rows r

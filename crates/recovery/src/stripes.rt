@@ -11,7 +11,12 @@ use image::Reading;
 use range_laying::Content;
 
 // Lays all stripes, and stops at the first one that is refused, which it names. Where they stop the output may hold anything. What is left of the scratch is open.
-fn lay_each(reading: Reading, content: Content, out: &mut [u32], scratch: &mut [u32]) -> Result<(), Fault>
+fn lay_each(
+    reading: Reading,
+    content: Content,
+    out: &mut [u32],
+    scratch: &mut [u32],
+) -> Result<(), Fault>
     requires { LayingFits reading.header.header content out.old scratch.old }
     ensures value { verdict_of result ≡ answer_of (stripes_laid reading.entry.header.header content reading.entry.image.now reading.entry.erasures.now) }
     ensures out_after { (verdict_of result).number ≡ 0 →
@@ -21,7 +26,13 @@ fn lay_each(reading: Reading, content: Content, out: &mut [u32], scratch: &mut [
     let header = reading.header.header;
     for level in (0..header.k + 1).rev() {
         if layout::places::has_stripe(header, level) {
-            let answer = stripe_decoding::fetching::lay_stripe(reading, content, level as usize, out, scratch);
+            let answer = stripe_decoding::fetching::lay_stripe(
+                reading,
+                content,
+                level as usize,
+                out,
+                scratch,
+            );
             if let Err(refusal) = answer {
                 return Err(Fault {
                     refusal,
@@ -34,7 +45,12 @@ fn lay_each(reading: Reading, content: Content, out: &mut [u32], scratch: &mut [
 }
 
 // What all stripes come to: the number and the stripe at which they stop, or the words. Where they stop the output may hold anything. The scratch is zeros.
-pub fn lay_stripes(reading: Reading, content: Content, out: &mut [u32], scratch: &mut [u32]) -> Result<(), Fault>
+pub fn lay_stripes(
+    reading: Reading,
+    content: Content,
+    out: &mut [u32],
+    scratch: &mut [u32],
+) -> Result<(), Fault>
     requires { LayingFits reading.header.header content out.old scratch.old }
     ensures value { verdict_of result ≡ answer_of (stripes_laid reading.entry.header.header content reading.entry.image.now reading.entry.erasures.now) }
     ensures out_after { (verdict_of result).number ≡ 0 →

@@ -22,9 +22,6 @@ use Rattle.judging.proofs.StripeNumbers.{stripe_fits}
 
 -- THE NUMBERS st of stripe l
 module _ (h : Header) (l : ℕ) {st : Stripe} (e : st ≡ stripe_of h l) where
-  pub numbers_fit : header_fits h ≡ true → l ≤ h.k → StripeFits st
-  numbers_fit f w = rw e (stripe_fits h l f w)
-
   -- its marks and its bytes
   pub marks_fit : (gs : List Erasure) {marks : List Bool} → header_fits h ≡ true → l ≤ h.k → marks ≡ marks_of h gs l → position_count st ≤ length marks
   marks_fit gs f w em = rw (e, em, length_flags 0 2048 (mark_at h gs l)) (pow_mono {i = suc l} {j = 11} (omega (arith, (fits h f).k_high)))

@@ -9,6 +9,7 @@ ghost use Rattle.stripe_decoding.specs.Decoding.{decode_stripe};
 ghost use Rattle.stripe_decoding.specs.steps.Laying.{LayingFits};
 
 use image::Reading;
+use judging::{ReadyStripe, VaultStripe};
 use layout::Refusal;
 use range_laying::Content;
 
@@ -34,10 +35,10 @@ pub fn lay_stripe(
 {
     let mut marks = [false; 2048];
     reading.mark_stripe(level, &mut marks);
-    let st = reading.header.stripe_of(level);
-    if !judging::counting::enough_survive(st, &marks) {
+    let vault = VaultStripe::new(reading.header, level);
+    let Some(ready) = ReadyStripe::new(vault, &marks) else {
         return Err(Refusal::TooFew);
-    }
+    };
     let bytes = reading.stripe_bytes(level);
-    crate::ranges::decode_and_lay(content, st, bytes, &marks, out, scratch)
+    crate::ranges::decode_and_lay(content, ready, bytes, out, scratch)
 }

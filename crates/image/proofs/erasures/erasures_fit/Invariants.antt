@@ -1,10 +1,6 @@
 -- The loop of `image::erasures::erasures_fit`, which is that of test 3 in proofs/ErasureLists. Assumes nothing.
-use Rattle.std.proofs.Common.{◌-◌}
 use Rattle.image.proofs.ErasureLists.{RiseLoop}
 use Rattle.image.proofs.erasures.erasures_fit.Given as goal
 
 abbrev pub invariant-loop-i : goal.invariant-loop-i
 invariant-loop-i l = RiseLoop l.erasures l.size l.least l.i
-
-abbrev pub decreases-loop-i : goal.decreases-loop-i
-decreases-loop-i l = l.count - l.i

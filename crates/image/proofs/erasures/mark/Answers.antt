@@ -7,7 +7,7 @@ loop-i-init c = mark_start c.requires.marks_value.0
 
 pub loop-i-preserved : goal.loop-i-preserved
 loop-i-preserved c =
-    mark_turn c.loop-i.invariant c.loop-i-test.true c.number_at-offset.ensures c.number_at-size.ensures c.mark_touched.ensures
+    mark_turn c.loop-i.invariant c.loop-i-test.true c.erasure_at.ensures.0 c.erasure_at.ensures.1 c.mark_touched.ensures
 
 pub returns : goal.returns
 returns c = mark_end c.loop-i.invariant c.loop-i-test.false

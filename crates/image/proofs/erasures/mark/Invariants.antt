@@ -1,10 +1,6 @@
 -- The loop of `image::erasures::mark`, which is the one over an erasure list of proofs/Marking. Assumes nothing.
-use Rattle.std.proofs.Common.{◌-◌}
 use Rattle.image.proofs.Marking.{MarkLoop}
 use Rattle.image.proofs.erasures.mark.Given as goal
 
 abbrev pub invariant-loop-i : goal.invariant-loop-i
 invariant-loop-i l = MarkLoop l.base l.step l.positions l.erasures 2048 l.marks l.i
-
-abbrev pub decreases-loop-i : goal.decreases-loop-i
-decreases-loop-i l = l.count - l.i

@@ -1,5 +1,6 @@
 -- `image::images::put_words` meets its contract. Assumes nothing.
-use Rattle.std.proofs.Common.{◌≡◌, sym, ap, ◌∙◌, ℕ, suc, ◌+◌, ◌<◌, ◌≤◌, List, length, get_or, drop, drop-cons, add-one, arith}
+use Rattle.std.proofs.Common.{◌≡◌, sym, ap, ap₂, ◌∙◌, ℕ, suc, ◌+◌, ◌*◌, ◌<◌, ◌≤◌, List, length, get_or, drop, drop-cons, add-one, arith}
+use native.Mathlib.Nat.{add-zero}
 use lib.Seq.{drop-length}
 use Rattle.std.proofs.lemmas.List.Edits.{sets}
 use Rattle.field.proofs.WordLists.{sets_append}
@@ -23,18 +24,20 @@ done l words to i h b =
     let e : i ≡ length words = omega arith in
     ap (λ (ws : List ℕ). sets l to (bytes_of ws)) (ap (λ (n : ℕ). drop n words) e ∙ drop-length words)
 
+pub loop-i-init : goal.loop-i-init
+loop-i-init c = ap (λ (n : ℕ). sets c.args.bytes.now n (bytes_of c.args.words.now)) (add-zero c.args.at)
+
 pub loop-i-preserved : goal.loop-i-preserved
 loop-i-preserved c =
     let l = c.loop-i in
-    let ws = c.args.words.now in
-    record {
-      to_is = omega arith;
-      whole =
-          ap (λ (b : List ℕ). sets b (l.to + 4) (bytes_of (drop (l.i + 1) ws))) c.put_word.ensures ∙ sym (next l.bytes ws l.to l.i c.loop-i-test.true)
-          ∙ l.invariant.whole;
-    }
+    let a = c.args in
+    let ws = a.words.now in
+    let to = a.at + 4 * l.i in
+    ap₂ (λ (b : List ℕ) (n : ℕ). sets b n (bytes_of (drop (l.i + 1) ws))) c.put_word.ensures (omega arith)
+    ∙ sym (next l.bytes ws to l.i c.loop-i-test.true) ∙ l.invariant
 
 pub returns : goal.returns
 returns c =
     let l = c.loop-i in
-    sym (done l.bytes c.args.words.now l.to l.i l.auto.i-end c.loop-i-test.false) ∙ l.invariant.whole
+    let a = c.args in
+    sym (done l.bytes a.words.now (a.at + 4 * l.i) l.i l.auto.i-end c.loop-i-test.false) ∙ l.invariant

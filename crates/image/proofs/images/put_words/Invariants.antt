@@ -5,7 +5,4 @@ use Rattle.image.specs.Image.{bytes_of}
 use Rattle.image.proofs.images.put_words.Given as goal
 
 abbrev pub invariant-loop-i : goal.invariant-loop-i
-invariant-loop-i l = record {
-  to_is : l.to ≡ l.at + 4 * l.i;
-  whole : sets l.bytes l.to (bytes_of (drop l.i l.words)) ≡ sets l.initial.bytes l.at (bytes_of l.words);
-}
+invariant-loop-i l = sets l.bytes (l.at + 4 * l.i) (bytes_of (drop l.i l.words)) ≡ sets l.initial.bytes l.at (bytes_of l.words)

@@ -1,16 +1,29 @@
 -- `image::loading::load` meets its contract, by the loop that stores rows of code/proofs/RowLaws and the one that tests them of proofs/StripeLoads. Assumes
 -- nothing.
-use Rattle.std.proofs.Common.{refl, sym, ap, ◌∙◌, subst, ℕ, ◌≡◌, ◌+◌, ◌*◌, ◌^◌, ◌≤◌, ◌<◌, ◌++◌, suc, Bool, ◌&&◌, length, drop, zero-mul, lit<, arith}
+use Rattle.std.proofs.Common.{refl, sym, ap, ◌∙◌, subst, ℕ, ◌≡◌, ◌+◌, ◌*◌, ◌^◌, ◌≤◌, ◌<◌, ◌++◌, suc, Bool, ◌&&◌, ◌-◌, List, length, take, drop, replicate, get_or, zero-mul, lit<, arith}
 use mathlib.Core.Bool.{and-true}
+use borrow.Rule.Slice.PartMut.{put_mid}
+use lib.ListN.{length-replicate, get_or-replicate, length-drop}
+use lib.Seq.{length-take-le}
 use Rattle.field.specs.Words.{table}
 use Rattle.code.proofs.Shapes.{positions}
 use Rattle.code.proofs.Lifting.{row_next, row_in}
-use Rattle.code.proofs.RowLaws.{storing_rows_start, storing_rows_turn, storing_rows_done, stored_front}
+use Rattle.code.proofs.RowLaws.{storing_rows_start, storing_rows_turn, storing_rows_done, stored_front, stored_part}
+use Rattle.code.specs.steps.Storing.{stored}
 use Rattle.image.specs.Loading.{surviving, surviving_at, are_below}
 use Rattle.image.specs.steps.Loading.{columns_word, columns_of}
 use Rattle.image.proofs.StripeLoads.{rows_start, rows_turn, rows_end, below_zeros, surviving_marked, kept_word, range_marked, range_kept}
 use Rattle.image.proofs.loading.load.Goals as goal
 use Rattle.image.proofs.loading.load.Goals.{then-marks-i, else-marks-i+then-from-eq0, else-marks-i+else-from-eq0}
+
+-- zeros written over a part
+zeros_stored : (to n : ℕ) (l : List ℕ) {x : List ℕ} → to + n ≤ length l → x ≡ replicate (length (take (to + n - to) (drop to l))) 0
+    → put_mid to (to + n - to) l x ≡ stored to (λ k. 0) n l
+zeros_stored to n l {x} h e =
+    let m = length (take (to + n - to) (drop to l)) in
+    let long : m ≡ n = length-take-le (to + n - to) (drop to l) (omega (arith, length-drop to l)) ∙ omega arith in
+    stored_part to (λ k. 0) n (to + n - to) l x (omega arith) h (ap length e ∙ length-replicate m 0 ∙ long)
+    (λ i b. ap (λ (y : List ℕ). get_or y i 0) e ∙ get_or-replicate m i 0 0 (omega (arith, long)))
 
 -- row i ends inside the stripe
 row_ends : (level rows width words i : ℕ) → rows ≡ 2 ^ (level + 1) → words ≡ 2 ^ suc level * width → i < rows → i * width + width ≤ words
@@ -43,11 +56,13 @@ loop-i-preserved g c =
     let inv = c.loop-i.invariant in
     let b = c.loop-i-test.true in
     let fit = c.requires.inside in
+    let all = subst (λ (m : ℕ). m * a.range.cols ≤ length a.part.now) (sym (positions a.st.level c.two_to-rows.ensures)) c.requires.room in
+    let room : i * a.range.cols + a.range.cols ≤ length c.loop-i.part = omega (arith, row_in a.range.cols b, all, inv.rows.same) in
     record {
       rows =
           rw (row_next i a.range.cols)
           (elim c.if-marks-i.branch [
-            | then-marks-i d ↦ storing_rows_turn inv.rows (λ k. 0) b (d.part-is ∙ d.clear_row.ensures)
+            | then-marks-i d ↦ storing_rows_turn inv.rows (λ k. 0) b (d.part-is ∙ zeros_stored (i * a.range.cols) a.range.cols c.loop-i.part room (d.fill.ensures.after (λ y e. e)))
                 (λ j t. sym (range_marked w n ms ws a.range.from a.range.cols fit i j b t d.if-marks-i.true))
             | else-marks-i+then-from-eq0 d ↦ storing_rows_turn inv.rows _ b (d.part-is ∙ d.load_row.ensures)
                 (λ j t. sym (range_kept w n ms ws a.range.from a.range.cols fit i j b t d.if-marks-i.false))

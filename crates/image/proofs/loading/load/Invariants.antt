@@ -1,6 +1,6 @@
 -- The loop of `image::loading::load`: that which stores rows of code/proofs/RowLaws, and the one that tests them of proofs/StripeLoads, which runs with the
 -- first range. Assumes nothing.
-use Rattle.std.proofs.Common.{◌≡◌, true, ◌*◌, ◌-◌, ◌<◌}
+use Rattle.std.proofs.Common.{◌≡◌, true, ◌*◌, ◌<◌}
 use Rattle.code.proofs.RowLaws.{StoringRows}
 use Rattle.image.specs.Loading.{surviving, surviving_at}
 use Rattle.image.specs.steps.Loading.{columns_word}
@@ -15,6 +15,3 @@ invariant-loop-i g l =
       all_in_field : l.from ≡ 0 → RowsLoop 65537 l.rows l.width (surviving_at l.width l.marks words) l.fine l.i;
       untested : 0 < l.from → l.fine ≡ true;
     }
-
-abbrev pub decreases-loop-i : goal.decreases-loop-i
-decreases-loop-i g l = l.rows - l.i

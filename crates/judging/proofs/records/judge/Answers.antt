@@ -6,11 +6,11 @@ use Rattle.judging.proofs.records.judge.Goals as goal
 pub loop-j-init : goal.loop-j-init
 loop-j-init c = judge_start _ _ _ _ _
 
-pub overflow_add-next : goal.overflow_add-next
-overflow_add-next c = omega (arith, judge_reads c.loop-j.invariant c.loop-j-test.true c.two_to-rows.ensures c.requires.words_len)
+pub overflow_mul-at : goal.overflow_mul-at
+overflow_mul-at c = omega (arith, judge_reads c.loop-j.invariant c.loop-j-test.true c.two_to-rows.ensures c.requires.words_len)
 
-pub offset_bounds-words-at : goal.offset_bounds-words-at
-offset_bounds-words-at c = omega (arith, judge_reads c.loop-j.invariant c.loop-j-test.true c.two_to-rows.ensures c.requires.words_len)
+pub overflow_add-at : goal.overflow_add-at
+overflow_add-at c = omega (arith, judge_reads c.loop-j.invariant c.loop-j-test.true c.two_to-rows.ensures c.requires.words_len)
 
 pub slice_bounds-row_fits-end : goal.slice_bounds-row_fits-end
 slice_bounds-row_fits-end c = omega (arith, judge_reads c.loop-j.invariant c.loop-j-test.true c.two_to-rows.ensures c.requires.words_len)

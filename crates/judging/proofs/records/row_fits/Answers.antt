@@ -11,5 +11,6 @@ returns-then-number_fits c =
     c.all_data-then-number_fits.ensures
     ∙ sym (first_fits _ _ _ _ _ c.requires.records c.if-from-gt0.false (sym c.number_fits.ensures ∙ c.if-number_fits.true))
 
-pub returns : goal.returns
-returns c = sym (first_refused _ _ _ _ _ c.requires.records c.if-from-gt0.false (sym c.number_fits.ensures ∙ c.if-number_fits.false))
+pub returns-else-number_fits : goal.returns-else-number_fits
+returns-else-number_fits c =
+    c.if-number_fits.false ∙ sym (first_refused _ _ _ _ _ c.requires.records c.if-from-gt0.false (sym c.number_fits.ensures ∙ c.if-number_fits.false))

@@ -12,11 +12,11 @@ pub returns-else-first-end : goal.returns-else-first-end
 returns-else-first-end c =
     let r = c.args.range in
     let s = c.args.skip in
-    let w = c.args.st.width in
+    let w = c.args.vault.stripe.width in
     let first : c.if-from-skip.first ≡ max r.from s =
     elim c.if-from-skip.branch [
       | then-from-skip x ↦ omega (arith, x.if-from-skip, x.first-is)
       | else-from-skip x ↦ omega (arith, x.if-from-skip, x.first-is)
     ] in
     sym (copied_none (max r.from s - s) (w - s) (max r.from s - r.from) r.cols (r.from + r.cols - max r.from s) c.args.words.now
-    (omega (arith, first, c.if-first-end.false)) (block_count c.args.st) c.args.out.now)
+    (omega (arith, first, c.if-first-end.false)) (block_count c.args.vault.stripe) c.args.out.now)

@@ -3,4 +3,4 @@ use Rattle.range_laying.proofs.CopiedRows.{Copying}
 use Rattle.range_laying.proofs.blocks.copy_rows.Given as goal
 
 abbrev pub invariant-loop-i : goal.invariant-loop-i
-invariant-loop-i l = Copying l.initial.y l.width l.initial.x l.stride l.count l.words l.rows l.initial.out l.out l.x l.y l.i
+invariant-loop-i l = Copying l.to.first l.to.stride l.from.first l.from.stride l.count l.words l.rows l.initial.out l.out l.i

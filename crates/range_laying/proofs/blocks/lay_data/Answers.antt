@@ -1,6 +1,6 @@
 -- `range_laying::blocks::lay_data` meets its contract. The invariant: the first j blocks are laid. Assumes nothing.
-use mathlib.Core.Path.{refl}
-use Rattle.std.proofs.Common.{suc, ◌+◌, ◌*◌, ◌≤◌, length, get_or, arith}
+use mathlib.Core.Path.{◌≡◌, refl}
+use Rattle.std.proofs.Common.{suc, ◌+◌, ◌*◌, ◌≤◌, length, get_or, arith, ap, add-one}
 use Rattle.range_laying.proofs.BlockLaying.{laying_start, laying_reads, laying_turn, laying_done}
 use Rattle.range_laying.proofs.blocks.lay_data.Goals.{In-loop-j}
 use Rattle.range_laying.proofs.blocks.lay_data.Goals as goal
@@ -9,15 +9,18 @@ pub loop-j-init : goal.loop-j-init
 loop-j-init c = laying_start _ _ _ _
 
 -- the next block
-reads : (c : In-loop-j) → c.loop-j.at + 1 + c.args.s ≤ length c.args.blocks.now
-reads c = laying_reads c.loop-j.invariant c.loop-j-test.true (omega (arith, c.requires.blocks_len))
+reads : (c : In-loop-j) → c.loop-j.j * (c.args.s + 1) + 1 + c.args.s ≤ length c.args.blocks.now
+reads c = laying_reads c.args.s c.loop-j-test.true (omega (arith, c.requires.blocks_len))
 
 -- the record that it is laid over
-fits_at : (c : In-loop-j) → get_or c.args.blocks.now c.loop-j.at 0 * c.args.s + c.args.s ≤ length c.loop-j.out
+fits_at : (c : In-loop-j) → get_or c.args.blocks.now (c.loop-j.j * (c.args.s + 1)) 0 * c.args.s + c.args.s ≤ length c.loop-j.out
 fits_at c =
-    let i = c.loop-j.invariant in
-    let n : suc (get_or c.args.blocks.now c.loop-j.at 0) * c.args.s ≤ length c.args.out.now = rw i.stands (c.requires.by_index c.loop-j.j c.loop-j-test.true) in
-    omega (arith, n, i.same)
+    let n : suc (get_or c.args.blocks.now (c.loop-j.j * (c.args.s + 1)) 0) * c.args.s ≤ length c.args.out.now =
+    rw (add-one c.args.s) (c.requires.by_index c.loop-j.j c.loop-j-test.true) in
+    omega (arith, n, c.loop-j.invariant.same)
+
+pub overflow_mul-at : goal.overflow_mul-at
+overflow_mul-at c = omega (arith, reads (goal.at.overflow_mul-at c).In-loop-j)
 
 pub offset_bounds-blocks-at : goal.offset_bounds-blocks-at
 offset_bounds-blocks-at c = omega (arith, reads (goal.at.offset_bounds-blocks-at c).In-loop-j)
@@ -28,19 +31,11 @@ bounds-blocks-at c = omega (arith, reads (goal.at.bounds-blocks-at c).In-loop-j)
 pub overflow_mul-to : goal.overflow_mul-to
 overflow_mul-to c = omega (arith, fits_at (goal.at.overflow_mul-to c).In-loop-j)
 
-pub overflow_add-from : goal.overflow_add-from
-overflow_add-from c = omega (arith, reads (goal.at.overflow_add-from c).In-loop-j)
-
 pub copy_row-requires : goal.copy_row-requires
 copy_row-requires c = (fits_at (goal.at.copy_row-requires c).In-loop-j, reads (goal.at.copy_row-requires c).In-loop-j)
 
-pub overflow_add-at : goal.overflow_add-at
-overflow_add-at c = omega (arith, reads (goal.at.overflow_add-at c).In-loop-j)
-
 pub loop-j-preserved : goal.loop-j-preserved
-loop-j-preserved c =
-    let room = fits_at (goal.at.loop-j-preserved c).In-loop-j in
-    laying_turn c.loop-j.invariant c.loop-j-test.true _ refl room (omega (arith, c.requires.blocks_len)) c.copy_row.ensures
+loop-j-preserved c = laying_turn c.loop-j.invariant c.loop-j-test.true _ refl (omega (arith, c.requires.blocks_len)) c.copy_row.ensures
 
 pub returns : goal.returns
 returns c = laying_done c.loop-j.invariant c.loop-j-test.false

@@ -3,4 +3,4 @@ use Rattle.range_laying.proofs.BlockLaying.{Laying}
 use Rattle.range_laying.proofs.blocks.lay_data.Given as goal
 
 abbrev pub invariant-loop-j : goal.invariant-loop-j
-invariant-loop-j l = Laying l.s l.blocks l.rows l.initial.out l.out l.at l.j
+invariant-loop-j l = Laying l.s l.blocks l.rows l.initial.out l.out l.j

@@ -1,5 +1,5 @@
 -- `range_laying::blocks::lay_origins` meets its contract. The invariant: the origins of the first i blocks are laid. Assumes nothing.
-use Rattle.std.proofs.Common.{suc, ◌+◌, ◌≤◌, ◌<◌, length, arith}
+use Rattle.std.proofs.Common.{suc, ◌+◌, ◌*◌, ◌≤◌, ◌<◌, length, arith}
 use mathlib.Core.Path.{◌∙◌}
 use native.Mathlib.Nat.{mul-le-mul_right}
 use Rattle.code.specs.Stripe.{block_count}
@@ -11,13 +11,13 @@ pub loop-i-init : goal.loop-i-init
 loop-i-init c = naming_start _ _ _ _ _ _
 
 -- in a turn: the block is there
-reads : (c : In-loop-i) → c.loop-i.from + c.args.st.width ≤ length c.args.blocks.now
+reads : (c : In-loop-i) → c.loop-i.i * c.args.vault.stripe.width + c.args.vault.stripe.width ≤ length c.args.blocks.now
 reads c =
-    let b : suc c.loop-i.i ≤ block_count c.args.st = omega (arith, c.loop-i-test.true, c.two_to-rows.ensures) in
-    omega (arith, c.requires.blocks_len, c.loop-i.invariant.stands, mul-le-mul_right c.args.st.width b)
+    let b : suc c.loop-i.i ≤ block_count c.args.vault.stripe = omega (arith, c.loop-i-test.true, c.two_to-rows.ensures) in
+    omega (arith, c.requires.blocks_len, mul-le-mul_right c.args.vault.stripe.width b)
 
-inside : (c : In-loop-i) → c.loop-i.from < length c.args.blocks.now
-inside c = omega (arith, reads c, c.requires.stripe_fits.thick)
+inside : (c : In-loop-i) → c.loop-i.i * c.args.vault.stripe.width < length c.args.blocks.now
+inside c = omega (arith, reads c, c.args.vault.fits.thick)
 
 pub offset_bounds-blocks-from : goal.offset_bounds-blocks-from
 offset_bounds-blocks-from c = omega (arith, inside (goal.at.offset_bounds-blocks-from c).In-loop-i)
@@ -28,10 +28,10 @@ bounds-blocks-from c = inside (goal.at.bounds-blocks-from c).In-loop-i
 pub put_pair-requires : goal.put_pair-requires
 put_pair-requires c =
     let i = c.loop-i.invariant in
-    rw (i.same, i.stands) (c.requires.by_index c.loop-i.i (omega (arith, c.loop-i-test.true, c.two_to-rows.ensures)))
+    rw i.same (c.requires.by_index c.loop-i.i (omega (arith, c.loop-i-test.true, c.two_to-rows.ensures)))
 
-pub overflow_add-from : goal.overflow_add-from
-overflow_add-from c = omega (arith, reads (goal.at.overflow_add-from c).In-loop-i)
+pub overflow_mul-from : goal.overflow_mul-from
+overflow_mul-from c = omega (arith, reads (goal.at.overflow_mul-from c).In-loop-i)
 
 pub loop-i-preserved : goal.loop-i-preserved
 loop-i-preserved c = naming_turn c.loop-i.invariant c.loop-i-test.true c.put_pair.ensures

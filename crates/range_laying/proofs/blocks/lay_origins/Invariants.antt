@@ -3,4 +3,4 @@ use Rattle.range_laying.proofs.PairLoops.{Naming}
 use Rattle.range_laying.proofs.blocks.lay_origins.Given as goal
 
 abbrev pub invariant-loop-i : goal.invariant-loop-i
-invariant-loop-i l = Naming l.width l.level l.first l.blocks l.rows l.initial.out l.out l.from l.i
+invariant-loop-i l = Naming l.width l.level l.first l.blocks l.rows l.initial.out l.out l.i

@@ -6,7 +6,7 @@ use Rattle.layout.specs.declared.Header.{Header}
 use Rattle.layout.specs.declared.refusal.Refusal.{Refusal}
 use Rattle.layout.specs.Header.{stripe_of}
 use Rattle.layout.specs.Refusals.{number_of, answer_number}
-use Rattle.layout.proofs.Refusals.{some_number}
+use Rattle.layout.proofs.Refusals.{not_zero}
 use Rattle.image.specs.Erasures.{erasures_in, marks_of}
 use Rattle.image.specs.Image.{words_of}
 use Rattle.image.specs.Loading.{stripe_in}
@@ -22,9 +22,6 @@ use Rattle.recovery.proofs.stripes.lay_each.Goals as goal
 found : (h : Header) (m e : List ℕ) (l : ℕ) → Comes (block_words (stripe_of h l)) (decoding h m e l)
 found h m e l = comes (stripe_of h l) (marks_of h (erasures_in e) l) (words_of (stripe_in h m l))
 
-some_is : (x : Refusal) → number_of x ≡ 0 → ⊥
-some_is x z = absurd (omega (arith, some_number x))
-
 pub loop-level-init : goal.loop-level-init
 loop-level-init c =
     let r = c.args.reading in
@@ -35,7 +32,7 @@ pub returns-in-Err-clause-value : goal.returns-in-Err-clause-value
 returns-in-Err-clause-value c =
     let w : c.loop-level.level ≡ suc (c.loop-level.level - 1) = omega arith in
     let there = sym c.has_stripe.ensures ∙ c.if-has_stripe.true in
-    sym (ap answer_of (left_stop c.loop-level.invariant w there c.in-Err.ensures.value (some_is c.in-Err.refusal)))
+    sym (ap answer_of (left_stop c.loop-level.invariant w there c.in-Err.ensures.value (not_zero c.in-Err.refusal)))
 
 pub loop-level-preserved-in_default : goal.loop-level-preserved-in_default
 loop-level-preserved-in_default c =

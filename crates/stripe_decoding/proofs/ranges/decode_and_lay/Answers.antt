@@ -3,28 +3,25 @@ use Rattle.std.proofs.Common.{◌≡◌, ◌*◌, ◌∙◌, refl, add-one, arit
 use Rattle.code.specs.Stripe.{block_count}
 use Rattle.layout.specs.declared.refusal.Refusal.{Refusal}
 use Rattle.layout.specs.Refusals.{number_of}
-use Rattle.layout.proofs.Refusals.{passed_on, some_number, some_refused}
+use Rattle.layout.proofs.Refusals.{passed_on, not_zero, some_refused}
 use Rattle.judging.proofs.ColumnRanges.{length_columns}
 use Rattle.stripe_decoding.proofs.RangeLoop.{blocks, first_words, same_length, ranging_start, range_stops, range_left, range_placed, range_taken}
 use Rattle.stripe_decoding.proofs.RangeLoop.{ranges_ten, ranges_zero, ranges_laid, ranges_left}
 use Rattle.stripe_decoding.proofs.ranges.decode_and_lay.Goals.{then-fit, else-fit}
 use Rattle.stripe_decoding.proofs.ranges.decode_and_lay.Goals as goal
 
-some_is : (x : Refusal) → number_of x ≡ 0 → ⊥
-some_is x z = absurd (omega (arith, some_number x))
-
 pub loop-from-init : goal.loop-from-init
 loop-from-init g c =
     rw (← c.store_factors.auto.scratch)
-    (ranging_start c.args.content c.args.st c.args.marks.now (g.S.Source.words c.args.source) c.args.out.now c.store_factors.new.scratch c.requires.ready.fits)
+    (ranging_start c.args.content c.args.ready.vault.stripe c.args.ready.marks.now (g.S.Source.words c.args.source) c.args.out.now c.store_factors.new.scratch c.args.ready.vault.fits)
 
 pub returns-in_err-decode_range-clause-value : goal.returns-in_err-decode_range-clause-value
 returns-in_err-decode_range-clause-value g c =
     let R = c.loop-from.invariant in
     let f = rw R.sized at c.range_at-range.ensures in
     passed_on _ c.from_residual.result c.from_residual.ensures.1
-    ∙ range_stops c.args.content c.args.st c.args.marks.now (g.S.Source.words c.args.source) R f c.in_err-decode_range.ensures.value c.requires.ready
-    (some_is c.in_err-decode_range.field-0.0)
+    ∙ range_stops c.args.content c.args.ready.vault.stripe c.args.ready.marks.now (g.S.Source.words c.args.source) R f c.in_err-decode_range.ensures.value c.args.ready.ready
+    (not_zero c.in_err-decode_range.field-0.0)
 
 pub returns-in_err-decode_range-clause-out_after : goal.returns-in_err-decode_range-clause-out_after
 returns-in_err-decode_range-clause-out_after g c z =
@@ -34,8 +31,8 @@ pub returns-in_err-decode_range-clause-level_after : goal.returns-in_err-decode_
 returns-in_err-decode_range-clause-level_after g c w =
     let R = c.loop-from.invariant in
     let f = rw R.sized at c.range_at-range.ensures in
-    range_left c.args.content c.args.st c.args.marks.now (g.S.Source.words c.args.source) R f c.in_err-decode_range.ensures.value c.requires.ready
-    (some_is c.in_err-decode_range.field-0.0) c.requires.out_len w
+    range_left c.args.content c.args.ready.vault.stripe c.args.ready.marks.now (g.S.Source.words c.args.source) R f c.in_err-decode_range.ensures.value c.args.ready.ready
+    (not_zero c.in_err-decode_range.field-0.0) c.requires.out_len w
 
 pub lay_range-requires-clause-placed : goal.lay_range-requires-clause-placed
 lay_range-requires-clause-placed g c =
@@ -45,10 +42,10 @@ lay_range-requires-clause-placed g c =
     let R = c.loop-from.invariant in
     let f = rw R.sized at c.range_at-range.ensures in
     let d = c.in_ok-decode_range.ensures in
-    let q = first_words range.cols _ _ c.two_to-blocks.ensures (length_columns a.st.width range.from range.cols (block_count a.st) (blocks a.st a.marks.now ws))
+    let q = first_words range.cols _ _ c.two_to-blocks.ensures (length_columns a.ready.vault.stripe.width range.from range.cols (block_count a.ready.vault.stripe) (blocks a.ready.vault.stripe a.ready.marks.now ws))
     (d.part_after refl) in
-    range_placed a.content a.st a.marks.now ws R f d.value refl q c.judge-fit.ensures.fits_after c.judge-fit.ensures.value
-    c.requires.ready.fits c.requires.out_len c.requires.level_room c.if-fit.true
+    range_placed a.content a.ready.vault.stripe a.ready.marks.now ws R f d.value refl q c.judge-fit.ensures.fits_after c.judge-fit.ensures.value
+    c.args.ready.vault.fits c.requires.out_len c.requires.level_room c.if-fit.true
 
 pub loop-from-preserved : goal.loop-from-preserved
 loop-from-preserved g c =
@@ -58,10 +55,10 @@ loop-from-preserved g c =
     let R = c.loop-from.invariant in
     let f = rw R.sized at c.range_at-range.ensures in
     let d = c.in_ok-decode_range.ensures in
-    let q = first_words range.cols _ _ c.two_to-blocks.ensures (length_columns a.st.width range.from range.cols (block_count a.st) (blocks a.st a.marks.now ws))
+    let q = first_words range.cols _ _ c.two_to-blocks.ensures (length_columns a.ready.vault.stripe.width range.from range.cols (block_count a.ready.vault.stripe) (blocks a.ready.vault.stripe a.ready.marks.now ws))
     (d.part_after refl) in
-    range_taken a.content a.st a.marks.now ws R f d.value refl q c.judge-fit.ensures.fits_after c.judge-fit.ensures.value
-    c.requires.ready.fits c.requires.out_len c.requires.level_room
+    range_taken a.content a.ready.vault.stripe a.ready.marks.now ws R f d.value refl q c.judge-fit.ensures.fits_after c.judge-fit.ensures.value
+    c.args.ready.vault.fits c.requires.out_len c.requires.level_room
     (same_length (c.two_to-positions.result * range.cols) c.loop-from.scratch c.decode_range.new.part
     (rw (c.two_to-positions.ensures, add-one) c.range_at-range.ensures.inside) c.decode_range.auto.part)
     c.if-fit.auto.out
@@ -70,25 +67,25 @@ loop-from-preserved g c =
 
 pub returns-then-fit-2-clause-value : goal.returns-then-fit-2-clause-value
 returns-then-fit-2-clause-value g c =
-    ranges_zero c.args.content c.args.st c.args.marks.now (g.S.Source.words c.args.source) c.loop-from.invariant c.loop-from-test.false c.requires.ready
+    ranges_zero c.args.content c.args.ready.vault.stripe c.args.ready.marks.now (g.S.Source.words c.args.source) c.loop-from.invariant c.loop-from-test.false c.args.ready.ready
     c.if-fit-2.true
 
 pub returns-then-fit-2-clause-out_after : goal.returns-then-fit-2-clause-out_after
 returns-then-fit-2-clause-out_after g c _ =
-    ranges_laid c.args.content c.args.st c.args.marks.now (g.S.Source.words c.args.source) c.loop-from.invariant c.loop-from-test.false c.requires.ready
+    ranges_laid c.args.content c.args.ready.vault.stripe c.args.ready.marks.now (g.S.Source.words c.args.source) c.loop-from.invariant c.loop-from-test.false c.args.ready.ready
     c.if-fit-2.true c.requires.out_len
 
 pub returns-else-fit-2-clause-value : goal.returns-else-fit-2-clause-value
 returns-else-fit-2-clause-value g c =
-    ranges_ten c.args.content c.args.st c.args.marks.now (g.S.Source.words c.args.source) c.loop-from.invariant c.loop-from-test.false c.requires.ready
+    ranges_ten c.args.content c.args.ready.vault.stripe c.args.ready.marks.now (g.S.Source.words c.args.source) c.loop-from.invariant c.loop-from-test.false c.args.ready.ready
     c.if-fit-2.false
 
 pub returns-then-fit-2-clause-level_after : goal.returns-then-fit-2-clause-level_after
 returns-then-fit-2-clause-level_after g c _ =
-    ranges_laid c.args.content c.args.st c.args.marks.now (g.S.Source.words c.args.source) c.loop-from.invariant c.loop-from-test.false c.requires.ready
+    ranges_laid c.args.content c.args.ready.vault.stripe c.args.ready.marks.now (g.S.Source.words c.args.source) c.loop-from.invariant c.loop-from-test.false c.args.ready.ready
     c.if-fit-2.true c.requires.out_len
 
 pub returns-else-fit-2-clause-level_after : goal.returns-else-fit-2-clause-level_after
 returns-else-fit-2-clause-level_after g c w =
-    ranges_left c.args.content c.args.st c.args.marks.now (g.S.Source.words c.args.source) c.loop-from.invariant c.loop-from-test.false c.requires.ready
+    ranges_left c.args.content c.args.ready.vault.stripe c.args.ready.marks.now (g.S.Source.words c.args.source) c.loop-from.invariant c.loop-from-test.false c.args.ready.ready
     c.if-fit-2.false w
