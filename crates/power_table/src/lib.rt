@@ -15,6 +15,6 @@ pub fn powers(out: &mut [u32]) -> Result<(), Refusal>
     if out.len() != 2048 {
         return Err(Refusal::Length);
     }
-    out.copy_from_slice(&code::table_65537::powers());
+    out.copy_from_slice(code::table_65537::powers());
     Ok(())
 }

@@ -112,19 +112,14 @@ fn fold_both(part: &mut [u32], level: usize, width: usize, powers: &[u32])
     fold(&mut part[half..], level, width, powers);
 }
 
-// The same, with as small a table as serves: up to level 2 only one or two rows are merged, and the whole table would cost more than the rest of the write.
-// Each table is laid where it is lent, so that a write lays one alone.
+// The same under the roots of the field.
 fn fold_level(part: &mut [u32], level: usize, width: usize)
     requires level_bound { level ≤ 10 }
     requires part_len { length part.old ≡ 2 ^ suc level * width }
     requires words { Words fermat.modulus part.old }
     ensures { part.new ≡ folded_both fermat.modulus (root_of fermat) width level part.old }
 {
-    if level <= 2 {
-        fold_both(part, level, width, &code::table_65537::few_powers());
-    } else {
-        fold_both(part, level, width, &code::table_65537::powers());
-    }
+    fold_both(part, level, width, code::table_65537::powers());
 }
 
 // Rebuilds a level from all levels below it and the block, and empties those. The level is lent on as a part from the middle of the log; what follows it
