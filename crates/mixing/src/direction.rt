@@ -8,6 +8,7 @@ ghost use Rattle.mixing.specs.steps.Words.{crossing_of};
 pub trait Factor: Copy {
     ghost value: { Self → ℕ };
 
+    // The product with a word.
     fn product(self, y: u32) -> u32
         requires { y < fermat.modulus }
         ensures { result ≡ times fermat.modulus (value self) y };
@@ -46,10 +47,12 @@ impl Factor for Power {
 pub(crate) trait Factors: Copy {
     type Each: Factor;
 
+    // The factor of each word, and that a word has one that is not -1.
     ghost value: { Self → (word : ℕ) → ℕ };
 
     ghost covers: { Self → (word : ℕ) → Type 0 };
 
+    // The factor of a word.
     fn of(self, word: usize) -> Self::Each
         requires { covers self word }
         ensures { Self.Each.value result ≡ value self word };
@@ -91,6 +94,7 @@ impl Factors for PerWord<'_> {
 
 /// Which way words are crossed: mixing, or unmixing.
 pub trait Direction {
+    // Whether it is unmixing: the definitions of specs/steps go by that.
     ghost unmixing: { Bool };
 
     // What is stored in the place of two words.
