@@ -3,7 +3,7 @@
 use Rattle.std.proofs.Common.{◌≡◌, List, ℕ, ◌+◌, ◌≤◌, ◌<◌, ◌⊎◌, ⊎_elim, get_or, ap, ◌∙◌, arith}
 use Rattle.field.specs.Residue.{times}
 use Rattle.code.specs.steps.Storing.{scaled_word}
-use Rattle.code.proofs.RowLaws.{Storing, storing_start, storing_front, storing_rest, storing_turn, storing_done}
+use Rattle.code.proofs.RowLaws.{Storing, storing_start, storing_front, storing_rest, storing_turn}
 use Rattle.encoder.proofs.scale_row_over.Goals as goal
 
 as_it_was : {to from n i : ℕ} {f : ℕ → ℕ} {u v : List ℕ} → Storing to f n u v i → i < n → (from + n ≤ to) ⊎ (to ≤ from)
@@ -22,4 +22,3 @@ unfolding scaled_word
 loop-j-preserved g c =
     storing_turn c.loop-j.invariant c.loop-j-test.true
     (c.product.ensures ∙ ap (times 65537 (g.F.Factor.value c.args.g)) (as_it_was c.loop-j.invariant c.loop-j-test.true c.requires.apart))
-

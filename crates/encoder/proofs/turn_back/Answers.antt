@@ -1,6 +1,6 @@
 -- `encoder::turn_back` meets its contract: a turn scales a row by its factor, and all rows scaled are turned back (proofs/Turning). Assumes nothing.
-use Rattle.std.proofs.Common.{◌≡◌, List, ℕ, ◌+◌, ◌*◌, ◌≤◌, ◌<◌, length, sym, ap, ◌∙◌, arith}
-use Rattle.std.proofs.Math.Nat.{zero-add, zero-mul, mod-lt}
+use Rattle.std.proofs.Common.{◌≡◌, List, ℕ, ◌*◌, ◌≤◌, length, sym, ap, ◌∙◌, arith}
+use Rattle.std.proofs.Math.Nat.{zero-add, zero-mul}
 use lib.Dec.{lit<}
 use lib.Seq.{take_all}
 use Rattle.field.specs.Power.{inverse}

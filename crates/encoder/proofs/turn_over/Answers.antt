@@ -1,6 +1,6 @@
 -- `encoder::turn_over` meets its contract: a turn stores a row of the first half, times its factor, in the second one, and all rows so stored are turned
 -- (proofs/Turning). Assumes nothing.
-use Rattle.std.proofs.Common.{◌≡◌, List, ◌++◌, ℕ, ◌+◌, ◌*◌, ◌≤◌, ◌<◌, length, get_or, take, ap, ◌∙◌, inl, arith}
+use Rattle.std.proofs.Common.{◌≡◌, List, ◌++◌, ℕ, ◌+◌, ◌*◌, ◌≤◌, ◌<◌, length, get_or, take, ap, ◌∙◌, arith}
 use Rattle.std.proofs.Math.Nat.{add-zero, zero-mul, add_assoc}
 use lib.Arith.{digits_div}
 use lib.Seq.{get_or-take}

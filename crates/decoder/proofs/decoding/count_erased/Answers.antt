@@ -1,5 +1,5 @@
 -- `decoder::decoding::count_erased` meets its contract. Assumes nothing.
-use Rattle.std.proofs.Common.{arith, rules, ◌≡◌, ◌^◌, ◌≤◌, ◌∙◌, sym, ap, suc, take, length}
+use Rattle.std.proofs.Common.{arith, rules, ◌≡◌, ◌^◌, ◌∙◌, sym, ap, suc, take}
 use Rattle.std.specs.List.{count_by}
 use Rattle.code.proofs.Shapes.{positions}
 use Rattle.logarithms.specs.Weights.{erased_to}

@@ -1,17 +1,17 @@
 -- `decoder::decoding::derive` meets its contract. Assumes nothing.
-use Rattle.std.proofs.Common.{arith, ◌≡◌, ◌*◌, ◌^◌, ◌≤◌, ◌∙◌, ℕ, sym, ap}
+use Rattle.std.proofs.Common.{arith, ◌≡◌, ◌*◌, ◌^◌, ◌≤◌, ◌∙◌, ℕ, ap}
 use native.Mathlib.Nat.{add-zero, zero-mul}
 use lib.Dec.{lit<}
 use lib.Pow.{pow_mono}
 use Rattle.field.specs.Residue.{plus, times}
 use Rattle.field.proofs.Laws.{times_lt}
-use Rattle.code.proofs.Lifting.{two_halves, row_in}
+use Rattle.code.proofs.Lifting.{two_halves}
 use Rattle.code.proofs.Shapes.{reversed_lt}
 use Rattle.code.proofs.RowLaws.{storing_rows_start, storing_rows_done}
 use Rattle.decoder.specs.steps.Decoder.{half_of}
 use Rattle.decoder.proofs.DecoderShapes.{few_levels}
 use Rattle.decoder.proofs.DecodeSteps.{derive_word, derive_factors, derive_rows}
-use Rattle.decoder.proofs.decoding.derive.Invariants.{room, words, turn}
+use Rattle.decoder.proofs.decoding.derive.Invariants.{words, turn}
 use Rattle.decoder.proofs.decoding.derive.Goals as goal
 
 half : (level : ℕ) {n b : ℕ} → n ≡ 2 ^ level → b ≡ times 65537 32769 n → b ≡ half_of 65537 level
@@ -29,18 +29,6 @@ loop-j-init c =
       b_is = half a.st.stripe.level c.block_count-rows.ensures c.mul-b.ensures;
       storing = rw (zero-mul w, add-zero (n * w)) (storing_rows_start (n * w) (derive_word 65537 a.st.stripe.level w a.part.now) n w a.part.now);
     }
-
-pub overflow_mul-low : goal.overflow_mul-low
-overflow_mul-low c = omega (arith, room c.loop-j.invariant c.loop-j-test.true)
-
-pub overflow_add-half : goal.overflow_add-half
-overflow_add-half c = omega (arith, room c.loop-j.invariant c.loop-j-test.true)
-
-pub derive_row-requires-clause-width_bound : goal.derive_row-requires-clause-width_bound
-derive_row-requires-clause-width_bound c = (
-  omega (arith, row_in c.args.st.stripe.width c.loop-j-test.true),
-  omega (arith, room c.loop-j.invariant c.loop-j-test.true, c.loop-j.invariant.storing.same),
-)
 
 pub add-a-requires : goal.add-a-requires
 add-a-requires c =

@@ -1,7 +1,7 @@
 -- The invariant of `decoder::decoding::derive`: the first j rows of the second half are written. Assumes nothing.
 use mathlib.Core.Path.{◌≡◌, ap}
 use mathlib.Core.List.{List}
-use Prim.Native.Nat.{ℕ, ◌+◌, ◌*◌, ◌^◌, ◌≤◌, ◌<◌}
+use Prim.Native.Nat.{ℕ, ◌+◌, ◌*◌, ◌^◌, ◌<◌}
 use native.Mathlib.Nat.{add_assoc}
 use native.Mathlib.Omega.{arith}
 use lib.Arith.{digits_div}
@@ -30,10 +30,6 @@ module _ {part₀ : List ℕ} {level width rows b : ℕ} {part : List ℕ} {j : 
   pub words : Words 65537 part₀ → Words 65537 part
   unfolding derive_word
   words u = storing_rows_words h.storing (lit< tt) u (λ q. minus_lt 65537 (lit< tt) _ _)
-
-  -- row j of either half ends inside
-  pub room : j < rows → rows * width + j * width + width ≤ length part₀
-  room l = omega (arith, h.long, row_in width l)
 
   -- a word of the row that is written
   pub word : {a : ℕ} → j < rows → a ≡ plus 65537 (Transform.reversed level j) b → (c : ℕ) → c < width

@@ -2,7 +2,7 @@
 use Rattle.std.proofs.Common.{arith}
 use lib.Dec.{lit<}
 use Rattle.field.proofs.Laws.{times_lt}
-use Rattle.code.proofs.RowLaws.{storing_start, storing_done}
+use Rattle.code.proofs.RowLaws.{storing_start}
 use Rattle.decoder.proofs.decoding.derive_row.Invariants.{low_word, high_word, turn}
 use Rattle.decoder.proofs.decoding.derive_row.Goals as goal
 
@@ -20,6 +20,3 @@ sub-requires c = (rw c.mul-s.ensures (times_lt 65537 (lit< tt) _ _), rw c.mul.en
 
 pub loop-j-preserved : goal.loop-j-preserved
 loop-j-preserved c = turn c.loop-j.invariant c.loop-j-test.true c.requires.width_bound.0 c.mul-s.ensures c.mul.ensures c.sub.ensures
-
-pub returns : goal.returns
-returns c = storing_done c.loop-j.invariant.storing c.loop-j-test.false

@@ -1,22 +1,13 @@
 -- `decoder::decoding::has_low_degree` meets its contract. Assumes nothing.
-use Rattle.std.proofs.Common.{◌∙◌, sym, arith}
-use Rattle.decoder.proofs.decoding.has_low_degree.Invariants.{start, room, turn, passed, tested, failed, done}
+use Rattle.std.proofs.Common.{◌∙◌, sym}
+use Rattle.decoder.proofs.decoding.has_low_degree.Invariants.{start, turn, passed, tested, failed}
 use Rattle.decoder.proofs.decoding.has_low_degree.Goals as goal
-use Rattle.decoder.proofs.decoding.has_low_degree.Goals.{else-erased-reversed-via-then-erased-reversed+else-not-same_row, else-erased-reversed-via-else-erased-reversed}
+use Rattle.decoder.proofs.decoding.has_low_degree.Goals.{else-erased-reversed-via-then-erased-reversed+else-not-same_row}
+use Rattle.decoder.proofs.decoding.has_low_degree.Goals.{else-erased-reversed-via-else-erased-reversed}
 
 pub loop-j-init : goal.loop-j-init
 loop-j-init c =
     start c.args.part.now c.args.st.stripe.level c.args.st.stripe.width c.args.erased c.block_count-rows.result c.block_count-rows.ensures c.requires
-
-pub overflow_mul-low : goal.overflow_mul-low
-overflow_mul-low c = omega (arith, room c.loop-j.invariant c.loop-j-test.true)
-
-pub overflow_add-high : goal.overflow_add-high
-overflow_add-high c = omega (arith, room c.loop-j.invariant c.loop-j-test.true)
-
-pub same_row-requires : goal.same_row-requires
-same_row-requires c =
-    (omega (arith, room c.loop-j.invariant c.loop-j-test.true), omega (arith, room c.loop-j.invariant c.loop-j-test.true))
 
 pub returns-then-not-same_row : goal.returns-then-not-same_row
 returns-then-not-same_row c =
@@ -33,6 +24,3 @@ loop-j-preserved c =
           tested h (rw c.reversed.ensures at w.if-erased-reversed.true) (sym w.if-not-same_row.false ∙ w.same_row.ensures)
       | else-erased-reversed-via-else-erased-reversed w ↦ passed h (rw c.reversed.ensures at w.if-erased-reversed.false)
     ])
-
-pub returns : goal.returns
-returns c = done c.loop-j.invariant c.loop-j-test.false

@@ -9,7 +9,7 @@ use borrow.Author.Tests.{lt-ltb, le-ltb}
 use lib.ListN.{length}
 use Rattle.code.specs.Transform.{reversed}
 use Rattle.decoder.specs.steps.RowTests.{all_to, same_at, low_row_at, low_rows}
-use Rattle.code.proofs.Lifting.{two_halves, row_in}
+use Rattle.code.proofs.Lifting.{two_halves}
 use Rattle.decoder.proofs.AllTo.{all_to_false}
 use Rattle.decoder.proofs.decoding.has_low_degree.Given as goal
 
@@ -24,10 +24,6 @@ unfolding all_to
 start part level width erased rows e l = record { turns = omega arith; rows_is = e; long = l ∙ rw e (two_halves level width); lows = refl }
 
 module _ {part : List ℕ} {level width erased rows j : ℕ} (h : Inv part level width erased rows j) where
-  -- row j of either half ends inside
-  pub room : j < rows → rows * width + j * width + width ≤ length part
-  room l = omega (arith, h.long, row_in width l)
-
   pub turn : j < rows → low_row_at level erased width part j ≡ true → Inv part level width erased rows (j + 1)
   unfolding all_to
   turn l e = record {
@@ -51,9 +47,6 @@ module _ {part : List ℕ} {level width erased rows j : ℕ} (h : Inv part level
 
   pub failed : j < rows → low_row_at level erased width part j ≡ false → false ≡ low_rows level erased width part
   failed l e = sym (all_to_false (2 ^ level) j (low_row_at level erased width part) (rw (← h.rows_is) l) e)
-
-  pub done : rows ≤ j → true ≡ low_rows level erased width part
-  done l = sym h.lows ∙ ap (λ (n : ℕ). all_to n (low_row_at level erased width part)) {x = j} {y = 2 ^ level} (omega (arith, h.rows_is))
 
 abbrev pub invariant-loop-j : goal.invariant-loop-j
 invariant-loop-j l = Inv l.part l.fn.st.stripe.level l.width l.erased l.rows l.j

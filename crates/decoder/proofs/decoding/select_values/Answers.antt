@@ -1,5 +1,5 @@
 -- `decoder::decoding::select_values` meets its contract. Assumes nothing.
-use Rattle.std.proofs.Common.{arith, ◌≡◌, ◌<◌, ◌≤◌, ◌+◌, ◌*◌, ◌∙◌, ℕ, length, ap, inr, zero-mul}
+use Rattle.std.proofs.Common.{arith, ◌≡◌, ◌<◌, ◌+◌, ◌*◌, ◌∙◌, ℕ, ap, zero-mul}
 use lib.Dec.{lit<}
 use Rattle.field.specs.Residue.{times}
 use Rattle.field.proofs.Laws.{times_lt}

@@ -1,6 +1,5 @@
 -- `weights::direct::add_row` meets its contract, by the laws of the loop that adds a row (proofs/DirectLaws). Assumes nothing.
 use Rattle.std.proofs.Common.{arith}
-use Rattle.code.proofs.RowLaws.{storing_done}
 use Rattle.weights.proofs.DirectLaws.{add_start, add_fits, add_turn}
 use Rattle.weights.proofs.direct.add_row.Goals as goal
 
@@ -12,6 +11,3 @@ overflow_add-part c = omega (arith, add_fits c.loop-e.invariant c.requires.by_in
 
 pub loop-e-preserved : goal.loop-e-preserved
 loop-e-preserved c = add_turn c.loop-e.invariant c.loop-e-test.true
-
-pub returns : goal.returns
-returns c = storing_done c.loop-e.invariant.storing c.loop-e-test.false

@@ -19,9 +19,6 @@ module _ {l j n f : ℕ} {ms : List Bool} {v : List ℕ} (h : Sums l ms j v) (co
   added : {w : List ℕ} → n ≤ length v → get_or ms j false ≡ true → w ≡ stored 0 (row_sum v (n + (n - f))) n v → Sums l ms (j + 1) w
   added room m e = row_added h (omega arith) ef (omega arith) count room m e
 
-pub loop-j-init : goal.loop-j-init
-loop-j-init c = c.requires.sums
-
 pub overflow_sub-ahead : goal.overflow_sub-ahead
 overflow_sub-ahead c = exponent_le c.loop-j.invariant c.count-count.ensures c.loop-j-test.true c.exponent-f.ensures
 
@@ -36,7 +33,3 @@ loop-j-preserved c =
           (added c.loop-j.invariant c.count-count.ensures c.loop-j-test.true w.exponent-f.ensures (omega arith) w.if-marks-j.true w.add_row.ensures)
       | else-marks-j w ↦ subst (Sums c.args.at.level c.args.marks.now (c.loop-j.j + 1)) (sym w.part-is) (row_skipped c.loop-j.invariant w.if-marks-j.false)
     ]
-
-pub returns : goal.returns
-returns c =
-    subst (λ (k : ℕ). Sums c.args.at.level c.args.marks.now k c.loop-j.part) {x = c.loop-j.j} {y = 2 ^ suc c.args.at.level} (omega arith) c.loop-j.invariant

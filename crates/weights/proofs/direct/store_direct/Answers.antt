@@ -11,7 +11,8 @@ add_rows-requires-clause-sums c =
     let n = c.count-count.result in
     let room : 3 * n ≤ length c.args.part.now = omega (arith, c.count-count.ensures, c.requires.room) in
     let zeros = stored_fill n 0 c.args.part.now (omega arith) (c.fill.ensures.after (λ y e. e)) in
-    let long : length c.load_terms.new.part ≡ length c.args.part.now = c.load_terms.auto.part ∙ ap length zeros ∙ length_stored 0 (always 0) n c.args.part.now in
+    let long : length c.load_terms.new.part ≡ length c.args.part.now =
+    c.load_terms.auto.part ∙ ap length zeros ∙ length_stored 0 (always 0) n c.args.part.now in
     sums_start c.args.at.level c.args.marks.now c.args.part.now _ c.load_terms.new.part _ c.requires.room c.count-count.ensures
     zeros c.load_terms.ensures
     (c.copy_within.ensures.after ∙ stored_within (2 * n) n n c.load_terms.new.part (omega arith) (omega arith) (omega arith)

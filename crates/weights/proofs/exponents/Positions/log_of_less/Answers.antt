@@ -1,6 +1,5 @@
 -- `weights::exponents::Positions::log_of_less` meets its contract: the entry is inside the table. Assumes nothing.
-use Rattle.std.proofs.Common.{List, ℕ, ◌*◌, ◌/◌, length, get_or, sym, ap, ap₂, ◌∙◌, arith}
-use Rattle.logarithms.proofs.Logarithms.{length_logs}
+use Rattle.std.proofs.Common.{List, ℕ, ◌*◌, ◌/◌, get_or, sym, ap, ap₂, ◌∙◌, arith}
 use Rattle.weights.proofs.ExponentLaws.{entry_in, log_of_less_is}
 use Rattle.weights.proofs.exponents.Positions.log_of_less.Goals as goal
 
