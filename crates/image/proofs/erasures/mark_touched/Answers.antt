@@ -49,9 +49,6 @@ slice_bounds-fill-start c =
     let j = (goal.at.slice_bounds-fill-start c).Joined-end-last in
     omega (arith, rises j, ends j)
 
-pub slice_bounds-fill-end : goal.slice_bounds-fill-end
-slice_bounds-fill-end c = ends (goal.at.slice_bounds-fill-end c).Joined-end-last
-
 pub returns : goal.returns
 returns c =
     let j = (goal.at.returns c).Joined-end-last in

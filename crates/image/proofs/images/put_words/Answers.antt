@@ -1,6 +1,5 @@
 -- `image::images::put_words` meets its contract. Assumes nothing.
 use Rattle.std.proofs.Common.{◌≡◌, sym, ap, ap₂, ◌∙◌, ℕ, suc, ◌+◌, ◌*◌, ◌<◌, ◌≤◌, List, length, get_or, drop, drop-cons, add-one, arith}
-use native.Mathlib.Nat.{add-zero}
 use lib.Seq.{drop-length}
 use Rattle.std.proofs.lemmas.List.Edits.{sets}
 use Rattle.field.proofs.WordLists.{sets_append}
@@ -23,9 +22,6 @@ unfolding bytes_of
 done l words to i h b =
     let e : i ≡ length words = omega arith in
     ap (λ (ws : List ℕ). sets l to (bytes_of ws)) (ap (λ (n : ℕ). drop n words) e ∙ drop-length words)
-
-pub loop-i-init : goal.loop-i-init
-loop-i-init c = ap (λ (n : ℕ). sets c.args.bytes.now n (bytes_of c.args.words.now)) (add-zero c.args.at)
 
 pub loop-i-preserved : goal.loop-i-preserved
 loop-i-preserved c =

@@ -1,6 +1,6 @@
 -- `image::loading::load` meets its contract, by the loop that stores rows of code/proofs/RowLaws and the one that tests them of proofs/StripeLoads. Assumes
 -- nothing.
-use Rattle.std.proofs.Common.{refl, sym, ap, ◌∙◌, subst, ℕ, ◌≡◌, ◌+◌, ◌*◌, ◌^◌, ◌≤◌, ◌<◌, ◌++◌, suc, Bool, ◌&&◌, ◌-◌, List, length, take, drop, replicate, get_or, zero-mul, lit<, arith}
+use Rattle.std.proofs.Common.{refl, sym, ap, ◌∙◌, subst, ℕ, ◌≡◌, ◌+◌, ◌*◌, ◌≤◌, ◌++◌, Bool, ◌&&◌, ◌-◌, List, length, take, drop, replicate, get_or, zero-mul, lit<, arith}
 use mathlib.Core.Bool.{and-true}
 use borrow.Rule.Slice.PartMut.{put_mid}
 use lib.ListN.{length-replicate, get_or-replicate, length-drop}
@@ -25,24 +25,12 @@ zeros_stored to n l {x} h e =
     stored_part to (λ k. 0) n (to + n - to) l x (omega arith) h (ap length e ∙ length-replicate m 0 ∙ long)
     (λ i b. ap (λ (y : List ℕ). get_or y i 0) e ∙ get_or-replicate m i 0 0 (omega (arith, long)))
 
--- row i ends inside the stripe
-row_ends : (level rows width words i : ℕ) → rows ≡ 2 ^ (level + 1) → words ≡ 2 ^ suc level * width → i < rows → i * width + width ≤ words
-row_ends level rows width words i e f b = rw (f, ← positions level e) (row_in width b)
-
 pub loop-i-init : goal.loop-i-init
 loop-i-init g c = record {
   rows = rw (zero-mul c.args.range.cols) (storing_rows_start 0 _ _ _ _);
   all_in_field = λ z. rows_start _ _ _ _;
   untested = λ z. refl;
 }
-
-pub overflow_mul-at : goal.overflow_mul-at
-overflow_mul-at g c =
-    omega (arith, row_ends c.args.st.level c.two_to-rows.result c.args.st.width _ c.loop-i.i c.two_to-rows.ensures refl c.loop-i-test.true, c.requires.size)
-
-pub overflow_add-at : goal.overflow_add-at
-overflow_add-at g c =
-    omega (arith, row_ends c.args.st.level c.two_to-rows.result c.args.st.width _ c.loop-i.i c.two_to-rows.ensures refl c.loop-i-test.true, c.requires.size)
 
 pub loop-i-preserved : goal.loop-i-preserved
 loop-i-preserved g c =
@@ -89,9 +77,6 @@ returns-clause-first g c z =
     rows_end (c.loop-i.invariant.all_in_field z) c.loop-i-test.false
     ∙ ap (λ (n : ℕ). are_below 65537 (table (n * a.st.width) (surviving_at a.st.width a.marks.now (g.S.Source.words a.source))))
     (positions a.st.level c.two_to-rows.ensures)
-
-pub returns-clause-later : goal.returns-clause-later
-returns-clause-later g c z = c.loop-i.invariant.untested z
 
 pub returns-clause-part_after : goal.returns-clause-part_after
 unfolding columns_of
