@@ -7,7 +7,13 @@ use test_case_buffers::state::State;
 use vault::{Header, Verdict, calls};
 
 // A number and the header that came with it; an accepted call's header is that of the calls that follow.
-fn answer(state: &mut State, out: &mut impl Write, name: &str, number: u32, h: Header) -> io::Result<()> {
+fn answer(
+    state: &mut State,
+    out: &mut impl Write,
+    name: &str,
+    number: u32,
+    h: Header,
+) -> io::Result<()> {
     if number == 0 {
         state.header = h;
     }
@@ -16,7 +22,13 @@ fn answer(state: &mut State, out: &mut impl Write, name: &str, number: u32, h: H
 
 pub(crate) fn open(state: &mut State, out: &mut impl Write) -> io::Result<()> {
     let Header { k, s, .. } = state.header;
-    let a = calls::open(k, s, state.raw.part(), state.full.part_mut(), state.log.part_mut());
+    let a = calls::open(
+        k,
+        s,
+        state.raw.part(),
+        state.full.part_mut(),
+        state.log.part_mut(),
+    );
     answer(state, out, "open", a.number, a.header)?;
     output::words(out, " full", state.full.part())?;
     output::words(out, " log", state.log.part())
@@ -39,7 +51,11 @@ pub(crate) fn write(state: &mut State, record: u32, out: &mut impl Write) -> io:
 
 pub(crate) fn read(state: &State, record: u32, out: &mut impl Write) -> io::Result<()> {
     let raw = state.raw.part();
-    output::all(out, "read", &[calls::read_number(state.header, raw, record)])?;
+    output::all(
+        out,
+        "read",
+        &[calls::read_number(state.header, raw, record)],
+    )?;
     output::words(out, " part", calls::read(state.header, raw, record))
 }
 

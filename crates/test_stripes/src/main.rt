@@ -20,6 +20,15 @@ enum Refusal {
     Inconsistent,
 }
 
+// Codes the blocks that stand in the first half of a stripe.
+fn code(part: &mut [u32], st: Stripe)
+    requires numbers { Numbers st }
+    requires part_len { length part.old ≡ stripe_words st }
+    requires words { Words (modulus_of st) part.old }
+{
+    encoder::code(part, st);
+}
+
 // Decodes a stripe in place, where at least half of its positions survive.
 fn decode(part: &mut [u32], marks: &[bool], st: Stripe) -> Result<(), Refusal>
     requires numbers { Numbers st }
@@ -70,11 +79,16 @@ fn print(out: &mut impl Write, words: &[u32]) -> io::Result<()> {
     writeln!(out)
 }
 
-// One case; nothing where there is no stripe of its numbers. The blocks that are coded stand in the first half.
+// One case; nothing where there is no stripe of its numbers.
 fn run_case(alloc: Global, input: &mut impl Read, out: &mut impl Write) -> io::Result<()> {
     let [kind, level, k, width, low, high] = input::bytes::<6>(input)?;
     let first = u16::from_le_bytes([low, high]);
-    let numbers = stripe(usize::from(level), usize::from(k), usize::from(width), usize::from(first));
+    let numbers = stripe(
+        usize::from(level),
+        usize::from(k),
+        usize::from(width),
+        usize::from(first),
+    );
     let Some(st) = numbers else {
         return Ok(());
     };
@@ -90,7 +104,7 @@ fn run_case(alloc: Global, input: &mut impl Read, out: &mut impl Write) -> io::R
         }
     } else {
         input::words(input, &mut part)?;
-        encoder::code(&mut part, st);
+        code(&mut part, st);
     }
     print(out, &part)
 }

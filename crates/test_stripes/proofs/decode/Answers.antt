@@ -1,0 +1,37 @@
+-- `test_stripes::decode` is safe and ends: it decodes only where its count of erased positions shows that half survive, and its factors are the logarithms of the
+-- weights with zeros behind them. Assumes nothing.
+use Rattle.std.proofs.Common.{◌≤◌, ℕ, List, suc, drop, replicate, arith}
+use lib.Dec.{lit<}
+use lib.Pow.{pow_mono}
+use Rattle.field.specs.Words.{Words}
+use Rattle.field.proofs.WordLists.{words_replicate, words_drop}
+use Rattle.code.specs.declared.Stripe.{Stripe}
+use Rattle.code.specs.Stripe.{Numbers, position_count}
+use Rattle.decoder.proofs.Survivors.{enough, erased_half}
+use Rattle.decoder.proofs.FactorWords.{logs_factors}
+use Rattle.test_stripes.proofs.decode.Goals as goal
+
+room : (st : Stripe) → Numbers st → position_count st ≤ 2048
+room st n = pow_mono {i = suc st.level} {j = 11} (omega (arith, n.within, n.small))
+
+-- what stands behind the logarithms
+abbrev behind : Stripe → List ℕ
+behind st = drop (position_count st) (replicate 2048 0)
+
+words_behind : (st : Stripe) → Words 65536 (behind st)
+words_behind st = words_drop 65536 (lit< tt) (position_count st) (words_replicate 65536 (lit< tt) 2048 0 (lit< tt))
+
+pub store_logs-requires-clause-level_bound_2 : goal.store_logs-requires-clause-level_bound_2
+store_logs-requires-clause-level_bound_2 c =
+    erased_half _ _ (enough c.args.st.level c.args.marks.now (omega (arith, c.requires.marks_len, c.count_erased-erased.ensures, c.if-marks-erased.false)))
+
+pub store_logs-requires-clause-logs_len : goal.store_logs-requires-clause-logs_len
+store_logs-requires-clause-logs_len c = room c.args.st c.requires.numbers
+
+pub store_logs-requires-clause-room : goal.store_logs-requires-clause-room
+store_logs-requires-clause-room c = omega (arith, room c.args.st c.requires.numbers)
+
+pub decode-requires-clause-factors_are : goal.decode-requires-clause-factors_are
+decode-requires-clause-factors_are c =
+    let st = c.args.st in
+    rw c.store_logs.ensures (logs_factors st c.args.marks.now (behind st) c.requires.numbers (words_behind st))
