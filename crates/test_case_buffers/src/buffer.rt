@@ -1,5 +1,5 @@
 // A buffer of words or bytes, of which a part is lent to calls.
-use crate::draw::Draw;
+use crate::draw;
 use std::alloc::{AllocError, Global};
 
 /// A buffer of which so many elements are lent, at most all.
@@ -41,9 +41,9 @@ impl<T: Copy> Buffer<T> {
 impl Buffer<u32> {
     // Fills what is lent with words below a bound, drawn from a seed; 0: any words.
     pub(crate) fn fill(&mut self, bound: u32, seed: u32) {
-        for (word, drawn) in self.part_mut().iter_mut().zip(Draw::new(seed)) {
-            *word = drawn.checked_rem(bound).unwrap_or(drawn);
-        }
+        draw::fill(self.part_mut(), seed, |drawn| {
+            drawn.checked_rem(bound).unwrap_or(drawn)
+        });
     }
 }
 
@@ -56,8 +56,6 @@ impl Buffer<u8> {
         let Some((part, _)) = behind.split_at_mut_checked(count) else {
             return;
         };
-        for (byte, drawn) in part.iter_mut().zip(Draw::new(seed)) {
-            *byte = (drawn % 256) as u8;
-        }
+        draw::fill(part, seed, |drawn| (drawn % 256) as u8);
     }
 }

@@ -102,13 +102,14 @@ pub enum Call {
     Powers,
 }
 
+/// What a test does.
 #[derive(Drop)]
 pub enum Command {
     Change(Change),
     Call(Call),
 }
 
-/// A number of four bytes, low byte first.
+// A number of four bytes, low byte first.
 pub fn read_number(input: &mut impl Read) -> io::Result<u32> {
     let mut bytes = [0; 4];
     input.read_exact(&mut bytes)?;
@@ -122,7 +123,7 @@ fn read_bytes(alloc: Global, input: &mut impl Read, count: u32) -> io::Result<Ve
 }
 
 impl Command {
-    /// The next command: a byte for its kind, three numbers, and the bytes that it loads. None where its numbers name nothing.
+    // The next command: a byte for its kind, three numbers, and the bytes that it loads. None where its numbers name nothing.
     pub fn read(alloc: Global, input: &mut impl Read) -> io::Result<Option<Command>> {
         let mut kind = [0];
         input.read_exact(&mut kind)?;

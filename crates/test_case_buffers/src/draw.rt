@@ -10,12 +10,12 @@ fn drawn(state: u32) -> u32
 
 /// The numbers after a seed, without end.
 #[derive(Drop)]
-pub(crate) struct Draw {
+struct Draw {
     state: u32,
 }
 
 impl Draw {
-    pub(crate) fn new(seed: u32) -> Draw {
+    fn new(seed: u32) -> Draw {
         Draw {
             state: drawn(seed % 2147483646 + 1),
         }
@@ -30,5 +30,14 @@ impl Iterator for Draw {
         let number = self.state.wrapping_mul(65539);
         self.state = drawn(self.state);
         Some(number)
+    }
+}
+
+// Each element becomes what `of` makes of the next number.
+pub(crate) fn fill<T: Copy, F: Fn(u32) -> T>(part: &mut [T], seed: u32, of: F)
+    requires { F.IsAlwaysCallable of }
+{
+    for (x, number) in part.iter_mut().zip(Draw::new(seed)) {
+        *x = of(number);
     }
 }

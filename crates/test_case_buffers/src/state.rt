@@ -19,7 +19,7 @@ pub struct State {
 }
 
 impl State {
-    /// Zeros, of which nothing is lent.
+    // Zeros, of which nothing is lent.
     pub fn new(alloc: Global) -> Result<State, AllocError> {
         Ok(State {
             header: Header { k: 0, s: 0, c: 0 },

@@ -10,7 +10,7 @@ use std::io::Write;
 use test_case_buffers::command::Call;
 use test_case_buffers::state::State;
 
-/// Makes a call, and prints what it answers and leaves.
+// Makes a call, and prints what it answers and leaves.
 pub fn make(alloc: Global, state: &mut State, call: Call, out: &mut impl Write) -> io::Result<()> {
     match call {
         Call::Open => calls::open(state, out),

@@ -15,7 +15,8 @@ powers_none p x = refl
 powers_more : (p x i : ℕ) → powers_of p x (i + 1) ≡ powers_of p x i ++ (power p x i ∷ [])
 unfolding powers_of table
 powers_more p x i =
-    table_append i 1 (power p x) (λ k. power p x (i + k)) (λ k b. refl) ∙ ap (λ (k : ℕ). powers_of p x i ++ (power p x k ∷ [])) {x = i + 0} {y = i} (omega arith)
+    table_append i 1 (power p x) (λ k. power p x (i + k)) (λ k b. refl)
+    ∙ ap (λ (k : ℕ). powers_of p x i ++ (power p x k ∷ [])) {x = i + 0} {y = i} (omega arith)
 
 pub loop-i-init : goal.loop-i-init
 loop-i-init c = (sym (power_zero 65537 (omega arith) c.args.x), c.new-powers.ensures.items ∙ powers_none 65537 c.args.x)
@@ -31,6 +32,3 @@ loop-i-preserved c =
       c.mul-power.ensures ∙ ap (times 65537 x) here ∙ sym (power_suc 65537 (omega arith) x i) ∙ ap (power 65537 x) (sym (add-one i)),
       c.in_ok-push.ensures.items ∙ ap₂ (λ (l : List ℕ) (y : ℕ). l ++ (y ∷ [])) so_far here ∙ sym (powers_more 65537 x i),
     )
-
-pub returns : goal.returns
-returns c = c.loop-i.invariant.1 ∙ ap (powers_of 65537 c.args.x) (omega (arith, c.loop-i-test.false, c.loop-i.auto._i-end))

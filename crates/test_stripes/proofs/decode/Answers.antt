@@ -1,5 +1,5 @@
--- `test_stripes::decode` is safe and ends: it decodes only where its count of erased positions shows that half survive, and its factors are the logarithms of the
--- weights with zeros behind them. Assumes nothing.
+-- `test_stripes::decode` is safe and ends: it decodes only where its count of erased positions shows that half survive, and its factors are the logarithms of
+-- the weights with zeros behind them. Assumes nothing.
 use Rattle.std.proofs.Common.{◌≤◌, ℕ, List, suc, drop, replicate, arith}
 use lib.Dec.{lit<}
 use lib.Pow.{pow_mono}
