@@ -5,6 +5,14 @@ use crate::rack::Rack;
 use layout::places;
 use std::fmt;
 
+// The words of a position, a space before each, and the line's end.
+fn words<W: fmt::Write>(f: &mut fmt::Formatter<W>, row: &[u32]) -> fmt::Result {
+    for word in row {
+        write!(f, " {word}")?;
+    }
+    writeln!(f)
+}
+
 // A stripe's name and its words, of which each position has `width`.
 #[derive(Clone, Copy)]
 struct Stripe<'a> {
@@ -18,10 +26,7 @@ impl fmt::Display for Stripe<'_> {
     fn fmt<W: fmt::Write>(&self, f: &mut fmt::Formatter<W>) -> fmt::Result {
         for (position, row) in self.words.chunks_exact(self.width).enumerate() {
             write!(f, "{} {position}", self.name)?;
-            for word in row {
-                write!(f, " {word}")?;
-            }
-            writeln!(f)?;
+            words(f, row)?;
         }
         Ok(())
     }

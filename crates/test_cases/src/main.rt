@@ -7,7 +7,7 @@ use std::io::{BufReader, BufWriter, Read, Write};
 use test_case_buffers::command::{self, Command};
 use test_case_buffers::state::State;
 
-// All commands: their count, and then each. Where the input has ended, zeros are read.
+// All commands: their count, and then each, but for those whose numbers name nothing. Where the input has ended, zeros are read.
 fn main(rt: HostRuntime) -> io::Result<()> {
     let alloc = rt.alloc();
     let mut input = BufReader::new(alloc, rt.reader())?.chain(io::repeat(0));
