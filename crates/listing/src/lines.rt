@@ -1,78 +1,58 @@
-// The lines of a listing: one for each position of a stripe.
-ghost use Rattle.std.specs.Prelude.{◌≡◌, ◌+◌, ◌≤◌, ◌<◌, length};
+// The lines of a listing: one for each position of the full stripe and of the filled levels.
+ghost use Rattle.std.specs.Prelude.{◌<◌};
 
-use crate::text;
+use crate::rack::Rack;
+use layout::places;
+use std::fmt;
 
-// One position: the stripe's name, the position, its words.
-fn line(out: &mut [u8], at: usize, name: u8, position: usize, row: &[u32]) -> usize
-    requires at_in_bounds { at ≤ length out.old }
-    requires position_bound { position < 65536 }
-    ensures upper_bound { result ≤ length out.old }
-    ensures out_len_unchanged { length out.new ≡ length out.old }
-{
-    let named = text::byte(out, at, name);
-    let spaced = text::byte(out, named, b' ');
-    let placed = text::number(out, spaced, position as u32);
-    let worded = text::words(out, placed, row);
-    text::byte(out, worded, b'\n')
+// The words of a position, a space before each, and the line's end.
+fn words<W: fmt::Write>(f: &mut fmt::Formatter<W>, row: &[u32]) -> fmt::Result {
+    for word in row {
+        write!(f, " {word}")?;
+    }
+    writeln!(f)
 }
 
-// All positions of a stripe, which have `width` words each.
-pub(crate) fn stripe(out: &mut [u8], at: usize, name: u8, words: &[u32], width: usize) -> usize
-    requires at_in_bounds { at ≤ length out.old }
-    requires words_len_bound { length words.now ≤ 65536 }
-    ensures upper_bound { result ≤ length out.old }
-    ensures out_len_unchanged { length out.new ≡ length out.old }
-{
-    if width == 0 {
-        return at;
-    }
-    let mut to = at;
-    let mut from = 0;
-    let mut position = 0;
-    while width <= words.len() - from {
-        let end = from + width;
-        to = line(out, to, name, position, &words[from..end]);
-        from = end;
-        position += 1;
-    }
-    to
+// A stripe's name and its words, of which each position has `width`.
+#[derive(Clone, Copy)]
+struct Stripe<'a> {
+    name: char,
+    words: &'a [u32],
+    width: usize,
+    ghost wide: { 0 < width },
 }
 
-// A level, if it is filled: if the lowest bit is 1.
-fn level(out: &mut [u8], at: usize, bits: u32, name: u8, words: &[u32], width: usize) -> usize
-    requires at_in_bounds { at ≤ length out.old }
-    requires words_len_bound { length words.now ≤ 65536 }
-    ensures upper_bound { result ≤ length out.old }
-    ensures out_len_unchanged { length out.new ≡ length out.old }
-{
-    if bits % 2 == 0 {
-        return at;
-    }
-    stripe(out, at, name, words, width)
-}
-
-// The filled levels, upward: those whose bit of c is 1.
-pub(crate) fn levels(out: &mut [u8], at: usize, log: &[u32], k: u32, c: u32, width: usize) -> usize
-    requires at_in_bounds { at ≤ length out.old }
-    requires k_bound { (k ≤ 5) × (width ≤ 65536) }
-    requires log_len_bound { length log.now ≤ 65536 }
-    ensures upper_bound { result ≤ length out.old }
-    ensures out_len_unchanged { length out.new ≡ length out.old }
-{
-    let mut to = at;
-    let mut bits = c;
-    let mut from = 0;
-    let mut size = width + width;
-    for l in 0..k {
-        if log.len() - from < size {
-            return to;
+impl fmt::Display for Stripe<'_> {
+    fn fmt<W: fmt::Write>(&self, f: &mut fmt::Formatter<W>) -> fmt::Result {
+        for (position, row) in self.words.chunks_exact(self.width).enumerate() {
+            write!(f, "{} {position}", self.name)?;
+            words(f, row)?;
         }
-        let end = from + size;
-        to = level(out, to, bits, b'0' + l as u8, &log[from..end], width);
-        bits = bits / 2;
-        from = end;
-        size = size + size;
+        Ok(())
     }
-    to
+}
+
+impl fmt::Display for Rack {
+    fn fmt<W: fmt::Write>(&self, f: &mut fmt::Formatter<W>) -> fmt::Result {
+        let width = self.header.s as usize + 1;
+        let full = Stripe {
+            name: 'C',
+            words: &self.full,
+            width,
+        };
+        write!(f, "{full}")?;
+        let mut rest = self.log.as_slice();
+        for level in 0..5u8 {
+            let Some((words, above)) = rest.split_at_checked(width << (level + 1)) else {
+                break;
+            };
+            if places::is_filled(self.header, usize::from(level)) {
+                let name = char::from(b'0' + level);
+                let stripe = Stripe { name, words, width };
+                write!(f, "{stripe}")?;
+            }
+            rest = above;
+        }
+        Ok(())
+    }
 }

@@ -1,19 +1,38 @@
-// Numbers as text, one to a line (`lines`, specs/Text), as the programs that print tables put them into a buffer.
+// What the programs that print tables share: the powers of a number, and numbers as text, one to a line (`lines`, specs/Text).
 #![tactic(auto)]
 
-ghost use Rattle.std.specs.Prelude.{◌≡◌, ◌∷◌, [], ◌++◌, ◌+◌, ◌≤◌, ◌<◌, length, take};
+ghost use Rattle.std.specs.Prelude.{◌≡◌, ◌<◌, Some, IfOk};
+ghost use Rattle.field.specs.Field.{fermat, powers_of};
 ghost use Rattle.print_lines.specs.Text.{lines};
 
-// Puts the line of a number of at most five digits into the buffer from index `at` on, and gives the index after it.
-pub fn put_line(out: &mut [u8], at: usize, n: u32) -> usize
-    requires { (n < 100000) × (at + 6 ≤ length out.old) }
-    ensures upper_bound { result ≤ at + 6 }
-    ensures out_after { take result out.new ≡ take at out.old ++ lines (n ∷ []) }
+use std::alloc::{AllocError, Global};
+use std::fmt;
+
+// The first powers of x, from that at 0 on; each is the one before times x.
+pub fn powers(alloc: Global, x: u32, count: usize) -> Result<Vec<u32>, AllocError>
+    requires { x < fermat.modulus }
+    ensures { IfOk result (λ v. v.items ≡ powers_of fermat.modulus x count) }
 {
-    let mut digits = [0u8; 20];
-    let count = io::decimal(n as u64, &mut digits);
-    let end = at + count;
-    out[at..end].copy_from_slice(&digits[..count]);
-    out[end] = b'\n';
-    end + 1
+    let mut powers = Vec::new(alloc);
+    let mut power = 1;
+    for _i in 0..count {
+        powers.push(power)?;
+        power = field::mul(x, power);
+    }
+    Ok(powers)
+}
+
+/// Numbers that are displayed in lines.
+#[derive(Clone, Copy)]
+pub struct Lines<'a>(pub &'a [u32]);
+
+impl fmt::Display for Lines<'_> {
+    ghost output = { λ l. Some (lines l.0.now) };
+
+    fn fmt<W: fmt::Write>(&self, f: &mut fmt::Formatter<W>) -> fmt::Result {
+        for &n in self.0 {
+            writeln!(f, "{n}")?;
+        }
+        Ok(())
+    }
 }

@@ -1,12 +1,15 @@
 // The program that prints the table of logarithms (`log_table`, logarithms/specs/Logarithms), one number to a line, computed from 3 and 3^32 alone.
 #![tactic(auto)]
 
-ghost use Rattle.std.specs.Prelude.{◌≡◌, ◌≤◌, length, take};
+ghost use Rattle.std.specs.Prelude.{◌≡◌, ◌<◌, All, IfOk, map, string_bytes};
+ghost use Rattle.field.specs.Residue.{minus};
 ghost use Rattle.field.specs.Field.{fermat};
 ghost use Rattle.print_lines.specs.Text.{lines};
 ghost use Rattle.logarithms.specs.Logarithms.{log_table};
 ghost use Rattle.logarithms.specs.Logarithms;
 
+use print_lines::Lines;
+use std::alloc::{AllocError, Global};
 use std::io;
 
 // Looks for the exponent from 0 up, one product a turn.
@@ -23,33 +26,35 @@ fn logarithm(x: u32) -> u32
     0
 }
 
-// Puts the lines of the table into the buffer, which has room for 2048 lines of 6 bytes, and gives their length. Each power of u = 3^32 is the one before
-// times u.
-fn put_table(out: &mut [u8]) -> usize
-    requires { 12288 ≤ length out.old }
-    ensures prefix_len { (result ≤ length out.new) × (result ≡ length (take result out.new)) }
-    ensures out_after { take result out.new ≡ lines log_table }
+// The logarithm of each power less 1.
+fn logarithms(alloc: Global, powers: &[u32]) -> Result<Vec<u32>, AllocError>
+    requires { All (λ y. y < fermat.modulus) powers.now }
+    ensures { IfOk result (λ v. v.items ≡ map (λ y. Logarithms.logarithm fermat.modulus fermat.generator (minus fermat.modulus y 1)) powers.now) }
+{
+    powers
+        .iter()
+        .map(|&power| logarithm(field::sub(power, 1)))
+        .collect(alloc)
+}
+
+// The text of the table.
+fn table_text(alloc: Global) -> Result<String, AllocError>
+    ensures { IfOk result (λ text. string_bytes text ≡ lines log_table) }
 {
     let u = field::power(3, 32);
-    let mut power = 1;
-    let mut to = 0;
-    for d in 0..2048usize {
-        let entry = logarithm(field::sub(power, 1));
-        to = print_lines::put_line(out, to, entry);
-        power = field::mul(u, power);
-    }
-    to
+    let powers = print_lines::powers(alloc, u, 2048)?;
+    let table = logarithms(alloc, &powers)?;
+    Lines(&table).to_string(alloc)
 }
 
 // Writes the table's text to standard output. No contract can say what a call writes: this one says what is handed to the call.
-fn print(rt: &impl Print, text: &[u8]) -> io::Result<()>
+fn print(rt: &impl Print, text: &str) -> io::Result<()>
     requires { text.now ≡ lines log_table }
 {
-    Print::write_all(rt, text)
+    rt.print(text)
 }
 
 fn main(rt: HostRuntime) -> io::Result<()> {
-    let mut text = [0u8; 12288];
-    let length = put_table(&mut text);
-    print(&rt, &text[..length])
+    let text = table_text(rt.alloc())?;
+    print(&rt, &text)
 }

@@ -1,37 +1,31 @@
 // The program that prints the table of powers (`power_table`, field/specs/Field), one number to a line, computed from 3^32 alone.
 #![tactic(auto)]
 
-ghost use Rattle.std.specs.Prelude.{◌≡◌, ◌≤◌, length, take};
+ghost use Rattle.std.specs.Prelude.{◌≡◌, IfOk, string_bytes};
 ghost use Rattle.field.specs.Field.{power_table};
 ghost use Rattle.print_lines.specs.Text.{lines};
 
+use print_lines::Lines;
+use std::alloc::{AllocError, Global};
 use std::io;
 
-// Puts the lines of the table into the buffer, which has room for 2048 lines of 6 bytes, and gives their length. Each entry is the one before times 3^32.
-fn put_table(out: &mut [u8]) -> usize
-    requires { 12288 ≤ length out.old }
-    ensures prefix_len { (result ≤ length out.new) × (result ≡ length (take result out.new)) }
-    ensures out_after { take result out.new ≡ lines power_table }
+// The text of the table.
+fn table_text(alloc: Global) -> Result<String, AllocError>
+    ensures { IfOk result (λ text. string_bytes text ≡ lines power_table) }
 {
     let x = field::power(3, 32);
-    let mut entry = 1;
-    let mut to = 0;
-    for i in 0..2048usize {
-        to = print_lines::put_line(out, to, entry);
-        entry = field::mul(x, entry);
-    }
-    to
+    let table = print_lines::powers(alloc, x, 2048)?;
+    Lines(&table).to_string(alloc)
 }
 
 // Writes the table's text to standard output. No contract can say what a call writes: this one says what is handed to the call.
-fn print(rt: &impl Print, text: &[u8]) -> io::Result<()>
+fn print(rt: &impl Print, text: &str) -> io::Result<()>
     requires { text.now ≡ lines power_table }
 {
-    Print::write_all(rt, text)
+    rt.print(text)
 }
 
 fn main(rt: HostRuntime) -> io::Result<()> {
-    let mut text = [0u8; 12288];
-    let length = put_table(&mut text);
-    print(&rt, &text[..length])
+    let text = table_text(rt.alloc())?;
+    print(&rt, &text)
 }

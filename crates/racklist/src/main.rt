@@ -1,38 +1,24 @@
 // The program `racklist` (docs/FORMAT.md, section 13): lists the vault that standard input describes. What it prints is compared, not proved.
 #![tactic(auto)]
 
-ghost use Rattle.std.specs.Prelude.{◌≤◌, ◌<◌, length};
+use std::alloc::Global;
+use std::io;
+use std::io::Read;
 
-fn size(x: u8) -> usize
-    ensures { result < 256 }
-{
-    x as usize
+// The bytes of k, s and at most 256 writes. What follows them is not read, nor anything after an s that is refused.
+fn read(alloc: Global, input: &mut impl Read) -> io::Result<Vec<u8>> {
+    let mut bytes = Vec::new(alloc);
+    input.by_ref().take(2).read_to_end(&mut bytes)?;
+    let writes = match bytes.as_slice() {
+        [_, s @ 1..=16] => 256 * (2 + 2 * u64::from(*s)),
+        _ => 0,
+    };
+    input.by_ref().take(writes).read_to_end(&mut bytes)?;
+    Ok(bytes)
 }
 
-// Reads k, s and the bytes of at most 256 writes. What follows them is not read, nor anything after an s that is refused.
-fn read(input: &mut [u8]) -> usize
-    ensures { result ≤ length input.new }
-{
-    if input.len() < 8706 {
-        return 0;
-    }
-    let count = io::read_full(0, &mut input[..2]);
-    if count < 2 {
-        return count;
-    }
-    let s = size(input[1]);
-    if 16 < s {
-        return 2;
-    }
-    let end = 2 + 256 * (2 + 2 * s);
-    2 + io::read_full(0, &mut input[2..end])
-}
-
-// The input has at most 2 bytes and 256 writes of 34, the listing at most 126 lines of 107 bytes.
-fn main() {
-    let mut input = [0u8; 8706];
-    let mut text = [0u8; 13482];
-    let count = read(&mut input);
-    let length = listing::list(&input[..count], &mut text);
-    io::write_all(1, &text[..length]);
+fn main(rt: HostRuntime) -> io::Result<()> {
+    let bytes = read(rt.alloc(), &mut rt.reader())?;
+    let text = listing::list(rt.alloc(), &bytes)?;
+    print!(rt; "{text}")
 }

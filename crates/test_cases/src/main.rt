@@ -2,28 +2,23 @@
 // by `cases` of reference/, whose modules script and machine describe both formats. What is printed is compared, not proved.
 #![tactic(auto)]
 
-use test_case_buffers::{edits, input};
+use std::io;
+use std::io::{BufReader, BufWriter, Read, Write};
+use test_case_buffers::command::{self, Command};
+use test_case_buffers::state::State;
 
-// All commands: their count, and then each. Each function takes the commands of its kinds.
-fn main() {
-    let mut numbers = [0u32; 11];
-    let mut raw = [0u32; 4096];
-    let mut full = [0u32; 8192];
-    let mut log = [0u32; 8192];
-    let mut block = [0u32; 256];
-    let mut out = [0u32; 4096];
-    let mut scratch = [0u32; 8192];
-    let mut image = [0u8; 65536];
-    let mut list = [0u8; 16384];
-    let count = input::number();
-    for i in 0..count {
-        let command = input::command();
-        edits::set(&mut numbers, command);
-        edits::held(&numbers, &mut raw, &mut full, &mut log, &mut block, command);
-        edits::lent(&numbers, &mut out, &mut scratch, command);
-        edits::bytes(&mut image, &mut list, command);
-        test_case_calls::on_records(&mut numbers, &mut raw, &mut full, &mut log, &block, command);
-        test_case_calls::image(&numbers, &full, &log, &mut image, command);
-        test_case_calls::on_image(&numbers, &mut image, &list, &mut out, &mut scratch, command);
+// All commands: their count, and then each, but for those whose numbers name nothing. Where the input has ended, zeros are read.
+fn main(rt: HostRuntime) -> io::Result<()> {
+    let alloc = rt.alloc();
+    let mut input = BufReader::new(alloc, rt.reader())?.chain(io::repeat(0));
+    let mut out = BufWriter::new(alloc, io::writer(&rt))?;
+    let mut state = State::new(alloc)?;
+    for _ in 0..command::read_number(&mut input)? {
+        match Command::read(alloc, &mut input)? {
+            Some(Command::Change(change)) => state.change(&change),
+            Some(Command::Call(call)) => test_case_calls::make(alloc, &mut state, call, &mut out)?,
+            None => {}
+        }
     }
+    out.flush()
 }

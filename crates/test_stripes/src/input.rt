@@ -1,49 +1,44 @@
-// Numbers, words and marks from standard input. Where it has ended, zeros are read.
-ghost use Rattle.std.specs.Prelude.{◌≡◌, ◌≤◌, ◌<◌, length};
+// Words and marks from standard input.
+ghost use Rattle.std.specs.Prelude.{◌≡◌, ◌<◌, length, vec_len, OnOk, IfOk};
 ghost use Rattle.field.specs.Field.{fermat};
 ghost use Rattle.test_stripes.specs.Input.{Loaded};
 
-pub(crate) fn byte() -> u8 {
-    let mut bytes = [0u8; 1];
-    io::read_full(0, &mut bytes);
-    bytes[0]
-}
+use std::alloc::Global;
+use std::io;
+use std::io::Read;
 
-// A number of two bytes, low byte first.
-pub(crate) fn pair() -> u32
-    ensures { result < 65536 }
-{
-    let low = byte() as u32;
-    let high = byte() as u32;
-    low + 256 * high
+pub(crate) fn bytes<const N: usize>(input: &mut impl Read) -> io::Result<[u8; N]> {
+    let mut bytes = [0; N];
+    input.read_exact(&mut bytes)?;
+    Ok(bytes)
 }
 
 // A word of three bytes, low byte first; 0 where it is not below p.
-fn word() -> u32
-    ensures { result < fermat.modulus }
+fn word(input: &mut impl Read) -> io::Result<u32>
+    ensures { IfOk result (λ x. x < fermat.modulus) }
 {
-    let low = pair();
-    let high = byte() as u32;
-    let all = low + 65536 * high;
-    if all < field::MODULUS { all } else { 0 }
+    let [low, middle, high] = bytes::<3>(input)?;
+    let all = u32::from_le_bytes([low, middle, high, 0]);
+    Ok(if all < field::MODULUS { all } else { 0 })
 }
 
-// Reads the first `count` words of the part.
-pub(crate) fn words(part: &mut [u32], count: usize)
-    requires { count ≤ length part.old }
-    ensures { Loaded count part.old part.new }
+// Reads all words of the part.
+pub(crate) fn words(input: &mut impl Read, part: &mut [u32]) -> io::Result<()>
+    ensures part_len { length part.new ≡ length part.old }
+    ensures loaded { OnOk result (Loaded (length part.old) part.old part.new) }
 {
-    for i in 0..count {
-        part[i] = word();
+    for x in part {
+        *x = word(input)?;
     }
+    Ok(())
 }
 
-// Reads the first `count` marks, a byte each.
-pub(crate) fn marks(marks: &mut [bool], count: usize)
-    requires { count ≤ length marks.old }
-    ensures { length marks.new ≡ length marks.old }
+// So many marks, a byte each.
+pub(crate) fn marks(alloc: Global, input: &mut impl Read, count: usize) -> io::Result<Vec<bool>>
+    ensures { IfOk result (λ marks. vec_len marks ≡ count) }
 {
-    for i in 0..count {
-        marks[i] = byte() == 1;
-    }
+    let mut bytes = vec![in alloc; 0; count]?;
+    input.read_exact(&mut bytes)?;
+    let marks = bytes.iter().map(|&mark| mark == 1).collect(alloc)?;
+    Ok(marks)
 }

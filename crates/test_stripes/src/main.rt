@@ -2,108 +2,120 @@
 // `stripe_cases` of reference/, which describes both formats.
 #![tactic(auto)]
 
-ghost use Rattle.std.specs.Prelude.{◌≡◌, ◌+◌, ◌≤◌, ◌<◌, length};
-ghost use Rattle.code.specs.Stripe.{Numbers, position_count, block_words, stripe_words};
-ghost use Rattle.decoder.specs.Promises.{Enough};
-ghost use Rattle.decoder.specs.steps.Decoder.{Factors};
+ghost use Rattle.std.specs.Prelude.{◌≡◌, ◌<◌, ◌≤◌, length, IfSome};
+ghost use Rattle.field.specs.Words.{Words};
+ghost use Rattle.code.specs.Stripe.{Numbers, modulus_of, position_count, stripe_words};
 
 use code::Stripe;
+use std::alloc::Global;
+use std::io;
+use std::io::{BufReader, BufWriter, Read, Write};
 
 mod input;
-mod output;
 
-// Reads a stripe, codes the blocks in its first half and prints all of it.
-fn code_case(part: &mut [u32], st: Stripe)
-    requires numbers { Numbers st }
-    requires part_len { length part.old ≡ block_words st + block_words st }
-{
-    let count = part.len();
-    input::words(part, count);
-    encoder::code(part, st);
-    output::words(part, count);
+// Why a stripe's blocks do not come back.
+#[derive(Clone, Copy)]
+enum Refusal {
+    TooFew,
+    Inconsistent,
 }
 
-// Reads the words of a stripe, of which at least half survive, decodes it and prints what is left of it.
-fn decode_and_print(part: &mut [u32], marks: &[bool], factors: &[u32], st: Stripe)
+// Codes the blocks that stand in the first half of a stripe.
+fn code(part: &mut [u32], st: Stripe)
     requires numbers { Numbers st }
-    requires st_in_bounds { (position_count st ≤ length marks.now) × Enough st.level marks.now }
-    requires factors_are { Factors st marks.now factors.now }
     requires part_len { length part.old ≡ stripe_words st }
+    requires words { Words (modulus_of st) part.old }
 {
-    let count = part.len();
-    input::words(part, count);
-    if decoder::decoding::decode(part, marks, factors, st) {
-        output::number(0, b' ');
-    } else {
-        output::number(9, b' ');
-    }
-    output::words(part, count);
+    encoder::code(part, st);
 }
 
-// Reads a stripe, and if at least half of its positions survive, decodes it and prints what is left of it. The part has room for the words, and for what
-// computing the factors needs.
-fn decode_case(part: &mut [u32], marks: &mut [bool], st: Stripe)
+// Decodes a stripe in place, where at least half of its positions survive.
+fn decode(part: &mut [u32], marks: &[bool], st: Stripe) -> Result<(), Refusal>
     requires numbers { Numbers st }
     requires width_nonzero { 0 < st.width }
-    requires st_in_bounds { position_count st ≤ length marks.old }
-    requires st_in_bounds_2 { stripe_words st + position_count st + position_count st ≤ length part.old }
+    requires marks_len { length marks.now ≡ position_count st }
+    requires part_len { length part.old ≡ stripe_words st }
+    requires words { Words (modulus_of st) part.old }
 {
-    let positions = code::number::two_to(st.level + 1);
-    let count = positions * st.width;
-    input::marks(marks, positions);
     let erased = decoder::decoding::count_erased(marks, st.level);
-    if positions < erased + erased {
-        input::words(part, count);
-        output::number(7, b'\n');
-        return;
+    if marks.len() < erased + erased {
+        return Err(Refusal::TooFew);
     }
-    let mut factors = [0u32; 2048];
-    weights::store_logs(&mut factors, part, marks, st.level);
-    decode_and_print(&mut part[..count], marks, &factors, st);
+    let mut factors = [0; 2048];
+    let mut scratch = [0; 6144];
+    weights::store_logs(&mut factors, &mut scratch, marks, st.level);
+    if !decoder::decoding::decode(part, marks, &factors, st) {
+        return Err(Refusal::Inconsistent);
+    }
+    Ok(())
 }
 
-// One case; nothing where its numbers are out of range or its words do not fit into the buffers.
-fn run_case(part: &mut [u32], marks: &mut [bool]) {
-    let decodes = input::byte();
-    let level = input::byte() as usize;
-    let k = input::byte() as usize;
-    let width = input::byte() as usize;
-    let first = input::pair() as usize;
+// The numbers of a stripe, where there is one that has them.
+fn stripe(level: usize, k: usize, width: usize, first: usize) -> Option<Stripe>
+    requires { (level < 256) × (k < 256) × (width < 256) × (first < 65536) }
+    ensures { IfSome result (λ st. Numbers st × (0 < st.width) × (st.width < 256)) }
+{
     if k < level || 10 < k || width == 0 {
-        return;
+        return None;
     }
-    let records = code::number::two_to(k);
     let size = code::number::two_to(level);
-    let positions = size + size;
-    let count = positions * width;
-    let all = count + positions + positions;
-    if first % size != 0 || records < first + size || marks.len() < positions || part.len() < all {
-        return;
+    if first % size != 0 || code::number::two_to(k) < first + size {
+        return None;
     }
-    let st = Stripe {
-        level: level,
-        k: k,
-        first: first,
-        width: width,
+    Some(Stripe {
+        level,
+        k,
+        first,
+        width,
+    })
+}
+
+fn print(out: &mut impl Write, words: &[u32]) -> io::Result<()> {
+    let mut space = "";
+    for x in words {
+        write!(out, "{space}{x}")?;
+        space = " ";
+    }
+    writeln!(out)
+}
+
+// One case; nothing where there is no stripe of its numbers.
+fn run_case(alloc: Global, input: &mut impl Read, out: &mut impl Write) -> io::Result<()> {
+    let [kind, level, k, width, low, high] = input::bytes::<6>(input)?;
+    let first = u16::from_le_bytes([low, high]);
+    let numbers = stripe(
+        usize::from(level),
+        usize::from(k),
+        usize::from(width),
+        usize::from(first),
+    );
+    let Some(st) = numbers else {
+        return Ok(());
     };
-    if decodes == 1 {
-        decode_case(part, marks, st);
+    let positions = code::number::two_to(st.level + 1);
+    let mut part = vec![in alloc; 0; positions * st.width]?;
+    if kind == 1 {
+        let marks = input::marks(alloc, input, positions)?;
+        input::words(input, &mut part)?;
+        match decode(&mut part, &marks, st) {
+            Ok(()) => write!(out, "0 ")?,
+            Err(Refusal::TooFew) => return writeln!(out, "7"),
+            Err(Refusal::Inconsistent) => write!(out, "9 ")?,
+        }
     } else {
-        code_case(&mut part[..count], st);
+        input::words(input, &mut part)?;
+        code(&mut part, st);
     }
+    print(out, &part)
 }
 
-// All cases: their count, and then each.
-fn run_all(part: &mut [u32], marks: &mut [bool]) {
-    let cases = input::pair();
-    for i in 0..cases {
-        run_case(part, marks);
+// All cases: their count, and then each. Where the input has ended, zeros are read.
+fn main(rt: HostRuntime) -> io::Result<()> {
+    let alloc = rt.alloc();
+    let mut input = BufReader::new(alloc, rt.reader())?.chain(io::repeat(0));
+    let mut out = BufWriter::new(alloc, io::writer(&rt))?;
+    for _ in 0..u16::from_le_bytes(input::bytes(&mut input)?) {
+        run_case(alloc, &mut input, &mut out)?;
     }
-}
-
-// The buffers hold a stripe of 2048 positions of 2 words each, and two words more for each.
-fn main() {
-    let mut part = [0u32; 8192];
-    let mut marks = [false; 2048];
-    run_all(&mut part, &mut marks);
+    out.flush()
 }

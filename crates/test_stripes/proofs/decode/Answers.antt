@@ -1,5 +1,5 @@
--- `test_stripes::decode_case` is safe and ends: it decodes only where its count of erased positions shows that half survive, and its factors are the logarithms
--- of the weights with zeros behind them. Assumes nothing.
+-- `test_stripes::decode` is safe and ends: it decodes only where its count of erased positions shows that half survive, and its factors are the logarithms of
+-- the weights with zeros behind them. Assumes nothing.
 use Rattle.std.proofs.Common.{◌≤◌, ℕ, List, suc, drop, replicate, arith}
 use lib.Dec.{lit<}
 use lib.Pow.{pow_mono}
@@ -7,10 +7,9 @@ use Rattle.field.specs.Words.{Words}
 use Rattle.field.proofs.WordLists.{words_replicate, words_drop}
 use Rattle.code.specs.declared.Stripe.{Stripe}
 use Rattle.code.specs.Stripe.{Numbers, position_count}
-use Rattle.code.proofs.Shapes.{positions}
 use Rattle.decoder.proofs.Survivors.{enough, erased_half}
 use Rattle.decoder.proofs.FactorWords.{logs_factors}
-use Rattle.test_stripes.proofs.decode_case.Goals as goal
+use Rattle.test_stripes.proofs.decode.Goals as goal
 
 room : (st : Stripe) → Numbers st → position_count st ≤ 2048
 room st n = pow_mono {i = suc st.level} {j = 11} (omega (arith, n.within, n.small))
@@ -24,13 +23,15 @@ words_behind st = words_drop 65536 (lit< tt) (position_count st) (words_replicat
 
 pub store_logs-requires-clause-level_bound_2 : goal.store_logs-requires-clause-level_bound_2
 store_logs-requires-clause-level_bound_2 c =
-    erased_half _ _ (enough c.args.st.level c.marks.new.marks
-    (omega (arith, positions c.args.st.level c.two_to-positions.ensures, c.count_erased-erased.ensures, c.if-positions-erased.false)))
+    erased_half _ _ (enough c.args.st.level c.args.marks.now (omega (arith, c.requires.marks_len, c.count_erased-erased.ensures, c.if-marks-erased.false)))
 
 pub store_logs-requires-clause-logs_len : goal.store_logs-requires-clause-logs_len
 store_logs-requires-clause-logs_len c = room c.args.st c.requires.numbers
 
-pub decode_and_print-requires-clause-factors_are : goal.decode_and_print-requires-clause-factors_are
-decode_and_print-requires-clause-factors_are c =
+pub store_logs-requires-clause-room : goal.store_logs-requires-clause-room
+store_logs-requires-clause-room c = omega (arith, room c.args.st c.requires.numbers)
+
+pub decode-requires-clause-factors_are : goal.decode-requires-clause-factors_are
+decode-requires-clause-factors_are c =
     let st = c.args.st in
-    rw c.store_logs.ensures (logs_factors st c.marks.new.marks (behind st) c.requires.numbers (words_behind st))
+    rw c.store_logs.ensures (logs_factors st c.args.marks.now (behind st) c.requires.numbers (words_behind st))

@@ -1,0 +1,176 @@
+// Commands, as they stand in standard input (reference/src/script.rs describes the format).
+use std::alloc::Global;
+use std::io;
+use std::io::Read;
+
+/// A number that names nothing.
+#[derive(Debug, Drop)]
+pub struct Unknown;
+
+/// The buffers of words, by their numbers.
+#[derive(Clone, Copy)]
+pub enum Words {
+    Raw,
+    Full,
+    Log,
+    Block,
+    Out,
+    Scratch,
+}
+
+impl TryFrom<u32> for Words {
+    type Error = Unknown;
+
+    fn try_from(number: u32) -> Result<Words, Unknown> {
+        Ok(match number {
+            0 => Words::Raw,
+            1 => Words::Full,
+            2 => Words::Log,
+            3 => Words::Block,
+            4 => Words::Out,
+            5 => Words::Scratch,
+            _ => return Err(Unknown),
+        })
+    }
+}
+
+/// The buffers of bytes.
+#[derive(Clone, Copy)]
+pub enum Bytes {
+    Image,
+    List,
+}
+
+/// What is set: a number of the header, or how much of a buffer is lent.
+#[derive(Clone, Copy)]
+pub enum Number {
+    K,
+    S,
+    C,
+    Words(Words),
+    Bytes(Bytes),
+}
+
+impl TryFrom<u32> for Number {
+    type Error = Unknown;
+
+    fn try_from(number: u32) -> Result<Number, Unknown> {
+        Ok(match number {
+            0 => Number::K,
+            1 => Number::S,
+            2 => Number::C,
+            9 => Number::Bytes(Bytes::Image),
+            10 => Number::Bytes(Bytes::List),
+            _ => Number::Words(Words::try_from(number - 3)?),
+        })
+    }
+}
+
+/// A change between calls.
+#[derive(Drop)]
+pub enum Change {
+    Set(Number, u32),
+    /// All that is lent of a buffer becomes words below a bound (0: any words), drawn from a seed.
+    Fill {
+        buffer: Words,
+        bound: u32,
+        seed: u32,
+    },
+    /// One word of a buffer.
+    Put(Words, u32, u32),
+    /// Bytes that are put into a buffer from an index on.
+    Load(Bytes, u32, Vec<u8>),
+    /// Bytes of the image become any bytes, drawn from a seed.
+    Garble {
+        from: u32,
+        count: u32,
+        seed: u32,
+    },
+}
+
+/// A call of the vault, or a listing.
+#[derive(Clone, Copy)]
+pub enum Call {
+    Open,
+    Write { record: u32 },
+    Read { record: u32 },
+    Image,
+    Decode { stripe: u32 },
+    Recover,
+    List,
+    Explain { counts: u32 },
+    Powers,
+}
+
+/// What a test does.
+#[derive(Drop)]
+pub enum Command {
+    Change(Change),
+    Call(Call),
+}
+
+// A number of four bytes, low byte first.
+pub fn read_number(input: &mut impl Read) -> io::Result<u32> {
+    let mut bytes = [0; 4];
+    input.read_exact(&mut bytes)?;
+    Ok(u32::from_le_bytes(bytes))
+}
+
+fn read_bytes(alloc: Global, input: &mut impl Read, count: u32) -> io::Result<Vec<u8>> {
+    let mut bytes = vec![in alloc; 0; count as usize]?;
+    input.read_exact(&mut bytes)?;
+    Ok(bytes)
+}
+
+impl Command {
+    // The next command: a byte for its kind, three numbers, and the bytes that it loads. None where its numbers name nothing.
+    pub fn read(alloc: Global, input: &mut impl Read) -> io::Result<Option<Command>> {
+        let mut kind = [0];
+        input.read_exact(&mut kind)?;
+        let numbers = [
+            read_number(input)?,
+            read_number(input)?,
+            read_number(input)?,
+        ];
+        match (kind, numbers) {
+            ([3], [buffer, at, count]) => {
+                let bytes = read_bytes(alloc, input, count)?;
+                let buffer = if buffer == 0 {
+                    Bytes::Image
+                } else {
+                    Bytes::List
+                };
+                Ok(Some(Command::Change(Change::Load(buffer, at, bytes))))
+            }
+            ([kind], numbers) => Ok(Command::of(kind, numbers).ok()),
+        }
+    }
+
+    // The command of a kind but loading, from its numbers.
+    fn of(kind: u8, [a, b, d]: [u32; 3]) -> Result<Command, Unknown> {
+        Ok(match kind {
+            0 => Command::Change(Change::Set(Number::try_from(a)?, b)),
+            1 => Command::Change(Change::Fill {
+                buffer: Words::try_from(a)?,
+                bound: b,
+                seed: d,
+            }),
+            2 => Command::Change(Change::Put(Words::try_from(a)?, b, d)),
+            4 => Command::Change(Change::Garble {
+                from: a,
+                count: b,
+                seed: d,
+            }),
+            5 => Command::Call(Call::Open),
+            6 => Command::Call(Call::Write { record: a }),
+            7 => Command::Call(Call::Read { record: a }),
+            8 => Command::Call(Call::Image),
+            9 => Command::Call(Call::Decode { stripe: a }),
+            10 => Command::Call(Call::Recover),
+            11 => Command::Call(Call::List),
+            12 => Command::Call(Call::Explain { counts: a }),
+            13 => Command::Call(Call::Powers),
+            _ => return Err(Unknown),
+        })
+    }
+}
