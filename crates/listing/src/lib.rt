@@ -2,6 +2,7 @@
 // what reference/ makes. Proved is that it is safe for every input, and ends.
 #![tactic(auto)]
 
+use layout::Refusal;
 use std::alloc::{AllocError, Global};
 
 mod lines;
@@ -12,7 +13,7 @@ use rack::{Failure, Rack};
 // The rack after all writes of an input, at most 256: what follows them is not read.
 fn filled(alloc: Global, input: &[u8]) -> Result<Rack, Failure> {
     let [k, s, writes @ ..] = input else {
-        return Err(Failure::Refused(2));
+        return Err(Failure::Refused(Refusal::Length));
     };
     let mut rack = Rack::open(alloc, u32::from(*k), u32::from(*s))?;
     for write in writes.chunks(2 + 2 * usize::from(*s)).take(256) {
@@ -25,7 +26,7 @@ fn filled(alloc: Global, input: &[u8]) -> Result<Rack, Failure> {
 pub fn list(alloc: Global, input: &[u8]) -> Result<String, AllocError> {
     match filled(alloc, input) {
         Ok(rack) => rack.to_string(alloc),
-        Err(Failure::Refused(number)) => format!(in alloc; "refused {number}\n"),
+        Err(Failure::Refused(refusal)) => format!(in alloc; "refused {}\n", refusal.number()),
         Err(Failure::OutOfMemory) => Err(AllocError),
     }
 }

@@ -1,17 +1,23 @@
 // The rack that a listing is of: a vault in memory of its own.
-use layout::{Header, sizes};
+use layout::{Header, Refusal, ValidHeader};
 use std::alloc::{AllocError, Global};
 
-// Why there is no rack to list: the number of the first refusal, or memory that ran out.
+// Why there is no rack to list: the first refusal, or memory that ran out.
 #[derive(Debug, Drop)]
 pub(crate) enum Failure {
-    Refused(u32),
+    Refused(Refusal),
     OutOfMemory,
 }
 
 impl From<AllocError> for Failure {
     fn from(_error: AllocError) -> Failure {
         Failure::OutOfMemory
+    }
+}
+
+impl From<Refusal> for Failure {
+    fn from(refusal: Refusal) -> Failure {
+        Failure::Refused(refusal)
     }
 }
 
@@ -35,19 +41,16 @@ pub(crate) struct Rack {
 impl Rack {
     // A rack of zero records, for k and s in racklist's ranges.
     pub(crate) fn open(alloc: Global, k: u32, s: u32) -> Result<Rack, Failure> {
-        let header = Header { k, s, c: 0 };
-        if 5 < k || 16 < s || !sizes::header_fits(header) {
-            return Err(Failure::Refused(1));
+        if 5 < k || 16 < s {
+            return Err(Failure::Refused(Refusal::HeaderRange));
         }
-        let raw = vec![in alloc; 0; sizes::raw_size(header)]?;
-        let mut full = vec![in alloc; 0; sizes::full_size(header)]?;
-        let mut log = vec![in alloc; 0; sizes::log_size(header)]?;
-        let opened = store::opening::open(k, s, &raw, &mut full, &mut log);
-        if opened.number != 0 {
-            return Err(Failure::Refused(opened.number));
-        }
+        let valid = ValidHeader::try_from(Header { k, s, c: 0 })?;
+        let raw = vec![in alloc; 0; valid.raw_size()]?;
+        let mut full = vec![in alloc; 0; valid.full_size()]?;
+        let mut log = vec![in alloc; 0; valid.log_size()]?;
+        let header = store::opening::open(k, s, &raw, &mut full, &mut log)?;
         Ok(Rack {
-            header: opened.header,
+            header,
             raw,
             full,
             log,
@@ -58,20 +61,16 @@ impl Rack {
     pub(crate) fn write(&mut self, alloc: Global, bytes: &[u8]) -> Result<(), Failure> {
         let words = words(alloc, bytes)?;
         let Some((number, block)) = words.split_first() else {
-            return Err(Failure::Refused(2));
+            return Err(Failure::Refused(Refusal::Length));
         };
-        let written = store::writing::write(
+        self.header = store::writing::write(
             self.header,
             &mut self.raw,
             &mut self.full,
             &mut self.log,
             *number,
             block,
-        );
-        if written.number != 0 {
-            return Err(Failure::Refused(written.number));
-        }
-        self.header = written.header;
+        )?;
         Ok(())
     }
 }

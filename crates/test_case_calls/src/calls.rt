@@ -4,20 +4,26 @@ use std::io;
 use std::io::Write;
 use test_case_buffers::output;
 use test_case_buffers::state::State;
-use vault::{Header, Verdict, calls};
+use vault::{Fault, Header, Refusal, calls};
 
-// A number and the header that came with it; an accepted call's header is that of the calls that follow.
+// The number of an answer, 0 if the call was taken.
+fn number<T: Drop>(answer: Result<T, Refusal>) -> u32 {
+    answer.map_or_else(|refusal| refusal.number(), |_| 0)
+}
+
+// A number and the header that goes with it: that of the calls that follow, or what is printed of a refused call.
 fn answer(
     state: &mut State,
     out: &mut impl Write,
     name: &str,
-    number: u32,
-    h: Header,
+    answer: Result<Header, Refusal>,
+    refused: Header,
 ) -> io::Result<()> {
-    if number == 0 {
+    let h = answer.unwrap_or(refused);
+    if answer.is_ok() {
         state.header = h;
     }
-    output::all(out, name, &[number, h.k, h.s, h.c])
+    output::all(out, name, &[number(answer), h.k, h.s, h.c])
 }
 
 pub(crate) fn open(state: &mut State, out: &mut impl Write) -> io::Result<()> {
@@ -29,7 +35,7 @@ pub(crate) fn open(state: &mut State, out: &mut impl Write) -> io::Result<()> {
         state.full.part_mut(),
         state.log.part_mut(),
     );
-    answer(state, out, "open", a.number, a.header)?;
+    answer(state, out, "open", a, Header { k: 0, s: 0, c: 0 })?;
     output::words(out, " full", state.full.part())?;
     output::words(out, " log", state.log.part())
 }
@@ -43,7 +49,7 @@ pub(crate) fn write(state: &mut State, record: u32, out: &mut impl Write) -> io:
         record,
         state.block.part(),
     );
-    answer(state, out, "write", a.number, a.header)?;
+    answer(state, out, "write", a, state.header)?;
     output::words(out, " raw", state.raw.part())?;
     output::words(out, " full", state.full.part())?;
     output::words(out, " log", state.log.part())
@@ -51,27 +57,24 @@ pub(crate) fn write(state: &mut State, record: u32, out: &mut impl Write) -> io:
 
 pub(crate) fn read(state: &State, record: u32, out: &mut impl Write) -> io::Result<()> {
     let raw = state.raw.part();
-    output::all(
-        out,
-        "read",
-        &[calls::read_number(state.header, raw, record)],
-    )?;
-    output::words(out, " part", calls::read(state.header, raw, record))
+    let record = calls::read(state.header, raw, record);
+    output::all(out, "read", &[number(record)])?;
+    output::words(out, " part", record.unwrap_or(&[]))
 }
 
 pub(crate) fn image(state: &mut State, out: &mut impl Write) -> io::Result<()> {
-    let number = calls::image(
+    let answer = calls::image(
         state.header,
         state.full.part(),
         state.log.part(),
         state.image.part_mut(),
     );
-    output::all(out, "image", &[number])?;
+    output::all(out, "image", &[number(answer)])?;
     output::sum(out, " image", state.image.part())
 }
 
 pub(crate) fn decode(state: &mut State, stripe: u32, out: &mut impl Write) -> io::Result<()> {
-    let number = calls::decode(
+    let answer = calls::decode(
         state.header,
         state.image.part(),
         state.list.part(),
@@ -79,17 +82,20 @@ pub(crate) fn decode(state: &mut State, stripe: u32, out: &mut impl Write) -> io
         state.out.part_mut(),
         state.scratch.part_mut(),
     );
-    output::all(out, "decode", &[number])?;
+    output::all(out, "decode", &[number(answer)])?;
     output::words(out, " out", state.out.part())?;
     output::words(out, " scratch", state.scratch.part())
 }
 
 // A number, and the stripe where one is named.
-fn verdict(out: &mut impl Write, name: &str, v: Verdict) -> io::Result<()> {
-    if v.named {
-        output::all(out, name, &[v.number, v.stripe])
-    } else {
-        output::all(out, name, &[v.number])
+fn verdict(out: &mut impl Write, name: &str, answer: Result<(), Fault>) -> io::Result<()> {
+    match answer {
+        Ok(()) => output::all(out, name, &[0]),
+        Err(Fault {
+            refusal,
+            stripe: Some(stripe),
+        }) => output::all(out, name, &[refusal.number(), stripe]),
+        Err(fault) => output::all(out, name, &[fault.refusal.number()]),
     }
 }
 
@@ -125,8 +131,8 @@ pub(crate) fn explain(state: &mut State, count: usize, out: &mut impl Write) -> 
 }
 
 pub(crate) fn powers(state: &mut State, out: &mut impl Write) -> io::Result<()> {
-    let number = calls::powers(state.out.part_mut());
-    output::all(out, "powers", &[number])?;
+    let answer = calls::powers(state.out.part_mut());
+    output::all(out, "powers", &[number(answer)])?;
     output::words(out, " out", state.out.part())
 }
 
