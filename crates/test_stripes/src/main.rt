@@ -4,9 +4,9 @@
 
 ghost use Rattle.std.specs.Prelude.{◌≡◌, ◌<◌, ◌≤◌, length, IfSome};
 ghost use Rattle.field.specs.Words.{Words};
-ghost use Rattle.code.specs.Stripe.{Numbers, modulus_of, position_count, stripe_words};
+ghost use Rattle.code.specs.Stripe.{modulus_of, position_count, stripe_words};
 
-use code::Stripe;
+use code::{Stripe, ValidStripe};
 use std::alloc::Global;
 use std::io;
 use std::io::{BufReader, BufWriter, Read, Write};
@@ -21,29 +21,27 @@ enum Refusal {
 }
 
 // Codes the blocks that stand in the first half of a stripe.
-fn code(part: &mut [u32], st: Stripe)
-    requires numbers { Numbers st }
-    requires part_len { length part.old ≡ stripe_words st }
-    requires words { Words (modulus_of st) part.old }
+fn code(part: &mut [u32], st: ValidStripe)
+    requires part_len { length part.old ≡ stripe_words st.stripe }
+    requires words { Words (modulus_of st.stripe) part.old }
 {
     encoder::code(part, st);
 }
 
 // Decodes a stripe in place, where at least half of its positions survive.
-fn decode(part: &mut [u32], marks: &[bool], st: Stripe) -> Result<(), Refusal>
-    requires numbers { Numbers st }
-    requires width_nonzero { 0 < st.width }
-    requires marks_len { length marks.now ≡ position_count st }
-    requires part_len { length part.old ≡ stripe_words st }
-    requires words { Words (modulus_of st) part.old }
+fn decode(part: &mut [u32], marks: &[bool], st: ValidStripe) -> Result<(), Refusal>
+    requires width_nonzero { 0 < st.stripe.width }
+    requires marks_len { length marks.now ≡ position_count st.stripe }
+    requires part_len { length part.old ≡ stripe_words st.stripe }
+    requires words { Words (modulus_of st.stripe) part.old }
 {
-    let erased = decoder::decoding::count_erased(marks, st.level);
+    let erased = decoder::decoding::count_erased(marks, st.stripe.level);
     if marks.len() < erased + erased {
         return Err(Refusal::TooFew);
     }
     let mut factors = [0; 2048];
     let mut scratch = [0; 6144];
-    weights::store_logs(&mut factors, &mut scratch, marks, st.level);
+    weights::store_logs(&mut factors, &mut scratch, marks, st.stripe.level);
     if !decoder::decoding::decode(part, marks, &factors, st) {
         return Err(Refusal::Inconsistent);
     }
@@ -51,9 +49,9 @@ fn decode(part: &mut [u32], marks: &[bool], st: Stripe) -> Result<(), Refusal>
 }
 
 // The numbers of a stripe, where there is one that has them.
-fn stripe(level: usize, k: usize, width: usize, first: usize) -> Option<Stripe>
+fn stripe(level: usize, k: usize, width: usize, first: usize) -> Option<ValidStripe>
     requires { (level < 256) × (k < 256) × (width < 256) × (first < 65536) }
-    ensures { IfSome result (λ st. Numbers st × (0 < st.width) × (st.width < 256)) }
+    ensures { IfSome result (λ st. (0 < st.stripe.width) × (st.stripe.width < 256)) }
 {
     if k < level || 10 < k || width == 0 {
         return None;
@@ -62,12 +60,13 @@ fn stripe(level: usize, k: usize, width: usize, first: usize) -> Option<Stripe>
     if first % size != 0 || code::number::two_to(k) < first + size {
         return None;
     }
-    Some(Stripe {
+    let stripe = Stripe {
         level,
         k,
         first,
         width,
-    })
+    };
+    Some(ValidStripe { stripe })
 }
 
 fn print(out: &mut impl Write, words: &[u32]) -> io::Result<()> {
@@ -92,8 +91,8 @@ fn run_case(alloc: Global, input: &mut impl Read, out: &mut impl Write) -> io::R
     let Some(st) = numbers else {
         return Ok(());
     };
-    let positions = code::number::two_to(st.level + 1);
-    let mut part = vec![in alloc; 0; positions * st.width]?;
+    let positions = st.position_count();
+    let mut part = vec![in alloc; 0; positions * st.stripe.width]?;
     if kind == 1 {
         let marks = input::marks(alloc, input, positions)?;
         input::words(input, &mut part)?;

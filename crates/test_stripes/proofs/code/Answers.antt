@@ -9,4 +9,4 @@ halves l w =
     ap (λ (n : ℕ). n * w) e ∙ add-mul (2 ^ l) (2 ^ l) w
 
 pub code-requires-clause-part_len : goal.code-requires-clause-part_len
-code-requires-clause-part_len c = c.requires.part_len ∙ halves c.args.st.level c.args.st.width
+code-requires-clause-part_len c = c.requires.part_len ∙ halves c.args.st.stripe.level c.args.st.stripe.width

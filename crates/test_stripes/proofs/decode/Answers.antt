@@ -23,15 +23,15 @@ words_behind st = words_drop 65536 (lit< tt) (position_count st) (words_replicat
 
 pub store_logs-requires-clause-level_bound_2 : goal.store_logs-requires-clause-level_bound_2
 store_logs-requires-clause-level_bound_2 c =
-    erased_half _ _ (enough c.args.st.level c.args.marks.now (omega (arith, c.requires.marks_len, c.count_erased-erased.ensures, c.if-marks-erased.false)))
+    erased_half _ _ (enough c.args.st.stripe.level c.args.marks.now (omega (arith, c.requires.marks_len, c.count_erased-erased.ensures, c.if-marks-erased.false)))
 
 pub store_logs-requires-clause-logs_len : goal.store_logs-requires-clause-logs_len
-store_logs-requires-clause-logs_len c = room c.args.st c.requires.numbers
+store_logs-requires-clause-logs_len c = room c.args.st.stripe c.args.st.numbers
 
 pub store_logs-requires-clause-room : goal.store_logs-requires-clause-room
-store_logs-requires-clause-room c = omega (arith, room c.args.st c.requires.numbers)
+store_logs-requires-clause-room c = omega (arith, room c.args.st.stripe c.args.st.numbers)
 
 pub decode-requires-clause-factors_are : goal.decode-requires-clause-factors_are
 decode-requires-clause-factors_are c =
-    let st = c.args.st in
-    rw c.store_logs.ensures (logs_factors st c.args.marks.now (behind st) c.requires.numbers (words_behind st))
+    let st = c.args.st.stripe in
+    rw c.store_logs.ensures (logs_factors st c.args.marks.now (behind st) c.args.st.numbers (words_behind st))
