@@ -13,7 +13,8 @@ use Rattle.std.proofs.lemmas.Bool.{false≢true}
 use Rattle.std.proofs.lemmas.Result.{err_from_is_err_and}
 use Rattle.layout.specs.declared.Header.{Header}
 use Rattle.layout.specs.declared.refusal.Refusal.{Refusal}
-use Rattle.layout.specs.declared.refusal.Refusal.TheVariants.{HeaderRange, Length, ErasureList, RecordNumber, DataWord, NoStripe, TooFew, OutOfField, Inconsistent, NotRecords, Blank}
+use Rattle.layout.specs.declared.refusal.Refusal.TheVariants.{HeaderRange, Length, ErasureList, RecordNumber, DataWord, NoStripe}
+use Rattle.layout.specs.declared.refusal.Refusal.TheVariants.{TooFew, OutOfField, Inconsistent, NotRecords, Blank}
 use Rattle.layout.specs.Header.{header_fits}
 use Rattle.layout.specs.Refusals.{Tests, done, test, refusal, if_taken, number_of, answer_number}
 

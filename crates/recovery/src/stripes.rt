@@ -10,7 +10,8 @@ use crate::Fault;
 use image::Reading;
 use range_laying::Content;
 
-// Lays all stripes, and stops at the first one that is refused, which it names. Where they stop the output may hold anything. What is left of the scratch is open.
+// Lays all stripes, and stops at the first one that is refused, which it names. Where they stop the output may hold anything. What is left of the scratch is
+// open.
 fn lay_each(
     reading: Reading,
     content: Content,

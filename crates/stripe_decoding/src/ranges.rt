@@ -40,9 +40,11 @@ pub fn decode_and_lay<S: Source>(
     requires level_room { ready.vault.stripe.level < ready.vault.stripe.k → stripe_words ready.vault.stripe ≤ length scratch.old }
     ensures value { answer_number result ≡ decoded_number (decode_rows ready.entry.vault.stripe ready.entry.marks.now (S.words source)) }
     ensures out_after { answer_number result ≡ 0 →
-        out.new ≡ laid_from (lay_blocks content ready.entry.vault.stripe) (decode_rows ready.entry.vault.stripe ready.entry.marks.now (S.words source)) out.old }
+        out.new ≡ laid_from (lay_blocks content ready.entry.vault.stripe)
+        (decode_rows ready.entry.vault.stripe ready.entry.marks.now (S.words source)) out.old }
     ensures level_after { ready.entry.vault.stripe.level < ready.entry.vault.stripe.k →
-        out.new ≡ laid_from (lay_blocks content ready.entry.vault.stripe) (decode_rows ready.entry.vault.stripe ready.entry.marks.now (S.words source)) out.old }
+        out.new ≡ laid_from (lay_blocks content ready.entry.vault.stripe)
+        (decode_rows ready.entry.vault.stripe ready.entry.marks.now (S.words source)) out.old }
 {
     let vault = ready.vault;
     let st = vault.stripe;

@@ -12,7 +12,8 @@ pub count_erased-erased-requires-clause-level_in_bounds :
     goal.count_erased-erased-requires-clause-level_in_bounds
 count_erased-erased-requires-clause-level_in_bounds c =
     let a = c.args in
-    marks_fit a.reading.header.header a.level {st = stripe_of a.reading.header.header a.level} refl (erasures_in a.reading.erasures.now) a.reading.header.fits c.requires c.mark_stripe.ensures
+    let h = a.reading.header in
+    marks_fit h.header a.level {st = stripe_of h.header a.level} refl (erasures_in a.reading.erasures.now) h.fits c.requires c.mark_stripe.ensures
 
 -- the positions, and those of them that are erased
 pub returns : goal.returns

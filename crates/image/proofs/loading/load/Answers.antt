@@ -1,6 +1,7 @@
 -- `image::loading::load` meets its contract, by the loop that stores rows of code/proofs/RowLaws and the one that tests them of proofs/StripeLoads. Assumes
 -- nothing.
-use Rattle.std.proofs.Common.{refl, sym, ap, ◌∙◌, subst, ℕ, ◌≡◌, ◌+◌, ◌*◌, ◌≤◌, ◌++◌, Bool, ◌&&◌, ◌-◌, List, length, take, drop, replicate, get_or, zero-mul, lit<, arith}
+use Rattle.std.proofs.Common.{refl, sym, ap, ◌∙◌, subst, ℕ, ◌≡◌, ◌+◌, ◌*◌, ◌≤◌, ◌++◌}
+use Rattle.std.proofs.Common.{Bool, ◌&&◌, ◌-◌, List, length, take, drop, replicate, get_or, zero-mul, lit<, arith}
 use mathlib.Core.Bool.{and-true}
 use borrow.Rule.Slice.PartMut.{put_mid}
 use lib.ListN.{length-replicate, get_or-replicate, length-drop}
@@ -50,7 +51,8 @@ loop-i-preserved g c =
       rows =
           rw (row_next i a.range.cols)
           (elim c.if-marks-i.branch [
-            | then-marks-i d ↦ storing_rows_turn inv.rows (λ k. 0) b (d.part-is ∙ zeros_stored (i * a.range.cols) a.range.cols c.loop-i.part room (d.fill.ensures.after (λ y e. e)))
+            | then-marks-i d ↦ storing_rows_turn inv.rows (λ k. 0) b
+                (d.part-is ∙ zeros_stored (i * a.range.cols) a.range.cols c.loop-i.part room (d.fill.ensures.after (λ y e. e)))
                 (λ j t. sym (range_marked w n ms ws a.range.from a.range.cols fit i j b t d.if-marks-i.true))
             | else-marks-i+then-from-eq0 d ↦ storing_rows_turn inv.rows _ b (d.part-is ∙ d.load_row.ensures)
                 (λ j t. sym (range_kept w n ms ws a.range.from a.range.cols fit i j b t d.if-marks-i.false))

@@ -29,7 +29,8 @@ decode-requires-clause-words g c =
     let a = c.args in
     let found = tested_once c.args.range.from c.load.ensures.first c.load.ensures.later c.requires.all_in_field in
     rw (columns_alone a.ready.vault.stripe a.range _ _ c.requires.part_len c.load.ensures.part_after)
-    (columns_words 65537 a.ready.vault.stripe.width a.range.from a.range.cols (position_count a.ready.vault.stripe) _ (lit< tt) (sym found ∙ c.if-not-load.false))
+    (columns_words 65537 a.ready.vault.stripe.width a.range.from a.range.cols (position_count a.ready.vault.stripe) _
+    (lit< tt) (sym found ∙ c.if-not-load.false))
 
 pub returns-clause-value : goal.returns-clause-value
 returns-clause-value g c =
@@ -58,5 +59,6 @@ returns-then-not-decode-clause-value g c =
 pub returns-then-not-decode-clause-part_after_9 : goal.returns-then-not-decode-clause-part_after_9
 returns-then-not-decode-clause-part_after_9 g c _ =
     let a = c.args in
+    let st = a.ready.vault.stripe in
     c.decode.ensures.part_after
-    ∙ leaves_zeros (modulus_of a.ready.vault.stripe) (root_in a.ready.vault.stripe) a.ready.vault.stripe.k a.ready.vault.stripe.level a.ready.vault.stripe.first a.range.cols a.ready.marks.now _ (sym c.decode.ensures.value ∙ c.if-not-decode.true)
+    ∙ leaves_zeros (modulus_of st) (root_in st) st.k st.level st.first a.range.cols a.ready.marks.now _ (sym c.decode.ensures.value ∙ c.if-not-decode.true)

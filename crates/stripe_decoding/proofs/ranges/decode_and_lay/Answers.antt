@@ -12,15 +12,19 @@ use Rattle.stripe_decoding.proofs.ranges.decode_and_lay.Goals as goal
 
 pub loop-from-init : goal.loop-from-init
 loop-from-init g c =
+    let st = c.args.ready.vault.stripe in
+    let ms = c.args.ready.marks.now in
     rw (← c.store_factors.auto.scratch)
-    (ranging_start c.args.content c.args.ready.vault.stripe c.args.ready.marks.now (g.S.Source.words c.args.source) c.args.out.now c.store_factors.new.scratch c.args.ready.vault.fits)
+    (ranging_start c.args.content st ms (g.S.Source.words c.args.source) c.args.out.now c.store_factors.new.scratch c.args.ready.vault.fits)
 
 pub returns-in_err-decode_range-clause-value : goal.returns-in_err-decode_range-clause-value
 returns-in_err-decode_range-clause-value g c =
+    let st = c.args.ready.vault.stripe in
+    let ms = c.args.ready.marks.now in
     let R = c.loop-from.invariant in
     let f = rw R.sized at c.range_at-range.ensures in
     passed_on _ c.from_residual.result c.from_residual.ensures.1
-    ∙ range_stops c.args.content c.args.ready.vault.stripe c.args.ready.marks.now (g.S.Source.words c.args.source) R f c.in_err-decode_range.ensures.value c.args.ready.ready
+    ∙ range_stops c.args.content st ms (g.S.Source.words c.args.source) R f c.in_err-decode_range.ensures.value c.args.ready.ready
     (not_zero c.in_err-decode_range.field-0.0)
 
 pub returns-in_err-decode_range-clause-out_after : goal.returns-in_err-decode_range-clause-out_after
@@ -29,35 +33,41 @@ returns-in_err-decode_range-clause-out_after g c z =
 
 pub returns-in_err-decode_range-clause-level_after : goal.returns-in_err-decode_range-clause-level_after
 returns-in_err-decode_range-clause-level_after g c w =
+    let st = c.args.ready.vault.stripe in
+    let ms = c.args.ready.marks.now in
     let R = c.loop-from.invariant in
     let f = rw R.sized at c.range_at-range.ensures in
-    range_left c.args.content c.args.ready.vault.stripe c.args.ready.marks.now (g.S.Source.words c.args.source) R f c.in_err-decode_range.ensures.value c.args.ready.ready
+    range_left c.args.content st ms (g.S.Source.words c.args.source) R f c.in_err-decode_range.ensures.value c.args.ready.ready
     (not_zero c.in_err-decode_range.field-0.0) c.requires.out_len w
 
 pub lay_range-requires-clause-placed : goal.lay_range-requires-clause-placed
 lay_range-requires-clause-placed g c =
+    let st = c.args.ready.vault.stripe in
+    let ms = c.args.ready.marks.now in
     let a = c.args in
     let ws = g.S.Source.words a.source in
     let range = c.range_at-range.result in
     let R = c.loop-from.invariant in
     let f = rw R.sized at c.range_at-range.ensures in
     let d = c.in_ok-decode_range.ensures in
-    let q = first_words range.cols _ _ c.two_to-blocks.ensures (length_columns a.ready.vault.stripe.width range.from range.cols (block_count a.ready.vault.stripe) (blocks a.ready.vault.stripe a.ready.marks.now ws))
+    let q = first_words range.cols _ _ c.two_to-blocks.ensures (length_columns st.width range.from range.cols (block_count st) (blocks st ms ws))
     (d.part_after refl) in
-    range_placed a.content a.ready.vault.stripe a.ready.marks.now ws R f d.value refl q c.judge-fit.ensures.fits_after c.judge-fit.ensures.value
+    range_placed a.content st ms ws R f d.value refl q c.judge-fit.ensures.fits_after c.judge-fit.ensures.value
     c.args.ready.vault.fits c.requires.out_len c.requires.level_room c.if-fit.true
 
 pub loop-from-preserved : goal.loop-from-preserved
 loop-from-preserved g c =
+    let st = c.args.ready.vault.stripe in
+    let ms = c.args.ready.marks.now in
     let a = c.args in
     let ws = g.S.Source.words a.source in
     let range = c.range_at-range.result in
     let R = c.loop-from.invariant in
     let f = rw R.sized at c.range_at-range.ensures in
     let d = c.in_ok-decode_range.ensures in
-    let q = first_words range.cols _ _ c.two_to-blocks.ensures (length_columns a.ready.vault.stripe.width range.from range.cols (block_count a.ready.vault.stripe) (blocks a.ready.vault.stripe a.ready.marks.now ws))
+    let q = first_words range.cols _ _ c.two_to-blocks.ensures (length_columns st.width range.from range.cols (block_count st) (blocks st ms ws))
     (d.part_after refl) in
-    range_taken a.content a.ready.vault.stripe a.ready.marks.now ws R f d.value refl q c.judge-fit.ensures.fits_after c.judge-fit.ensures.value
+    range_taken a.content st ms ws R f d.value refl q c.judge-fit.ensures.fits_after c.judge-fit.ensures.value
     c.args.ready.vault.fits c.requires.out_len c.requires.level_room
     (same_length (c.two_to-positions.result * range.cols) c.loop-from.scratch c.decode_range.new.part
     (rw (c.two_to-positions.ensures, add-one) c.range_at-range.ensures.inside) c.decode_range.auto.part)
@@ -67,25 +77,35 @@ loop-from-preserved g c =
 
 pub returns-then-fit-2-clause-value : goal.returns-then-fit-2-clause-value
 returns-then-fit-2-clause-value g c =
-    ranges_zero c.args.content c.args.ready.vault.stripe c.args.ready.marks.now (g.S.Source.words c.args.source) c.loop-from.invariant c.loop-from-test.false c.args.ready.ready
+    let st = c.args.ready.vault.stripe in
+    let ms = c.args.ready.marks.now in
+    ranges_zero c.args.content st ms (g.S.Source.words c.args.source) c.loop-from.invariant c.loop-from-test.false c.args.ready.ready
     c.if-fit-2.true
 
 pub returns-then-fit-2-clause-out_after : goal.returns-then-fit-2-clause-out_after
 returns-then-fit-2-clause-out_after g c _ =
-    ranges_laid c.args.content c.args.ready.vault.stripe c.args.ready.marks.now (g.S.Source.words c.args.source) c.loop-from.invariant c.loop-from-test.false c.args.ready.ready
+    let st = c.args.ready.vault.stripe in
+    let ms = c.args.ready.marks.now in
+    ranges_laid c.args.content st ms (g.S.Source.words c.args.source) c.loop-from.invariant c.loop-from-test.false c.args.ready.ready
     c.if-fit-2.true c.requires.out_len
 
 pub returns-else-fit-2-clause-value : goal.returns-else-fit-2-clause-value
 returns-else-fit-2-clause-value g c =
-    ranges_ten c.args.content c.args.ready.vault.stripe c.args.ready.marks.now (g.S.Source.words c.args.source) c.loop-from.invariant c.loop-from-test.false c.args.ready.ready
+    let st = c.args.ready.vault.stripe in
+    let ms = c.args.ready.marks.now in
+    ranges_ten c.args.content st ms (g.S.Source.words c.args.source) c.loop-from.invariant c.loop-from-test.false c.args.ready.ready
     c.if-fit-2.false
 
 pub returns-then-fit-2-clause-level_after : goal.returns-then-fit-2-clause-level_after
 returns-then-fit-2-clause-level_after g c _ =
-    ranges_laid c.args.content c.args.ready.vault.stripe c.args.ready.marks.now (g.S.Source.words c.args.source) c.loop-from.invariant c.loop-from-test.false c.args.ready.ready
+    let st = c.args.ready.vault.stripe in
+    let ms = c.args.ready.marks.now in
+    ranges_laid c.args.content st ms (g.S.Source.words c.args.source) c.loop-from.invariant c.loop-from-test.false c.args.ready.ready
     c.if-fit-2.true c.requires.out_len
 
 pub returns-else-fit-2-clause-level_after : goal.returns-else-fit-2-clause-level_after
 returns-else-fit-2-clause-level_after g c w =
-    ranges_left c.args.content c.args.ready.vault.stripe c.args.ready.marks.now (g.S.Source.words c.args.source) c.loop-from.invariant c.loop-from-test.false c.args.ready.ready
+    let st = c.args.ready.vault.stripe in
+    let ms = c.args.ready.marks.now in
+    ranges_left c.args.content st ms (g.S.Source.words c.args.source) c.loop-from.invariant c.loop-from-test.false c.args.ready.ready
     c.if-fit-2.false w

@@ -24,4 +24,5 @@ pub returns : goal.returns
 returns c =
     let h = c.args.self.header.header in
     let l = c.args.level in
-    c.mark.ensures ∙ rw (c.two_to-positions.ensures, add-one l, c.stripe_at-at.ensures, c.width.ensures) (marks_for_is h (erasures_in c.args.self.erasures.now) l)
+    c.mark.ensures ∙ rw (c.two_to-positions.ensures, add-one l, c.stripe_at-at.ensures, c.width.ensures)
+    (marks_for_is h (erasures_in c.args.self.erasures.now) l)
