@@ -1,7 +1,8 @@
 -- The refusals of a call, their numbers, and what it leaves of a buffer when it is refused. Assumes nothing: these are definitions.
 use Rattle.std.specs.Prelude.{Bool, true, false, ℕ, eqb, Result, Ok, Err}
 use Rattle.layout.specs.declared.refusal.Refusal.{Refusal}
-use Rattle.layout.specs.declared.refusal.Refusal.TheVariants.{HeaderRange, Length, ErasureList, RecordNumber, DataWord, NoStripe, TooFew, OutOfField, Inconsistent, NotRecords, Blank}
+use Rattle.layout.specs.declared.refusal.Refusal.TheVariants.{HeaderRange, Length, ErasureList, RecordNumber, DataWord, NoStripe, TooFew, OutOfField}
+use Rattle.layout.specs.declared.refusal.Refusal.TheVariants.{Inconsistent, NotRecords, Blank}
 
 -- THE TABLE OF REFUSALS (docs/FORMAT.md, section 10): the number of each
 abbrev pub number_of : Refusal → ℕ

@@ -91,10 +91,12 @@ pub(crate) fn decode(state: &mut State, stripe: u32, out: &mut impl Write) -> io
 fn verdict(out: &mut impl Write, name: &str, answer: Result<(), Fault>) -> io::Result<()> {
     match answer {
         Ok(()) => output::all(out, name, &[0]),
-        Err(Fault {
-            refusal,
-            stripe: Some(stripe),
-        }) => output::all(out, name, &[refusal.number(), stripe]),
+        Err(
+            Fault {
+                refusal,
+                stripe: Some(stripe),
+            },
+        ) => output::all(out, name, &[refusal.number(), stripe]),
         Err(fault) => output::all(out, name, &[fault.refusal.number()]),
     }
 }

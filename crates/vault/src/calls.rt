@@ -1,8 +1,8 @@
 // The calls of the vault (docs/FORMAT.md, section 9), all eight, by value: headers are given and come back, and nothing is kept between two calls. No call
-// has a precondition. Each contract says, for every input, what the call answers (`result`,
-// of which answer_number, opened_as, written_as and verdict_of say the number of the table and what goes with it) and what is left of each buffer that it may change: `x.old` is
-// the buffer x as it was lent, `x.new` as it is left, `x.now` one that does not change, and «x» a parameter whose name is a word of the language. Where the
-// promises (specs/promises) speak of a call, they speak of these definitions.
+// has a precondition. Each contract says, for every input, what the call answers (`result`), and what is left of each buffer that it may change: `x.old` is
+// the buffer x as it was lent, `x.new` as it is left, `x.now` one that does not change, and «x» a parameter whose name is a word of the language. An answer is
+// read as the number of the table of refusals and what goes with it: by answer_number, opened_as, written_as, read_part and verdict_of. Where the promises
+// (specs/promises) speak of a call, they speak of these definitions.
 ghost use Rattle.std.specs.Prelude.{◌≡◌};
 ghost use Rattle.power_table.specs.PowersCall.{powers_number, powers_leaves};
 ghost use Rattle.store.specs.Buffers.{buffers};

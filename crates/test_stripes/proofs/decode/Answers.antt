@@ -23,7 +23,8 @@ words_behind st = words_drop 65536 (lit< tt) (position_count st) (words_replicat
 
 pub store_logs-requires-clause-level_bound_2 : goal.store_logs-requires-clause-level_bound_2
 store_logs-requires-clause-level_bound_2 c =
-    erased_half _ _ (enough c.args.st.stripe.level c.args.marks.now (omega (arith, c.requires.marks_len, c.count_erased-erased.ensures, c.if-marks-erased.false)))
+    erased_half _ _
+    (enough c.args.st.stripe.level c.args.marks.now (omega (arith, c.requires.marks_len, c.count_erased-erased.ensures, c.if-marks-erased.false)))
 
 pub store_logs-requires-clause-logs_len : goal.store_logs-requires-clause-logs_len
 store_logs-requires-clause-logs_len c = room c.args.st.stripe c.args.st.numbers
