@@ -1,4 +1,5 @@
 pub mod Bounds
+pub mod CopiedWords
 pub mod Counting
 pub mod FirstLevel
 pub mod RecordWords

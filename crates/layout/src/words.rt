@@ -3,12 +3,23 @@ ghost use Rattle.std.specs.Prelude.{◌≡◌, ◌+◌, ◌*◌, ◌≤◌, leng
 ghost use Rattle.code.specs.steps.Storing.{stored, word_from};
 ghost use Rattle.layout.specs.Records.{are_data, is_blank, records_fit};
 
+// Copies as many words. By index: most rows are of few words, for which a call of `copy_from_slice` took longer than the loop (opening at s = 3 missed its mark),
+// and of words that `iter_mut().zip(..)` writes a proof knows nothing.
+pub fn copy_words(out: &mut [u32], words: &[u32])
+    requires { length out.old ≡ length words.now }
+    ensures { out.new ≡ words.now }
+{
+    for j in 0..words.len() {
+        out[j] = words[j];
+    }
+}
+
 // Copies `count` words from index `from` on to index `to` on.
 pub fn copy_row(out: &mut [u32], to: usize, words: &[u32], from: usize, count: usize)
     requires { (to + count ≤ length out.old) × (from + count ≤ length words.now) }
     ensures { out.new ≡ stored to (word_from words.now from) count out.old }
 {
-    out[to..to + count].copy_from_slice(&words[from..from + count]);
+    copy_words(&mut out[to..to + count], &words[from..from + count]);
 }
 
 // Test 5 of one record: whether these may be its data.

@@ -2,15 +2,13 @@
 use mathlib.Core.Path.{◌≡◌, refl, sym, ap, ◌∙◌}
 use mathlib.Core.List.{List, [], ◌∷◌, ◌++◌, append-nil}
 use Prim.Native.Nat.{ℕ, zero, suc, ◌+◌, ◌-◌, ◌%◌, ◌≤◌, ◌<◌}
-use native.Mathlib.Nat.{zero-add}
 use native.Mathlib.Omega.{arith}
 use borrow.Rule.Slice.PartMut.{put_mid}
 use lib.ListN.{length, get_or, set, take, drop, length-drop, drop_of_length-le}
 use lib.Seq.{sets, sets-eq, length-take-le}
 use Rattle.std.proofs.lemmas.List.{append_assoc, drop-drop}
-use Rattle.field.proofs.WordLists.{is_table}
+use Rattle.layout.proofs.CopiedWords.{stored_all}
 use Rattle.code.specs.steps.Storing.{stored}
-use Rattle.code.proofs.RowLaws.{stored_last}
 use Rattle.store.specs.Buffers.{reduced}
 use Rattle.store.proofs.StoredRecords.{length_reduced}
 
@@ -27,10 +25,6 @@ unfolding reduced
 reduced_at p [] i h = absurd (omega arith)
 reduced_at p (x ∷ l) zero h = refl
 reduced_at p (x ∷ l) (suc i) h = reduced_at p l i (omega arith)
-
--- as many words stored as there is room for
-pub stored_all : (f : ℕ → ℕ) (ws l : List ℕ) → length l ≡ length ws → ((i : ℕ) → i < length ws → get_or ws i 0 ≡ f i) → stored 0 f (length ws) l ≡ ws
-stored_all f ws l e h = stored_last 0 f (length ws) l (e ∙ sym (zero-add (length ws))) ∙ sym (is_table ws (length ws) f refl h)
 
 pub residues : (ws l : List ℕ) → length l ≡ length ws → stored 0 (λ i. get_or ws i 0 % 65537) (length ws) l ≡ reduced 65537 ws
 residues ws l e =

@@ -30,7 +30,7 @@ fn block_row(row: &mut [u32], i: usize, words: &[u32], whole: bool)
     row[0] = i as u32;
     let rest = &mut row[1..];
     if whole {
-        rest.copy_from_slice(words);
+        layout::words::copy_words(rest, words);
     } else {
         reduce_row(rest, words);
     }

@@ -8,7 +8,7 @@ use Rattle.store.proofs.opening.block_row.Goals as goal
 pub returns-then-whole : goal.returns-then-whole
 returns-then-whole c =
     let a = c.args in
-    rw c.copy_from_slice.ensures.after (row_put a.row.now a.i a.words.now c.requires.row_len)
+    rw c.copy_words.ensures (row_put a.row.now a.i a.words.now c.requires.row_len)
     ∙ ap (λ (r : List ℕ). a.i ∷ r) (sym (reduced_same 65537 a.words.now (c.requires.whole_words.words_of c.if-whole.true)))
 
 pub returns-else-whole : goal.returns-else-whole

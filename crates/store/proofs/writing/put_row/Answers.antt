@@ -3,7 +3,8 @@ use Rattle.std.proofs.Common.{sym, ap, ◌∙◌, ℕ, suc, ◌∷◌, zero-add,
 use Rattle.field.specs.Residue.{times}
 use Rattle.code.specs.Transform.{scaled}
 use Rattle.code.proofs.Shapes.{length_scaled, scaled_at}
-use Rattle.store.proofs.Stores.{stored_all, lent_others, row_put}
+use Rattle.layout.proofs.CopiedWords.{stored_all}
+use Rattle.store.proofs.Stores.{lent_others, row_put}
 use Rattle.code.proofs.RowLaws.{storing_start, storing_turn, storing_done}
 use Rattle.store.proofs.writing.put_row.Goals as goal
 
