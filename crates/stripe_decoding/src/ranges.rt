@@ -55,6 +55,7 @@ pub fn decode_and_lay<S: Source>(
     let mut fits = [true; 1024];
     let mut fit = true;
     let mut from = 0;
+    // No `for`: the room for each range says how many columns it has.
     while from < st.width {
         let range = range_decoding::ranges::range_at(vault, from, scratch.len());
         let size = positions * range.cols;
