@@ -10,8 +10,8 @@ ghost use Rattle.vault.specs.promises.Losses.{LeavesHalf};
 use vault::{Fault, calls};
 
 // Opens a vault over raw records, makes its image, and recovers from that image what an erasure list leaves: what the last of the three calls answers, or the
-// first that is refused. Where each buffer has its length, the opening is taken and the list leaves half of each needed stripe, that is 0, and the output
-// is the raw records.
+// first that is refused. Where each buffer has its length, the opening is taken and the list leaves half of each needed stripe, all three are taken, and the
+// output is the raw records.
 pub fn open_and_recover(
     k: u32,
     s: u32,
