@@ -84,7 +84,8 @@ fn cross<D: TwoLevels>(part: &mut [u32], m: usize, width: usize, powers: &[u32],
     }
 }
 
-// Crosses each of `blocks` blocks of 4m rows, two levels at once.
+// Crosses each of `blocks` blocks of 4m rows, two levels at once. In its caller's body the loop over rows has too few registers.
+#[inline(never)]
 pub fn cross_each<D: TwoLevels>(
     half: &mut [u32],
     blocks: usize,
