@@ -30,10 +30,7 @@ fn number_of<T: Drop>(answer: Result<T, Refusal>) -> u32
 fn fault_number(answer: Result<(), Fault>) -> u32
     ensures { result ≡ (verdict_of answer).number }
 {
-    match answer {
-        Ok(()) => 0,
-        Err(fault) => fault.refusal.number(),
-    }
+    number_of(answer.map_err(|fault| fault.refusal))
 }
 
 // The shelf at fault, or 0xffffffff where none is named.

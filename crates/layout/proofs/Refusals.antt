@@ -3,7 +3,6 @@ use mathlib.Core.Path.{◌≡◌, refl, sym, ◌∙◌}
 use mathlib.Core.Bool.{Bool, true, false, ◌&&◌}
 use Prim.Native.Nat.{ℕ, ◌<◌}
 use native.Mathlib.Omega.{arith}
-use borrow.Author.Rules.{rules}
 use borrow.Author.Tests.{eqb-true, eq-eqb, ne_eqb}
 use lib.Dec.{eqb}
 use Rattle.field.proofs.Booleans.{both_true, first_true, second_true}
@@ -53,10 +52,6 @@ if_refused {n} x y d = rw (ne_eqb n 0 d, if_taken)
 
 -- A CALL THAT TESTS ITS HEADER, AND THEN THREE SIZES IN TURN: r is what the test of the header gave, and s, t and u are the sizes that are asked
 module _ {r b : Bool} (e : r ≡ b) where
-  pub header_refused : (rest : Tests) → r ≡ false → 1 ≡ refusal (test b 1 rest)
-  unfolding refusal
-  header_refused rest d = rw (← e, d)
-
   pub header_holds : r ≡ true → b ≡ true
   header_holds h = sym e ∙ h
 
@@ -77,9 +72,6 @@ module _ {r b : Bool} (e : r ≡ b) where
 
         pub sizes_hold : {n : ℕ} → z ≡ u → refusal rest ≡ n → n ≡ refusal (test b 1 (test (eqb x x' && (eqb y y' && eqb z z')) 2 rest))
         sizes_hold ez en = sym (test_holds 1 _ (header_holds h) ∙ test_holds 2 rest (equal_three x x' y y' z z' (ex ∙ es) (ey ∙ et) (ez ∙ eu)) ∙ en)
-
--- what the needs of such a call follow from
-pub ruleset sizes_needs = (header_refused, header_holds, first_refused, second_refused, third_refused, sizes_hold, none_fails, rules)
 
 -- AN ANSWER THAT IS PASSED ON by `?` keeps its number
 pub passed_on : {A : Type 0} (x : Refusal) (r : Result A Refusal) → IsErrAnd r (λ y. y ≡ x) → answer_number r ≡ number_of x

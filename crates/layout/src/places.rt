@@ -1,4 +1,5 @@
-// Where stripes stand, their numbers, which there are, and the first empty level.
+// Where stripes stand, their numbers, which there are, and the first empty level. That a level is at most k stays a clause: a type for it would hold the header,
+// which each of these methods has already.
 ghost use Rattle.std.specs.Prelude.{◌≡◌, ◌^◌, ◌≤◌, ◌<◌, suc, ℕ};
 ghost use Rattle.layout.specs.Header.{first_of, stripe_at, stripe_of, is_filled, has_stripe, first_empty};
 
@@ -60,7 +61,7 @@ pub fn has_stripe(header: Header, stripe: u32) -> bool
     stripe == header.k || (stripe < header.k && is_filled(header, stripe as usize))
 }
 
-// The first empty level, counted from 0: the lowest bit of c that is 0.
+// The first empty level, counted from 0: the lowest bit of c that is 0. The specification asks that a loop over the bits of c yields it by a break.
 pub fn first_empty(c: u32) -> usize
     ensures { (k : ℕ) → suc c < 2 ^ k → (result ≡ first_empty k 0 c) × (result < k) }
 {

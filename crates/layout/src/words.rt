@@ -26,7 +26,7 @@ pub fn copy_row(out: &mut [u32], to: usize, words: &[u32], from: usize, count: u
 pub fn all_data(words: &[u32]) -> bool
     ensures { result ≡ are_data words.now }
 {
-    // No early end: a loop that has none takes four words at a time.
+    // No early end: a loop that has none takes four words at a time. A fold says the same with the flag as its first argument.
     let mut fit = true;
     for word in words {
         if 65535 < *word {
@@ -43,7 +43,8 @@ pub fn is_blank(words: &[u32]) -> bool
     words.iter().all(|word| *word == 0)
 }
 
-// Test 5 of n records of s words: whether each holds such data. Most often all words do, which one pass over them shows.
+// Test 5 of n records of s words: whether each holds such data. Most often all words do, which one pass over them shows. By index: s may be 0, of which
+// `chunks_exact` makes no pieces.
 pub fn records_fit(raw: &[u32], s: usize, n: usize) -> bool
     requires { n * s ≤ length raw.now }
     ensures { result ≡ records_fit s raw.now n }

@@ -4,7 +4,7 @@ ghost use Rattle.field.specs.Residue.{times};
 ghost use Rattle.field.specs.Field.{fermat};
 ghost use Rattle.mixing.specs.steps.Words.{crossing_of};
 
-/// What a word is multiplied by.
+// What a word is multiplied by.
 pub trait Factor: Copy {
     ghost value: { Self → ℕ };
 
@@ -14,11 +14,11 @@ pub trait Factor: Copy {
         ensures { result ≡ times fermat.modulus (value self) y };
 }
 
-/// The factor 1: a product is the word itself.
+// The factor 1: a product is the word itself.
 #[derive(Clone, Copy)]
 pub struct One;
 
-/// A power of a root that is not -1, so that a product with a word fits 32 bits.
+// A power of a root that is not -1, so that a product with a word fits 32 bits.
 #[derive(Clone, Copy)]
 pub struct Power {
     pub g: u32,
@@ -43,7 +43,7 @@ impl Factor for Power {
     }
 }
 
-/// The factors of the words of a row.
+// The factors of the words of a row.
 pub(crate) trait Factors: Copy {
     type Each: Factor;
 
@@ -58,11 +58,11 @@ pub(crate) trait Factors: Copy {
         ensures { Self.Each.value result ≡ value self word };
 }
 
-/// One factor for all words.
+// One factor for all words.
 #[derive(Clone, Copy)]
 pub(crate) struct Same<F: Factor>(pub F);
 
-/// A factor for each word, none of them -1.
+// A factor for each word, none of them -1.
 #[derive(Clone, Copy)]
 pub(crate) struct PerWord<'a>(pub &'a [u32]);
 
@@ -92,7 +92,7 @@ impl Factors for PerWord<'_> {
     }
 }
 
-/// Which way words are crossed: mixing, or unmixing.
+// Which way words are crossed: mixing, or unmixing.
 pub trait Direction {
     // Whether it is unmixing: the definitions of specs/steps go by that.
     ghost unmixing: { Bool };
@@ -104,10 +104,10 @@ pub trait Direction {
         ensures high { result.1 ≡ (crossing_of unmixing fermat.modulus).high (F.value g) a b };
 }
 
-/// Sum and difference of one word and the product of the other.
+// Sum and difference of one word and the product of the other.
 pub struct Mixing;
 
-/// The inverse of mixing, but for a factor of 2: the sum, and the product of the difference.
+// The inverse of mixing, but for a factor of 2: the sum, and the product of the difference.
 pub struct Unmixing;
 
 impl Direction for Mixing {

@@ -6,7 +6,7 @@ ghost use Rattle.mixing_twice.specs.steps.Quads.{four_of};
 
 use mixing::direction::{Direction, Factor, Mixing, One, Power, Unmixing};
 
-/// A factor whose product with a word can be left unreduced, for a product that is only summed.
+// A factor whose product with a word can be left unreduced, for a product that is only summed.
 pub trait UnreducedFactor: Factor {
     // The product, but for a multiple of p.
     fn unreduced_product(self, y: u32) -> u32
@@ -28,7 +28,7 @@ impl UnreducedFactor for Power {
     }
 }
 
-/// The factors of four words: t1, t2 and their product.
+// The factors of four words: t1, t2 and their product.
 #[derive(Drop)]
 pub struct ThreeFactors<F: UnreducedFactor> {
     pub t1: F,
@@ -37,7 +37,7 @@ pub struct ThreeFactors<F: UnreducedFactor> {
     pub ghost product: { F.value t3 ≡ times fermat.modulus (F.value t1) (F.value t2) },
 }
 
-/// A direction in which two levels are crossed at once.
+// A direction in which two levels are crossed at once.
 pub trait TwoLevels: Direction {
     // What two levels make of four words, one of each of four rows.
     fn cross_four<F: UnreducedFactor>(

@@ -22,7 +22,7 @@ pub fn powers(alloc: Global, x: u32, count: usize) -> Result<Vec<u32>, AllocErro
     Ok(powers)
 }
 
-/// Numbers that are displayed in lines.
+// Numbers that are displayed in lines.
 #[derive(Clone, Copy)]
 pub struct Lines<'a>(pub &'a [u32]);
 

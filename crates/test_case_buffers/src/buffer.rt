@@ -2,7 +2,8 @@
 use crate::draw;
 use std::alloc::{AllocError, Global};
 
-/// A buffer of which so many elements are lent, at most all.
+// A buffer of which so many elements are lent, at most all. That is no ghost field: `part_mut` lends a field of a struct that has one, which the borrow checker
+// does not cover.
 #[derive(Drop)]
 pub struct Buffer<T> {
     all: Vec<T>,

@@ -3,11 +3,11 @@ use std::alloc::Global;
 use std::io;
 use std::io::Read;
 
-/// A number that names nothing.
+// A number that names nothing.
 #[derive(Debug, Drop)]
 pub struct Unknown;
 
-/// The buffers of words, by their numbers.
+// The buffers of words, by their numbers.
 #[derive(Clone, Copy)]
 pub enum Words {
     Raw,
@@ -34,14 +34,14 @@ impl TryFrom<u32> for Words {
     }
 }
 
-/// The buffers of bytes.
+// The buffers of bytes.
 #[derive(Clone, Copy)]
 pub enum Bytes {
     Image,
     List,
 }
 
-/// What is set: a number of the header, or how much of a buffer is lent.
+// What is set: a number of the header, or how much of a buffer is lent.
 #[derive(Clone, Copy)]
 pub enum Number {
     K,
@@ -66,21 +66,21 @@ impl TryFrom<u32> for Number {
     }
 }
 
-/// A change between calls.
+// A change between calls.
 #[derive(Drop)]
 pub enum Change {
     Set(Number, u32),
-    /// All that is lent of a buffer becomes words below a bound (0: any words), drawn from a seed.
+    // All that is lent of a buffer becomes words below a bound (0: any words), drawn from a seed.
     Fill {
         buffer: Words,
         bound: u32,
         seed: u32,
     },
-    /// One word of a buffer.
+    // One word of a buffer.
     Put(Words, u32, u32),
-    /// Bytes that are put into a buffer from an index on.
+    // Bytes that are put into a buffer from an index on.
     Load(Bytes, u32, Vec<u8>),
-    /// Bytes of the image become any bytes, drawn from a seed.
+    // Bytes of the image become any bytes, drawn from a seed.
     Garble {
         from: u32,
         count: u32,
@@ -88,7 +88,7 @@ pub enum Change {
     },
 }
 
-/// A call of the vault, or a listing.
+// A call of the vault, or a listing.
 #[derive(Clone, Copy)]
 pub enum Call {
     Open,
@@ -102,7 +102,7 @@ pub enum Call {
     Powers,
 }
 
-/// What a test does.
+// What a test does.
 #[derive(Drop)]
 pub enum Command {
     Change(Change),

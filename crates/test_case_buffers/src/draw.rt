@@ -8,7 +8,7 @@ fn drawn(state: u32) -> u32
     (u64::from(state) * 48271 % 2147483647) as u32
 }
 
-/// The numbers after a seed, without end.
+// The numbers after a seed, without end.
 #[derive(Drop)]
 struct Draw {
     state: u32,

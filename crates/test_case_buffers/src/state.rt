@@ -4,7 +4,7 @@ use crate::command::{Bytes, Change, Number, Words};
 use layout::Header;
 use std::alloc::{AllocError, Global};
 
-/// A header, and the buffers of which each call is lent a part.
+// A header, and the buffers of which each call is lent a part.
 #[derive(Drop)]
 pub struct State {
     pub header: Header,

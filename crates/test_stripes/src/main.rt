@@ -48,7 +48,7 @@ fn decode(part: &mut [u32], marks: &[bool], st: ValidStripe) -> Result<(), Refus
     Ok(())
 }
 
-// The numbers of a stripe, where there is one that has them.
+// The numbers of a stripe, where there is one that has them and its positions have at most 8,192 words, with two more each: cases of more are skipped.
 fn stripe(level: usize, k: usize, width: usize, first: usize) -> Option<ValidStripe>
     requires { (level < 256) × (k < 256) × (width < 256) × (first < 65536) }
     ensures { IfSome result (λ st. (0 < st.stripe.width) × (st.stripe.width < 256)) }
@@ -57,7 +57,10 @@ fn stripe(level: usize, k: usize, width: usize, first: usize) -> Option<ValidStr
         return None;
     }
     let size = code::number::two_to(level);
-    if first % size != 0 || code::number::two_to(k) < first + size {
+    if first % size != 0
+        || code::number::two_to(k) < first + size
+        || 8192 < 2 * size * (width + 2)
+    {
         return None;
     }
     let stripe = Stripe {
