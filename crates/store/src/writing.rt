@@ -12,6 +12,7 @@ ghost use Rattle.store.specs.Writing.{log_with};
 ghost use Rattle.store.specs.steps.Writing.{half_start, gathered, folded, folded_both};
 ghost use Rattle.store.specs.StoreCalls.{write_number, written_as, write_answer, write_leaves};
 
+use crate::opening::Reduced;
 use layout::{Header, Refusal, ValidHeader};
 
 // A block that is written: the record's number and its data, all words of the field.
@@ -184,7 +185,7 @@ pub fn write(
     put_record(raw, number as usize, block);
     let next = header.c + 1;
     if next as usize == valid.record_count() {
-        crate::opening::build(valid, raw, full, false);
+        crate::opening::build::<Reduced>(valid, raw, full);
         log.fill(0);
         return Ok(Header { c: 0, ..header });
     }
