@@ -1,6 +1,5 @@
 pub mod BufferRefusals
 pub mod Building
-pub mod FoldTables
 pub mod Folding
 pub mod Gathering
 pub mod OpenRefusals

@@ -1,5 +1,5 @@
 // Opening: the full stripe built from raw records.
-ghost use Rattle.std.specs.Prelude.{◌≡◌, ◌∷◌, ◌<◌, suc, length, IfOk};
+ghost use Rattle.std.specs.Prelude.{◌≡◌, ◌∷◌, ◌<◌, Bool, true, false, suc, length, IfOk};
 ghost use Rattle.field.specs.Field.{fermat};
 ghost use Rattle.layout.specs.Header.{header_of, raw_size, full_size};
 ghost use Rattle.layout.specs.Refusals.{answer_number};
@@ -20,26 +20,55 @@ pub(crate) fn reduce_row(out: &mut [u32], words: &[u32])
     }
 }
 
-// Record i as a block: its number, and its data modulo p. Words of the field, `whole`, are copied.
-fn block_row(row: &mut [u32], i: usize, words: &[u32], whole: bool)
-    requires row_len { length row.old ≡ suc (length words.now) }
-    requires i_lt_modulus { i < fermat.modulus }
-    requires whole_words { WholeWords fermat.modulus whole words.now }
-    ensures { row.new ≡ i ∷ reduced fermat.modulus words.now }
-{
-    row[0] = i as u32;
-    let rest = &mut row[1..];
-    if whole {
-        layout::words::copy_words(rest, words);
-    } else {
-        reduce_row(rest, words);
+// How the words of a record become words of the field.
+pub(crate) trait Residues {
+    // Whether it takes words of the field alone.
+    ghost whole: { Bool };
+
+    // Stores as many words, each modulo p.
+    fn store(out: &mut [u32], words: &[u32])
+        requires out_len { length out.old ≡ length words.now }
+        requires whole_words { WholeWords fermat.modulus whole words.now }
+        ensures { out.new ≡ reduced fermat.modulus words.now };
+}
+
+// Words of the field, copied as they are.
+pub(crate) struct Copied;
+
+// Any words, each reduced.
+pub(crate) struct Reduced;
+
+impl Residues for Copied {
+    ghost whole = { true };
+
+    fn store(out: &mut [u32], words: &[u32]) {
+        layout::words::copy_words(out, words);
     }
 }
 
-// Builds the full stripe of the raw records, whose words are `whole` after test 5, but any in buffers that no opening made.
-pub(crate) fn build(header: ValidHeader, raw: &[u32], full: &mut [u32], whole: bool)
+impl Residues for Reduced {
+    ghost whole = { false };
+
+    fn store(out: &mut [u32], words: &[u32]) {
+        reduce_row(out, words);
+    }
+}
+
+// Record i as a block: its number, and its data modulo p.
+fn block_row<R: Residues>(row: &mut [u32], i: usize, words: &[u32])
+    requires row_len { length row.old ≡ suc (length words.now) }
+    requires i_lt_modulus { i < fermat.modulus }
+    requires whole_words { WholeWords fermat.modulus R.whole words.now }
+    ensures { row.new ≡ i ∷ reduced fermat.modulus words.now }
+{
+    row[0] = i as u32;
+    R::store(&mut row[1..], words);
+}
+
+// Builds the full stripe of the raw records, whose words are of the field after test 5, but any in buffers that no opening made.
+pub(crate) fn build<R: Residues>(header: ValidHeader, raw: &[u32], full: &mut [u32])
     requires lengths { (length raw.now ≡ raw_size header.header) × (length full.old ≡ full_size header.header) }
-    requires whole_words { WholeWords fermat.modulus whole raw.now }
+    requires whole_words { WholeWords fermat.modulus R.whole raw.now }
     ensures { full.new ≡ full_stripe header.header raw.now }
 {
     let k = header.header.k as usize;
@@ -48,7 +77,7 @@ pub(crate) fn build(header: ValidHeader, raw: &[u32], full: &mut [u32], whole: b
     for i in 0..header.record_count() {
         let at = i * width;
         let from = i * s;
-        block_row(&mut full[at..at + width], i, &raw[from..from + s], whole);
+        block_row::<R>(&mut full[at..at + width], i, &raw[from..from + s]);
     }
     let stripe = Stripe {
         level: k,
@@ -90,7 +119,7 @@ pub fn open(
     ensures log_after { log.new ≡ (open_leaves k s raw.now full.old log.old).log }
 {
     let valid = check_opening(k, s, raw, full, log)?;
-    build(valid, raw, full, true);
+    build::<Copied>(valid, raw, full);
     log.fill(0);
     Ok(valid.header)
 }

@@ -9,9 +9,10 @@ ghost use Rattle.layout.specs.Records.{replaced};
 ghost use Rattle.layout.specs.Refusals.{answer_number};
 ghost use Rattle.store.specs.Buffers.{reduced, buffers};
 ghost use Rattle.store.specs.Writing.{log_with};
-ghost use Rattle.store.specs.steps.Writing.{half_start, gathered, folded, folded_both, Serves};
+ghost use Rattle.store.specs.steps.Writing.{half_start, gathered, folded, folded_both};
 ghost use Rattle.store.specs.StoreCalls.{write_number, written_as, write_answer, write_leaves};
 
+use crate::opening::Reduced;
 use layout::{Header, Refusal, ValidHeader};
 
 // A block that is written: the record's number and its data, all words of the field.
@@ -22,14 +23,13 @@ struct Block<'a> {
     ghost in_field: { Words fermat.modulus (number ∷ words.now) },
 }
 
-// Replaces raw record i, of s words.
-fn put_record(raw: &mut [u32], i: usize, s: usize, words: &[u32])
-    requires words_len { length words.now ≡ s }
-    requires s_in_bounds { suc i * s ≤ length raw.old }
-    ensures { raw.new ≡ replaced s raw.old i words.now }
+// Replaces raw record i, of as many words.
+fn put_record(raw: &mut [u32], i: usize, words: &[u32])
+    requires { suc i * length words.now ≤ length raw.old }
+    ensures { raw.new ≡ replaced (length words.now) raw.old i words.now }
 {
-    let at = i * s;
-    raw[at..at + s].copy_from_slice(words);
+    let at = i * words.len();
+    raw[at..at + words.len()].copy_from_slice(words);
 }
 
 // Puts a block as a row: its number and its data, each times g. By index, as `reduce_row` of opening.rt.
@@ -56,6 +56,7 @@ fn copy_reduced(log: &mut [u32], from: usize, to: usize, count: usize)
 }
 
 // Where X (half 0) or Y (half 1) of a level begins in the log.
+// A number, and no enum: it is the factor of the place, by which X and Y are one formula.
 fn half_at(level: usize, half: usize, width: usize) -> usize
     requires { (level ≤ 10) × (half ≤ 1) × (width ≤ 129) }
     ensures { result ≡ half_start width level half }
@@ -86,40 +87,30 @@ fn gather(log: &mut [u32], level: usize, half: usize, block: Block, g: u32)
 }
 
 // Mixes the last row of 2^level rows with the one before it, those two with the two before them, and so on, under the roots of the field.
-fn fold(half: &mut [u32], level: usize, width: usize, powers: &[u32])
+fn fold(half: &mut [u32], level: usize, width: usize)
+    requires level_bound { level ≤ 10 }
     requires half_len { length half.old ≡ 2 ^ level * width }
-    requires serves { Serves fermat level powers.now }
     requires words { Words fermat.modulus half.old }
     ensures { half.new ≡ folded fermat.modulus (root_of fermat) width level half.old }
 {
-    let top = powers.len() / 2;
+    let powers = code::table_65537::powers();
     for l in 0..level {
         let m = code::number::two_to(l);
         let from = half.len() - 2 * m * width;
-        mixing::rows::mix(&mut half[from..], m, width, powers, top >> l);
+        mixing::rows::mix(&mut half[from..], m, width, powers, 1024 >> l);
     }
 }
 
 // Folds X and Y of a level.
-fn fold_both(part: &mut [u32], level: usize, width: usize, powers: &[u32])
-    requires part_len { length part.old ≡ 2 ^ suc level * width }
-    requires serves { Serves fermat level powers.now }
-    requires words { Words fermat.modulus part.old }
-    ensures { part.new ≡ folded_both fermat.modulus (root_of fermat) width level part.old }
-{
-    let half = code::number::two_to(level) * width;
-    fold(&mut part[..half], level, width, powers);
-    fold(&mut part[half..], level, width, powers);
-}
-
-// The same under the roots of the field.
 fn fold_level(part: &mut [u32], level: usize, width: usize)
     requires level_bound { level ≤ 10 }
     requires part_len { length part.old ≡ 2 ^ suc level * width }
     requires words { Words fermat.modulus part.old }
     ensures { part.new ≡ folded_both fermat.modulus (root_of fermat) width level part.old }
 {
-    fold_both(part, level, width, code::table_65537::powers());
+    let half = code::number::two_to(level) * width;
+    fold(&mut part[..half], level, width);
+    fold(&mut part[half..], level, width);
 }
 
 // Rebuilds a level from all levels below it and the block, and empties those. The level is lent on as a part from the middle of the log; what follows it
@@ -191,10 +182,10 @@ pub fn write(
         (write_leaves header (buffers raw.old full.old log.old) number block.now).log }
 {
     let valid = check_writing(header, raw, full, log, number, block)?;
-    put_record(raw, number as usize, header.s as usize, block);
+    put_record(raw, number as usize, block);
     let next = header.c + 1;
     if next as usize == valid.record_count() {
-        crate::opening::build(valid, raw, full, false);
+        crate::opening::build::<Reduced>(valid, raw, full);
         log.fill(0);
         return Ok(Header { c: 0, ..header });
     }

@@ -1,8 +1,7 @@
 -- What the steps of a write make of the log; the clauses of private functions cite it. Assumes nothing: these are definitions.
-use Rattle.std.specs.Prelude.{◌≡◌, ◌≤◌, List, ◌++◌, ℕ, zero, suc, ◌+◌, ◌*◌, ◌-◌, ◌^◌, take, drop}
+use Rattle.std.specs.Prelude.{List, ◌++◌, ℕ, zero, suc, ◌+◌, ◌*◌, ◌-◌, ◌^◌, take, drop}
 use Rattle.code.specs.Rows.{lifted}
 use Rattle.code.specs.Transform.{mixed_halves}
-use Rattle.field.specs.Field.{Field, root_of, powers_of}
 use Rattle.store.specs.Buffers.{reduced}
 
 -- where X (half 0) or Y (half 1) of a level begins in the log, and its words modulo p, for rows of `width` words
@@ -26,10 +25,3 @@ folded p v width (suc l) r =
 -- both halves of a level
 abbrev pub folded_both : (p : ℕ) → (v : ℕ → ℕ) → (width level : ℕ) → (rows : List ℕ) → List ℕ
 folded_both p v width l r = folded p v width l (take (2 ^ l * width) r) ++ folded p v width l (drop (2 ^ l * width) r)
-
--- all powers of the root of 2 ^ order records: such a table serves levels up to order + 1, whose merges are under the roots of the levels below
-pub record Serves (f : Field) (level : ℕ) (powers : List ℕ) : Type 0 where
-  pub order : ℕ
-  pub order_high : order ≤ 10
-  pub serves : level ≤ suc order
-  pub is_table : powers ≡ powers_of f.modulus (root_of f order) (2 ^ suc order)

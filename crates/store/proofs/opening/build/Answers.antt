@@ -3,15 +3,15 @@ use Rattle.store.proofs.Building.{building_start, building_turn, building_words,
 use Rattle.store.proofs.opening.build.Goals as goal
 
 pub loop-i-init : goal.loop-i-init
-loop-i-init c =
+loop-i-init g c =
     let h = c.args.header in
     building_start h.header h.fits c.record_count-i-end.ensures c.width-width.ensures c.requires.lengths.0 c.requires.lengths.1
 
 pub loop-i-preserved : goal.loop-i-preserved
-loop-i-preserved c = building_turn c.loop-i.invariant c.loop-i-test.true c.block_row.ensures
+loop-i-preserved g c = building_turn c.loop-i.invariant c.loop-i-test.true c.block_row.ensures
 
 pub code-requires-clause-words : goal.code-requires-clause-words
-code-requires-clause-words c = rw (← c.loop-i.invariant.n_is) (building_words c.loop-i.invariant c.loop-i-test.false)
+code-requires-clause-words g c = rw (← c.loop-i.invariant.n_is) (building_words c.loop-i.invariant c.loop-i-test.false)
 
 pub returns : goal.returns
-returns c = built c.loop-i.invariant c.args.header.header.c c.loop-i-test.false c.code.ensures
+returns g c = built c.loop-i.invariant c.args.header.header.c c.loop-i-test.false c.code.ensures

@@ -1,5 +1,7 @@
 -- `store::writing::fold` meets its contract, by the loop of a fold of proofs/Folding. Assumes nothing.
-use Rattle.store.proofs.FoldTables.{served_factors, served_root}
+use Rattle.std.proofs.Common.{arith, ◌∙◌}
+use Rattle.field.proofs.PowerTables.{table_is}
+use Rattle.code.proofs.Factors.{root_there, root_factors}
 use Rattle.store.proofs.Folding.{fold_start, fold_turn, turn_room, turn_from, next_from, lent_long}
 use Rattle.store.proofs.writing.fold.Goals as goal
 
@@ -14,11 +16,14 @@ mix-requires-clause-part_len c =
     rw (turn_from c.loop-l.invariant c.loop-l-test.true c.two_to-m.ensures, c.two_to-m.ensures) (lent_long c.loop-l.invariant c.loop-l-test.true)
 
 pub mix-requires-clause-row_factors : goal.mix-requires-clause-row_factors
-mix-requires-clause-row_factors c = rw c.two_to-m.ensures (served_factors c.requires.serves c.loop-l-test.true)
+mix-requires-clause-row_factors c =
+    rw c.two_to-m.ensures
+    (root_factors {n = 10} (c.powers-powers.ensures ∙ table_is) (omega (arith, c.requires.level_bound, c.loop-l-test.true)) (omega arith))
 
 pub loop-l-preserved : goal.loop-l-preserved
 loop-l-preserved c =
     let h = c.loop-l.invariant in
     let b = c.loop-l-test.true in
     let at = turn_from h b c.two_to-m.ensures in
-    rw (← next_from h b, at) (fold_turn h b (served_root c.requires.serves b) (rw (at, c.two_to-m.ensures) at c.mix.ensures))
+    let root = root_there {n = 10} (c.powers-powers.ensures ∙ table_is) (omega (arith, c.requires.level_bound, b)) (omega arith) in
+    rw (← next_from h b, at) (fold_turn h b root (rw (at, c.two_to-m.ensures) at c.mix.ensures))

@@ -6,6 +6,7 @@ use Prim.Native.Nat.{ℕ, suc, ◌+◌, ◌*◌, ◌≤◌}
 use native.Mathlib.Nat.{mul-le-mul_right}
 use native.Mathlib.Numerals.{add-one}
 use native.Mathlib.Omega.{arith}
+use borrow.Author.Rules.{rules}
 use borrow.Author.Tests.{eq-eqb}
 use lib.Dec.{lit<}
 use lib.ListN.{length, replicate}
@@ -28,8 +29,8 @@ module _ (h : Header) (r f g : List ℕ) (i : ℕ) (b : List ℕ) (z : 0 ≡ wri
   told : WriteTaken h r f g i b
   told = write_taken h r f g i b (test (not (is_blank b)) 11 done) (sym z)
 
-  record_room : suc i * h.s ≤ length r
-  record_room = omega (arith, mul-le-mul_right h.s told.within, told.raw_long)
+  record_room : suc i * length b ≤ length r
+  record_room = rw told.block_long (omega (arith, mul-le-mul_right h.s told.within, told.raw_long))
 
   words : Words 65537 (i ∷ b)
   words = words_cons 65537 (lit< tt) (omega (arith, told.within, (fits h told.fitting).few)) (field_words (data_words b told.words))
@@ -43,12 +44,8 @@ module _ (h : Header) (r f g : List ℕ) (i : ℕ) (b : List ℕ) (z : 0 ≡ wri
       q ∙ ap (λ (m : ℕ). replicate m 0) told.log_long
       ∙ ap (λ (u : Buffers). u.log) (w ∙ sym (if_taken_lem (written h (buffers r f g) i b) (buffers r f g) (sym z)))
 
-pub put_record-requires-clause-words_len : goal.put_record-requires-clause-words_len
-put_record-requires-clause-words_len c =
-    (told c.args.header c.args.raw.now c.args.full.now c.args.log.now c.args.number c.args.block.now c.in_ok-valid.ensures.number).block_long
-
-pub put_record-requires-clause-s_in_bounds : goal.put_record-requires-clause-s_in_bounds
-put_record-requires-clause-s_in_bounds c =
+pub put_record-requires : goal.put_record-requires
+put_record-requires c =
     record_room c.args.header c.args.raw.now c.args.full.now c.args.log.now c.args.number c.args.block.now c.in_ok-valid.ensures.number
 
 pub build-requires-clause-lengths : goal.build-requires-clause-lengths
@@ -72,3 +69,18 @@ rebuild-requires-clause-lengths c =
     let e = c.in_ok-valid.ensures in
     let t = told c.args.header c.args.raw.now c.args.full.now c.args.log.now c.args.number c.args.block.now e.number in
     (t.log_long ∙ ap log_size (sym e.same), t.block_long ∙ ap (λ (h : Header). h.s) (sym e.same))
+
+pub returns-then-next-record_count-clause-raw_after : goal.returns-then-next-record_count-clause-raw_after
+returns-then-next-record_count-clause-raw_after c =
+    let e = (told c.args.header c.args.raw.now c.args.full.now c.args.log.now c.args.number c.args.block.now c.in_ok-valid.ensures.number).block_long in
+    search rules
+
+pub returns-then-next-record_count-clause-full_after : goal.returns-then-next-record_count-clause-full_after
+returns-then-next-record_count-clause-full_after c =
+    let e = (told c.args.header c.args.raw.now c.args.full.now c.args.log.now c.args.number c.args.block.now c.in_ok-valid.ensures.number).block_long in
+    search rules
+
+pub returns-clause-raw_after : goal.returns-clause-raw_after
+returns-clause-raw_after c =
+    let e = (told c.args.header c.args.raw.now c.args.full.now c.args.log.now c.args.number c.args.block.now c.in_ok-valid.ensures.number).block_long in
+    search rules
