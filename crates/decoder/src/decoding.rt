@@ -16,8 +16,8 @@ ghost use Rattle.decoder.specs.Promises.{Enough};
 use code::ValidStripe;
 use encoder::factors::Word;
 
-// Step 1: multiplies each row by its position's factor, and clears the rows of erased positions. Here and below marks and factors stay slices beside the
-// stripe: of a struct with references in it a contract would have to say at each place that it means the value at entry.
+// Step 1: multiplies each row by its position's factor, and clears the rows of erased positions. Here and below part, marks and factors stay slices beside the
+// stripe: of a struct with references in it, part's a `&mut`, a contract would have to say at each place which of its values it means, entry's or return's.
 fn weigh(part: &mut [u32], marks: &[bool], factors: &[u32], st: ValidStripe)
     requires marks_len { position_count st.stripe ≤ length marks.now }
     requires factors_len { position_count st.stripe ≤ length factors.now }

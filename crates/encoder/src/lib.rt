@@ -13,9 +13,11 @@ ghost use Rattle.code.specs.Stripe.{modulus_of, root_in, block_count, block_word
 ghost use Rattle.code.specs.steps.Storing.{stored, scaled_word, scale_row};
 
 use code::{ValidStripe, table_65537};
-use factors::{Factor, ShortWord};
+use mixing::direction::{Factor, Power};
 
-// All mixing of a half of a stripe.
+// Here and below the rows stay a slice beside the stripe: of a struct with a `&mut` slice in it a contract would have to say which of its values it means.
+
+// All mixing of a half of a stripe. It and its inverse stay two: the definition and the function called differ, and what is shared is the stripe's two numbers.
 pub fn mix_all(half: &mut [u32], st: ValidStripe)
     requires half_len { length half.old ≡ block_words st.stripe }
     requires words { Words (modulus_of st.stripe) half.old }
@@ -80,7 +82,7 @@ fn turn_over(part: &mut [u32], st: ValidStripe)
     for j in 0..rows {
         let from = j * width;
         let e = code::number::reversed(10, first + j) as usize;
-        let g = ShortWord { value: powers[e] };
+        let g = Power { g: powers[e] };
         scale_row_over(part, from, half + from, width, g);
     }
 }
@@ -100,8 +102,8 @@ pub fn turn_back(part: &mut [u32], st: ValidStripe)
     for j in 0..rows {
         let at = j * width;
         let e = code::number::reversed(10, first + j) as usize * 2047;
-        let g = ShortWord {
-            value: powers[e % 2048],
+        let g = Power {
+            g: powers[e % 2048],
         };
         scale_row(part, at, width, g);
     }

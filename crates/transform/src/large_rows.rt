@@ -9,7 +9,8 @@ ghost use Rattle.field.specs.Power.{inverse};
 use mixing::direction::{Mixing, Unmixing};
 
 // All mixing of 2^level rows, from single rows up, two levels at once; where their number is odd, the first one alone. The root of 2^l records, under which
-// 2^l rows are mixed with 2^l rows, is entry 1024 / 2^l.
+// 2^l rows are mixed with 2^l rows, is entry 1024 / 2^l. It and its inverse stay two: the order of levels, the entry of the table and the definition all
+// differ, and what is shared is one call, `cross_each`.
 pub(crate) fn mix_rows(half: &mut [u32], level: usize, width: usize)
     requires level_bound { level ≤ 11 }
     requires half_len { length half.old ≡ 2 ^ level * width }

@@ -12,7 +12,7 @@ ghost use Rattle.code.specs.Rows.{lifted};
 ghost use Rattle.code.specs.Transform.{transform, untransform};
 ghost use Rattle.field.specs.Power.{inverse};
 
-// All mixing of 2^level rows.
+// All mixing of 2^level rows. It and its inverse stay two: they differ in the function called on either way and in the definition, and share the test of width.
 pub fn mix_all(half: &mut [u32], level: usize, width: usize)
     requires level_bound { level ≤ 10 }
     requires half_len { length half.old ≡ 2 ^ level * width }

@@ -9,6 +9,7 @@ ghost use Rattle.code.specs.Transform.{transform, untransform};
 use mixing::direction::{Mixing, Unmixing};
 
 // All mixing of 2^level rows of `width` words, at most 3,072 in all: at most 1,536 words have a factor in a level.
+// It and its inverse stay two: the order of levels, the entry of the table and the definition all differ, and what is shared is two calls.
 pub fn mix_small_rows(half: &mut [u32], level: usize, width: usize)
     requires level_bound { (level ≤ 11) × (2 ^ level * width ≤ 3072) }
     requires half_len { length half.old ≡ 2 ^ level * width }

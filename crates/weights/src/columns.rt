@@ -34,8 +34,8 @@ fn load_digits(column: &mut [u32], at: Positions, unit: u32)
     }
 }
 
-// All mixing of a column, which is rows of one word, or its inverse, but for a factor 2^(level + 1). Each caller knows which: a trait with an impl for either
-// would be longer than the flag.
+// All mixing of a column, which is rows of one word, or its inverse, but for a factor 2^(level + 1). A flag says which: two functions in its place would say
+// the same three clauses twice.
 pub fn cross(column: &mut [u32], at: Positions, unmixing: bool)
     requires column_len { length column.old ≡ 2 ^ suc at.level }
     requires words { Words fermat.modulus column.old }

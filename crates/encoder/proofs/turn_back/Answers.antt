@@ -28,7 +28,7 @@ loop-j-init c = rw (zero-mul c.args.st.stripe.width) (storing_rows_start 0 _ _ _
 
 pub invariant_of-g : goal.invariant_of-g
 invariant_of-g c = record {
-  is_short = (back_entry c.args.st.numbers c.block_count-rows.ensures c.loop-j-test.true c.powers-powers.ensures c.reversed.ensures).short;
+  short = (back_entry c.args.st.numbers c.block_count-rows.ensures c.loop-j-test.true c.powers-powers.ensures c.reversed.ensures).short;
 }
 
 pub scale_row-requires-clause-words : goal.scale_row-requires-clause-words

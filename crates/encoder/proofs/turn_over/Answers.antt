@@ -62,7 +62,7 @@ bounds-powers-e c =
 
 pub invariant_of-g : goal.invariant_of-g
 invariant_of-g c = record {
-  is_short = (over_entry c.args.st.numbers c.block_count-rows.ensures c.loop-j-test.true c.powers-powers.ensures c.reversed-e.ensures).short;
+  short = (over_entry c.args.st.numbers c.block_count-rows.ensures c.loop-j-test.true c.powers-powers.ensures c.reversed-e.ensures).short;
 }
 
 pub scale_row_over-requires-clause-by_index : goal.scale_row_over-requires-clause-by_index
