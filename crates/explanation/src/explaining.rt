@@ -18,7 +18,7 @@ fn positions_left(reading: Reading, level: usize) -> usize
     ensures { result ≡ positions_left reading.entry.header.header (erasures_in reading.entry.erasures.now) level }
 {
     let mut marks = [false; 2048];
-    reading.mark_stripe(level, &mut marks);
+    image::erasures::mark_stripe(reading.header, reading.erasures, level, &mut marks);
     let all = code::number::two_to(level + 1);
     let erased = decoder::decoding::count_erased(&marks, level);
     all - erased

@@ -115,15 +115,13 @@ pub fn check<'a>(
     })
 }
 
-impl<'a> Reading<'a> {
-    // Marks the erased positions of a stripe.
-    pub fn mark_stripe(self, level: usize, marks: &mut [bool])
-        requires level { level ≤ self.header.header.k }
-        requires marks_value { marks.old ≡ replicate 2048 false }
-        ensures { marks.new ≡ marks_of self.entry.header.header (erasures_in self.entry.erasures.now) level }
-    {
-        let at = 4 * self.header.stripe_at(level);
-        let positions = code::number::two_to(level + 1);
-        mark(marks, self.erasures, at, 4 * self.header.width(), positions);
-    }
+// Marks the erased positions of a stripe.
+pub fn mark_stripe(header: ValidHeader, erasures: &[u8], level: usize, marks: &mut [bool])
+    requires level { level ≤ header.header.k }
+    requires marks_value { marks.old ≡ replicate 2048 false }
+    ensures { marks.new ≡ marks_of header.header (erasures_in erasures.now) level }
+{
+    let at = 4 * header.stripe_at(level);
+    let positions = code::number::two_to(level + 1);
+    mark(marks, erasures, at, 4 * header.width(), positions);
 }

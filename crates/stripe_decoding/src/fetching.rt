@@ -34,7 +34,7 @@ pub fn lay_stripe(
         (decode_stripe reading.entry.header.header reading.entry.image.now (erasures_in reading.entry.erasures.now) level) out.old }
 {
     let mut marks = [false; 2048];
-    reading.mark_stripe(level, &mut marks);
+    image::erasures::mark_stripe(reading.header, reading.erasures, level, &mut marks);
     let vault = VaultStripe::new(reading.header, level);
     let Some(ready) = ReadyStripe::new(vault, &marks) else {
         return Err(Refusal::TooFew);

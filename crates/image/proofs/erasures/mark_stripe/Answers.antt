@@ -1,28 +1,28 @@
--- `image::reading::Reading::mark_stripe` meets its contract. Assumes nothing.
+-- `image::erasures::mark_stripe` meets its contract. Assumes nothing.
 use Rattle.std.proofs.Common.{◌≡◌, ap, ◌∙◌, ℕ, suc, ◌^◌, pow_mono, add-one, arith}
 use Rattle.layout.proofs.Bounds.{fits}
 use Rattle.layout.proofs.StripePlaces.{inside}
 use Rattle.image.specs.Erasures.{erasures_in}
 use Rattle.image.proofs.Marking.{marks_for_is}
-use Rattle.image.proofs.reading.Reading.mark_stripe.Goals as goal
+use Rattle.image.proofs.erasures.mark_stripe.Goals as goal
 
 pub mark-requires-clause-marks_value : goal.mark-requires-clause-marks_value
 mark-requires-clause-marks_value c =
-    let v = c.args.self.header in
+    let v = c.args.header in
     let f = fits v.header v.fits in
     (c.requires.marks_value, rw (c.two_to-positions.ensures, add-one) (pow_mono {i = suc c.args.level} {j = 11} (omega (arith, c.requires.level, f.k_high))))
 
 pub mark-requires-clause-step_nonzero : goal.mark-requires-clause-step_nonzero
 mark-requires-clause-step_nonzero c =
-    let h = c.args.self.header.header in
+    let h = c.args.header.header in
     let l = c.args.level in
-    let f = fits h c.args.self.header.fits in
+    let f = fits h c.args.header.fits in
     let e : c.two_to-positions.result ≡ 2 ^ suc l = c.two_to-positions.ensures ∙ ap (λ (n : ℕ). 2 ^ n) (add-one l) in
     (rw c.width.ensures (omega arith), rw (e, c.stripe_at-at.ensures, c.width.ensures) (omega (arith, inside h l f c.requires.level, f.image_low)))
 
 pub returns : goal.returns
 returns c =
-    let h = c.args.self.header.header in
+    let h = c.args.header.header in
     let l = c.args.level in
     c.mark.ensures ∙ rw (c.two_to-positions.ensures, add-one l, c.stripe_at-at.ensures, c.width.ensures)
-    (marks_for_is h (erasures_in c.args.self.erasures.now) l)
+    (marks_for_is h (erasures_in c.args.erasures.now) l)
