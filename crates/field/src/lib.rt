@@ -1,5 +1,5 @@
 // Arithmetic on words of the field of p = 65537 elements: a word is a u32 below p, each result is the definition's, modulo p, and every number on the way
-// to it is held in 32 bits.
+// to it is held in 32 bits. That a word is below p stays a clause: words stand in buffers of u32, which the C interface lends.
 #![tactic(auto)]
 
 pub mod short_65537;

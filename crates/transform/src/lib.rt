@@ -1,5 +1,6 @@
 // All mixing of 2^level rows, in place, on slices that the caller lends, and its inverse. A row has words of any number; each function does the same to every
 // column.
+// That the words are below p, and how many there are, stays in clauses: they stand in buffers of u32, which the C interface lends, and change in place.
 #![tactic(auto)]
 
 mod large_rows;

@@ -2,6 +2,7 @@
 // erased positions of a term that depends on the difference of exponents alone, so that all of them are one convolution of the marks with the table of
 // logarithms: mixed, multiplied word by word, unmixed. Such a sum has to stay below p, and a logarithm has 16 bits: it is done for each of three digits
 // of six bits. Where there are few positions the sums are made directly.
+// That the words are below p, and how many there are, stays in clauses: they stand in buffers of u32, which the C interface lends, and change in place.
 #![tactic(auto)]
 
 mod columns;
