@@ -45,10 +45,7 @@ pub fn scale_row<F: Factor>(part: &mut [u32], at: usize, width: usize, g: F)
     requires words { Words fermat.modulus part.old }
     ensures { part.new ≡ scale_row fermat.modulus width at (F.value g) part.old }
 {
-    for j in 0..width {
-        let x = at + j;
-        part[x] = g.product(part[x]);
-    }
+    scale_row_over(part, at, at, width, g);
 }
 
 // The row from index `from` on times `g`, in the place of the row at `to`: of a row that it does not reach, or of one that begins no later.
