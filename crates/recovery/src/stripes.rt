@@ -27,25 +27,22 @@ fn lay_each(
     let header = reading.header.header;
     for level in (0..header.k + 1).rev() {
         if layout::places::has_stripe(header, level) {
-            let answer = stripe_decoding::fetching::lay_stripe(
+            stripe_decoding::fetching::lay_stripe(
                 reading,
                 content,
                 level as usize,
                 out,
                 scratch,
-            );
-            if let Err(refusal) = answer {
-                return Err(Fault {
-                    refusal,
-                    stripe: Some(level),
-                });
-            }
+            ).map_err(|refusal| Fault {
+                refusal,
+                stripe: Some(level),
+            })?;
         }
     }
     Ok(())
 }
 
-// What all stripes come to: the number and the stripe at which they stop, or the words. Where they stop the output may hold anything. The scratch is zeros.
+// What all stripes come to: the refusal and the stripe at which they stop, or the words. Where they stop the output may hold anything. The scratch is zeros.
 pub fn lay_stripes(
     reading: Reading,
     content: Content,

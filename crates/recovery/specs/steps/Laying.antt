@@ -1,4 +1,4 @@
--- What the stripes of an image come to where an overlay lays them. Assumes nothing: these are definitions.
+-- What the stripes of an image come to where they are laid one over the other. Assumes nothing: these are definitions.
 use Rattle.std.specs.Prelude.{true, false, List, ◌++◌, ℕ, zero, suc, length, drop}
 use Rattle.layout.specs.declared.Header.{Header}
 use Rattle.layout.specs.Header.{has_stripe, stripe_of}

@@ -1,5 +1,5 @@
 -- `recovery::recovering::recover` meets its contract. Assumes nothing.
-use mathlib.Core.Path.{◌≡◌, sym, ap, ◌∙◌}
+use mathlib.Core.Path.{sym, ap, ◌∙◌}
 use Rattle.std.proofs.Common.{ℕ, length, replicate}
 use Rattle.layout.specs.Header.{raw_size}
 use Rattle.image.proofs.ImageRefusals.{Lent, lent}

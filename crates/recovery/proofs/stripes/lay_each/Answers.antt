@@ -1,12 +1,18 @@
 -- `recovery::stripes::lay_each` meets its contract. The invariant: what is left to lay comes to all there was to lay. Assumes nothing.
-use mathlib.Core.Path.{◌≡◌, sym, ap, ◌∙◌}
-use Rattle.std.proofs.Common.{ℕ, List, suc, ◌-◌, arith}
+use mathlib.Core.Path.{◌≡◌, refl, sym, ap, ◌∙◌}
+use Rattle.std.proofs.Common.{rules, ℕ, List, suc, ◌-◌, arith}
 use Rattle.code.specs.Stripe.{block_words}
 use Rattle.layout.specs.declared.Header.{Header}
 use Rattle.layout.specs.declared.refusal.Refusal.{Refusal}
 use Rattle.layout.specs.Header.{stripe_of}
-use Rattle.layout.specs.Refusals.{number_of, answer_number}
-use Rattle.layout.proofs.Refusals.{not_zero}
+use Rattle.layout.specs.Refusals.{answer_number}
+use Rattle.layout.proofs.Refusals.{not_zero, ok_number}
+use Rattle.std.proofs.lemmas.Result.{err_from_is_err_and}
+use Rattle.std.specs.Prelude.{Result, Ok, Err, Some}
+use Rattle.std.specs.Result.{is_ok, IsErrAnd, MatchResult}
+use Rattle.recovery.specs.Verdicts.{verdict_of}
+use Rattle.recovery.specs.declared.fault.Fault.{Fault}
+use Rattle.recovery.specs.Recovery.{stopped}
 use Rattle.image.specs.Erasures.{erasures_in, marks_of}
 use Rattle.image.specs.Image.{words_of}
 use Rattle.image.specs.Loading.{stripe_in}
@@ -22,32 +28,51 @@ use Rattle.recovery.proofs.stripes.lay_each.Goals as goal
 found : (h : Header) (m e : List ℕ) (l : ℕ) → Comes (block_words (stripe_of h l)) (decoding h m e l)
 found h m e l = comes (stripe_of h l) (marks_of h (erasures_in e) l) (words_of (stripe_in h m l))
 
+err_same : {A : Type 0} {a b : Fault} {x y : Result A Fault} → x ≡ Err a → y ≡ Err b → x ≡ y → a ≡ b
+err_same p q e = cc
+
+-- a refusal that is passed on with its stripe
+stopped_by : (made : Refusal → Fault → Type 0) (r : Result (Unit {0}) Refusal) (q p : Result (Unit {0}) Fault) (f : Fault) (l : ℕ)
+    → ((e : Refusal) (g : Fault) → made e g → g ≡ record { refusal = e; stripe = Some l }) → MatchResult r (λ x. q ≡ Ok x) (λ e. IsErrAnd q (made e))
+    → q ≡ Err f → IsErrAnd p (λ g. g ≡ f) → (answer_number r ≡ 0 → ⊥) × (verdict_of p ≡ answer_of (stopped (answer_number r) l))
+stopped_by made (Ok x) q p f l k m e i = absurd (apart (sym m ∙ e))
+  where
+    apart : Ok x ≡ Err f → ⊥
+    apart z = cc
+stopped_by made (Err y) q p f l k m e i =
+    let u = err_from_is_err_and q m in
+    let v = err_from_is_err_and p i in
+    let g : u.0 ≡ record { refusal = y; stripe = Some l } = k y u.0 u.2 in
+    let same : f ≡ u.0 = err_same e u.1 refl in
+    (not_zero y, rw (v.1, v.2, same, g) refl)
+
 pub loop-level-init : goal.loop-level-init
 loop-level-init c =
     let r = c.args.reading in
     let h = r.header.header in
     left_all h c.args.content (decoding h r.image.now r.erasures.now) (omega arith) c.requires.output (found h r.image.now r.erasures.now h.k)
 
-pub returns-in-Err-clause-value : goal.returns-in-Err-clause-value
-returns-in-Err-clause-value c =
-    let w : c.loop-level.level ≡ suc (c.loop-level.level - 1) = omega arith in
+pub returns-in_err-map_err-clause-value : goal.returns-in_err-map_err-clause-value
+returns-in_err-map_err-clause-value c =
+    let w : c.loop-level.level-counter ≡ suc (c.loop-level.level-counter - 1) = omega arith in
     let there = sym c.has_stripe.ensures ∙ c.if-has_stripe.true in
-    sym (ap answer_of (left_stop c.loop-level.invariant w there c.in-Err.ensures.value (not_zero c.in-Err.refusal)))
+    let t = stopped_by _ c.lay_stripe.result c.map_err.result c.from_residual.result c.in_err-map_err.field-0.0 (c.loop-level.level-counter - 1) (λ e g k. search rules) c.map_err.ensures.cases c.in_err-map_err.was c.from_residual.ensures.1 in
+    t.1 ∙ sym (ap answer_of (left_stop c.loop-level.invariant w there c.lay_stripe.ensures.value t.0))
 
-pub loop-level-preserved-in_default : goal.loop-level-preserved-in_default
-loop-level-preserved-in_default c =
+pub loop-level-preserved-in-Continue-1 : goal.loop-level-preserved-in-Continue-1
+loop-level-preserved-in-Continue-1 c =
     let a = c.args in
     let r = a.reading in
     let h = r.header.header in
-    let w : c.loop-level.level ≡ suc (c.loop-level.level - 1) = omega arith in
+    let w : c.loop-level.level-counter ≡ suc (c.loop-level.level-counter - 1) = omega arith in
     let there = sym c.has_stripe.ensures ∙ c.if-has_stripe.true in
-    let e = c.lay_stripe-answer.ensures in
-    let z = ap answer_number c.in_default.is in
-    left_lay c.loop-level.invariant w there e.value (found h r.image.now r.erasures.now (c.loop-level.level - 1)) z (e.out_after z)
+    let e = c.lay_stripe.ensures in
+    let z = ok_number c.lay_stripe.result (sym c.map_err.ensures.variant ∙ ap is_ok c.in_ok-map_err.was) in
+    left_lay c.loop-level.invariant w there e.value (found h r.image.now r.erasures.now (c.loop-level.level-counter - 1)) z (e.out_after z)
 
 pub loop-level-preserved : goal.loop-level-preserved
 loop-level-preserved c =
-    let w : c.loop-level.level ≡ suc (c.loop-level.level - 1) = omega arith in
+    let w : c.loop-level.level-counter ≡ suc (c.loop-level.level-counter - 1) = omega arith in
     left_skip c.loop-level.invariant w (sym c.has_stripe.ensures ∙ c.if-has_stripe.false)
 
 pub returns-clause-value : goal.returns-clause-value

@@ -8,4 +8,4 @@ invariant-loop-level l =
     let h = l.reading.header.header in
     let m = l.reading.image.now in
     let e = l.reading.erasures.now in
-    Left h l.content (decoding h m e) (stripes_laid h l.content m e) l.out l.level
+    Left h l.content (decoding h m e) (stripes_laid h l.content m e) l.out l.level-counter
