@@ -154,11 +154,8 @@ touched_between {base} {step} {n} {o} s {low} {high} l h i =
     (λ a. mark_before base step n o s i (λ b. l.before i a)) (λ a. mark_behind base step n o s i (h.behind i a))
 
 module _ (base step : ℕ) (pos : 0 < step) where
-  pub lowest_start : (o : ℕ) → o < base → Lowest base step o 0
-  lowest_start o h = record { first = λ i a. omega arith; before = λ i a. absurd (omega arith) }
-
-  pub lowest_at : (o : ℕ) → base ≤ o → Lowest base step o ((o - base) / step)
-  lowest_at o h =
+  pub lowest_at : (o : ℕ) → Lowest base step o ((o - base) / step)
+  lowest_at o =
       record {
         first = λ i a. let e : o - base < suc i * step = (div-lt_iff_lt-mul {k = step} {x = o - base} {y = suc i} pos).0 (omega arith) in
             omega (arith, suc-mul i step);

@@ -17,7 +17,7 @@ struct Erasure {
     size: u32,
 }
 
-// Pair i of an erasure list.
+// Pair i of an erasure list: by its number, as `erasures_from` has it. Chunks of eight bytes would be cut into two numbers again, and are no plainer.
 fn erasure_at(erasures: &[u8], i: usize) -> Erasure
     requires { i < length erasures.now / 8 }
     ensures { (result.offset ≡ number_at erasures.now (8 * i)) × (result.size ≡ number_at erasures.now (8 * i + 4)) }
@@ -62,11 +62,7 @@ fn mark_touched(marks: &mut [bool], lost: Erasure, base: usize, step: usize, pos
     if end <= base || last <= offset {
         return;
     }
-    let low = if offset < base {
-        0
-    } else {
-        (offset - base) / step
-    };
+    let low = offset.saturating_sub(base) / step;
     let high = if end < last {
         (end - base - 1) / step + 1
     } else {

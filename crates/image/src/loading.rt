@@ -53,6 +53,7 @@ fn load_row<S: Source>(part: &mut [u32], to: usize, source: S, at: usize, cols: 
 
 // Loads a range of columns of each row, zeros for a marked row. With the first range, whether every word of every surviving row is a word of the field: all
 // columns are tested then, each row right after it is loaded. A later range is not tested, and passes.
+// A level is at most the header's k, and a range ends inside its stripe: a type that says so would depend on the header's or the stripe's value.
 pub fn load<S: Source>(
     part: &mut [u32],
     source: S,

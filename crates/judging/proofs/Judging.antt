@@ -3,7 +3,6 @@ use mathlib.Core.Path.{◌≡◌, refl, sym, ap, ap₂, ◌∙◌}
 use mathlib.Core.Bool.{Bool, true, false, ◌&&◌, and_assoc, and_comm}
 use mathlib.Core.List.{List}
 use Prim.Native.Nat.{ℕ, zero, suc, pred, ◌+◌, ◌*◌, ◌-◌, ◌^◌, ◌≤◌, ◌<◌}
-use native.Mathlib.Nat.{zero-mul}
 use native.Mathlib.Numerals.{add-one}
 use native.Mathlib.Decide.{dec_lt}
 use native.Mathlib.Omega.{arith}
@@ -14,7 +13,7 @@ use Rattle.std.proofs.lemmas.List.{drop-take}
 use lib.Seq.{get_or-set_same, get_or-set_other, take-length, get_or-take, get_or-drop, drop-drop}
 use Rattle.code.specs.declared.Stripe.{Stripe}
 use Rattle.code.specs.Stripe.{block_count}
-use Rattle.code.proofs.Lifting.{row_next, row_in}
+use Rattle.code.proofs.Lifting.{row_in}
 use Rattle.layout.specs.Records.{is_data, are_data}
 use Rattle.field.proofs.WordLists.{part_inside}
 use Rattle.field.proofs.EveryWord.{every_parts}

@@ -1,21 +1,17 @@
 -- The tests of one stripe after it is decoded, 9 and 10; and that the stripes of a header are those of a vault. Assumes nothing.
-use mathlib.Core.Path.{◌≡◌, refl, sym}
-use mathlib.Core.Bool.{Bool, true, false, not}
+use mathlib.Core.Path.{◌≡◌}
+use mathlib.Core.Bool.{Bool, true, false}
 use mathlib.Core.List.{List}
 use Prim.Native.Nat.{ℕ, ◌≤◌}
 use native.Mathlib.Omega.{arith}
-use borrow.Author.Tests.{ltb-false}
-use lib.Dec.{ltb}
-use lib.ListN.{length}
 use Rattle.code.specs.declared.Stripe.{Stripe}
-use Rattle.code.specs.Stripe.{block_count, position_count}
-use Rattle.decoder.specs.Decoding.{survivors, is_consistent, blocks_in}
+use Rattle.code.specs.Stripe.{block_count}
+use Rattle.decoder.specs.Decoding.{is_consistent, blocks_in}
 use Rattle.layout.specs.declared.Header.{Header}
 use Rattle.layout.specs.Header.{header_fits, stripe_of}
 use Rattle.layout.proofs.Bounds.{fits}
 use Rattle.layout.proofs.StripePlaces.{stripe_numbers}
 use Rattle.judging.specs.Decoding.{failed, decoded, are_records, from_test9}
-use Rattle.judging.specs.steps.Ready.{Ready}
 use Rattle.judging.specs.StripeFits.{StripeFits}
 
 -- WHAT A STRIPE DECODES TO where its surviving words are of the field

@@ -10,6 +10,5 @@ pub fn enough_survive(vault: VaultStripe, marks: &[bool]) -> bool
     requires { position_count vault.stripe ≤ length marks.now }
     ensures { result ≡ not (ltb (length (survivors vault.stripe.level marks.now)) (block_count vault.stripe)) }
 {
-    let level = vault.stripe.level;
-    decoder::decoding::count_erased(marks, level) <= code::number::two_to(level)
+    decoder::decoding::count_erased(marks, vault.stripe.level) <= vault.block_count()
 }

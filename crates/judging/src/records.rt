@@ -7,6 +7,7 @@ use crate::VaultStripe;
 use code::{Range, Stripe};
 
 // Whether a number is one that block j may have: its place on the full stripe, and below n on a level.
+// The caller computes `full` from the stripe and never gives it as a literal; the choice is no kind of its own.
 fn number_fits(full: bool, n: usize, j: usize, number: usize) -> bool
     ensures { result ≡ elim full [ true ↦ eqb number j | false ↦ ltb number n ] }
 {
@@ -37,7 +38,7 @@ pub fn judge(words: &[u32], vault: VaultStripe, range: Range, fits: &mut [bool])
     let st = vault.stripe;
     let cols = range.cols;
     let n = code::number::two_to(st.k);
-    let rows = code::number::two_to(st.level);
+    let rows = vault.block_count();
     let mut all = true;
     for j in 0..rows {
         let at = j * cols;

@@ -34,6 +34,20 @@ impl VaultStripe {
             stripe: header.stripe_of(level),
         }
     }
+
+    // The number of blocks.
+    pub fn block_count(self) -> usize
+        ensures { result ≡ block_count self.stripe }
+    {
+        code::number::two_to(self.stripe.level)
+    }
+
+    // The number of positions.
+    pub fn position_count(self) -> usize
+        ensures { result ≡ position_count self.stripe }
+    {
+        code::number::two_to(self.stripe.level + 1)
+    }
 }
 
 impl<'a> ReadyStripe<'a> {

@@ -37,10 +37,10 @@ fn copy_columns(words: &[u32], vault: VaultStripe, range: Range, skip: usize, ou
     ensures { out.new ≡ copied_columns vault.stripe range skip words.now out.old }
 {
     let st = vault.stripe;
-    let rows = code::number::two_to(st.level);
+    let rows = vault.block_count();
     let from = range.from;
     let end = from + range.cols;
-    let first = if from < skip { skip } else { from };
+    let first = from.max(skip);
     if first < end {
         let to = RowPlaces {
             first: first - skip,
@@ -76,7 +76,7 @@ fn lay_origins(vault: VaultStripe, blocks: &[u32], out: &mut [u32])
     let width = vault.stripe.width;
     let level = vault.stripe.level;
     let first = vault.stripe.first;
-    let rows = code::number::two_to(level);
+    let rows = vault.block_count();
     for i in 0..rows {
         let from = i * width;
         let write = first + i;
@@ -94,7 +94,7 @@ pub fn lay_range(content: Content, vault: VaultStripe, range: Range, words: &[u3
     ensures { out.new ≡ laid_range content vault.stripe range words.now out.old }
 {
     let st = vault.stripe;
-    let rows = code::number::two_to(st.level);
+    let rows = vault.block_count();
     let whole = st.level == st.k;
     match content {
         Content::Blocks => copy_columns(words, vault, range, 0, out),

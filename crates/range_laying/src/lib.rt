@@ -4,7 +4,7 @@
 pub mod blocks;
 pub mod pairs;
 
-// What is laid of a stripe's blocks.
+// What is laid of a stripe's blocks. No type parameter: the definitions go by its variants, and one function, `lay_range`, has the match.
 #[derive(Clone, Copy)]
 pub enum Content {
     Blocks,

@@ -25,6 +25,7 @@ fn lay_each(
         (laid_size reading.entry.header.header content) }
 {
     let header = reading.header.header;
+    // `0..=header.k` was tried: its loop returns after the last turn from inside, and the law of what is left to lay did not close there.
     for level in (0..header.k + 1).rev() {
         if layout::places::has_stripe(header, level) {
             stripe_decoding::fetching::lay_stripe(

@@ -48,14 +48,14 @@ pub fn decode_and_lay<S: Source>(
 {
     let vault = ready.vault;
     let st = vault.stripe;
-    let positions = code::number::two_to(st.level + 1);
-    let blocks = code::number::two_to(st.level);
+    let positions = vault.position_count();
+    let blocks = vault.block_count();
     let mut factors = [0u32; 2048];
     store_factors(&mut factors, ready, scratch);
     let mut fits = [true; 1024];
     let mut fit = true;
     let mut from = 0;
-    // No `for`: the room for each range says how many columns it has.
+    // No `for`: the room for each range says how many columns it has, and an iterator of ranges would keep this same `from`.
     while from < st.width {
         let range = range_decoding::ranges::range_at(vault, from, scratch.len());
         let size = positions * range.cols;

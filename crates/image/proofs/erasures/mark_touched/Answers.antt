@@ -1,9 +1,9 @@
 -- `image::erasures::mark_touched` meets its contract: the positions touched are those between two quotients (proofs/Marking). Assumes nothing.
-use Rattle.std.proofs.Common.{◌+◌, ◌≤◌, length, arith}
-use Rattle.image.proofs.Marking.{Lowest, Highest, lowest_start, lowest_at, highest_all, highest_at, touched_between, marked_same, erased_before}
+use Rattle.std.proofs.Common.{◌+◌, ◌/◌, ◌≤◌, length, arith}
+use Rattle.image.proofs.Marking.{Lowest, Highest, lowest_at, highest_all, highest_at, touched_between, marked_same, erased_before}
 use Rattle.image.proofs.Marking.{erased_behind, lowest_below, fill_marked}
 use Rattle.image.proofs.erasures.mark_touched.Goals as goal
-use Rattle.image.proofs.erasures.mark_touched.Goals.{then-offset-base, else-offset-base, then-end-last, else-end-last, Joined-end-last}
+use Rattle.image.proofs.erasures.mark_touched.Goals.{then-end-last, else-end-last, Joined-end-last}
 use Rattle.image.proofs.erasures.mark_touched.Goals.{then-end-base-via-then-end-base, then-end-base-via-else-end-base+then-last-offset}
 
 pub returns-then-end-base : goal.returns-then-end-base
@@ -16,14 +16,8 @@ returns-then-end-base c =
           erased_behind a.base a.step z a.positions a.lost.offset a.lost.size a.marks.now w.if-last-offset.true
     ]
 
-lowest : (c : Joined-end-last) → Lowest c.args.base c.args.step c.args.lost.offset c.if-offset-base.low
-lowest c =
-    let a = c.args in
-    let z = c.requires.step_nonzero.0 in
-    elim c.if-offset-base.branch [
-      | then-offset-base w ↦ rw w.low-is (lowest_start a.base a.step z a.lost.offset w.if-offset-base.true)
-      | else-offset-base w ↦ rw w.low-is (lowest_at a.base a.step z a.lost.offset w.if-offset-base.false)
-    ]
+lowest : (c : Joined-end-last) → Lowest c.args.base c.args.step c.args.lost.offset (c.saturating_sub.result / c.args.step)
+lowest c = rw c.saturating_sub.ensures (lowest_at c.args.base c.args.step c.requires.step_nonzero.0 c.args.lost.offset)
 
 highest : (c : Joined-end-last) → Highest c.args.base c.args.step c.args.positions (c.args.lost.offset + c.args.lost.size) c.if-end-last.high
 highest c =
@@ -35,7 +29,7 @@ highest c =
       | else-end-last w ↦ rw w.high-is (highest_all a.base a.step z a.positions end w.if-end-last.false)
     ]
 
-rises : (c : Joined-end-last) → c.if-offset-base.low ≤ c.if-end-last.high
+rises : (c : Joined-end-last) → c.saturating_sub.result / c.args.step ≤ c.if-end-last.high
 rises c = lowest_below c.requires.step_nonzero.0 (lowest c) (highest c) (omega arith) c.if-last-offset.false
 
 ends : (c : Joined-end-last) → c.if-end-last.high ≤ length c.args.marks.now

@@ -1,10 +1,8 @@
 -- `range_laying::blocks::copy_columns` meets its contract. Assumes nothing.
-use Rattle.std.proofs.Common.{arith}
-use Rattle.std.proofs.Common.{◌≡◌, ◌+◌, ◌-◌, max}
+use Rattle.std.proofs.Common.{arith, ◌+◌, ◌-◌, max}
 use mathlib.Core.Path.{sym}
 use Rattle.code.specs.Stripe.{block_count}
 use Rattle.range_laying.proofs.CopiedRows.{copied_none}
-use Rattle.range_laying.proofs.blocks.copy_columns.Goals.{then-from-skip, else-from-skip}
 use Rattle.range_laying.proofs.blocks.copy_columns.Goals as goal
 
 -- no column of the range is copied
@@ -13,10 +11,5 @@ returns-else-first-end c =
     let r = c.args.range in
     let s = c.args.skip in
     let w = c.args.vault.stripe.width in
-    let first : c.if-from-skip.first ≡ max r.from s =
-    elim c.if-from-skip.branch [
-      | then-from-skip x ↦ omega (arith, x.if-from-skip, x.first-is)
-      | else-from-skip x ↦ omega (arith, x.if-from-skip, x.first-is)
-    ] in
     sym (copied_none (max r.from s - s) (w - s) (max r.from s - r.from) r.cols (r.from + r.cols - max r.from s) c.args.words.now
-    (omega (arith, first, c.if-first-end.false)) (block_count c.args.vault.stripe) c.args.out.now)
+    (omega (arith, c.max-first.ensures, c.if-first-end.false)) (block_count c.args.vault.stripe) c.args.out.now)

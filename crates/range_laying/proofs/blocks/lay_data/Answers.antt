@@ -1,6 +1,6 @@
 -- `range_laying::blocks::lay_data` meets its contract. The invariant: the first j blocks are laid. Assumes nothing.
-use mathlib.Core.Path.{◌≡◌, refl}
-use Rattle.std.proofs.Common.{suc, ◌+◌, ◌*◌, ◌≤◌, length, get_or, arith, ap, add-one}
+use mathlib.Core.Path.{refl}
+use Rattle.std.proofs.Common.{suc, ◌+◌, ◌*◌, ◌≤◌, length, get_or, arith, add-one}
 use Rattle.range_laying.proofs.BlockLaying.{laying_start, laying_reads, laying_turn, laying_done}
 use Rattle.range_laying.proofs.blocks.lay_data.Goals.{In-loop-j}
 use Rattle.range_laying.proofs.blocks.lay_data.Goals as goal

@@ -13,7 +13,7 @@ loop-i-init c = naming_start _ _ _ _ _ _
 -- in a turn: the block is there
 reads : (c : In-loop-i) → c.loop-i.i * c.args.vault.stripe.width + c.args.vault.stripe.width ≤ length c.args.blocks.now
 reads c =
-    let b : suc c.loop-i.i ≤ block_count c.args.vault.stripe = omega (arith, c.loop-i-test.true, c.two_to-rows.ensures) in
+    let b : suc c.loop-i.i ≤ block_count c.args.vault.stripe = omega (arith, c.loop-i-test.true, c.block_count-rows.ensures) in
     omega (arith, c.requires.blocks_len, mul-le-mul_right c.args.vault.stripe.width b)
 
 inside : (c : In-loop-i) → c.loop-i.i * c.args.vault.stripe.width < length c.args.blocks.now
@@ -28,7 +28,7 @@ bounds-blocks-from c = inside (goal.at.bounds-blocks-from c).In-loop-i
 pub put_pair-requires : goal.put_pair-requires
 put_pair-requires c =
     let i = c.loop-i.invariant in
-    rw i.same (c.requires.by_index c.loop-i.i (omega (arith, c.loop-i-test.true, c.two_to-rows.ensures)))
+    rw i.same (c.requires.by_index c.loop-i.i (omega (arith, c.loop-i-test.true, c.block_count-rows.ensures)))
 
 pub overflow_mul-from : goal.overflow_mul-from
 overflow_mul-from c = omega (arith, reads (goal.at.overflow_mul-from c).In-loop-i)
@@ -37,4 +37,4 @@ pub loop-i-preserved : goal.loop-i-preserved
 loop-i-preserved c = naming_turn c.loop-i.invariant c.loop-i-test.true c.put_pair.ensures
 
 pub returns : goal.returns
-returns c = naming_done c.loop-i.invariant c.loop-i-test.false ∙ rw c.two_to-rows.ensures
+returns c = naming_done c.loop-i.invariant c.loop-i-test.false ∙ rw c.block_count-rows.ensures

@@ -1,5 +1,5 @@
 -- `stripe_decoding::ranges::decode_and_lay` meets its contract, by the laws of proofs/RangeLoop. Assumes nothing.
-use Rattle.std.proofs.Common.{◌≡◌, ◌*◌, ◌∙◌, refl, add-one, arith}
+use Rattle.std.proofs.Common.{◌≡◌, ◌*◌, ◌∙◌, refl, arith}
 use Rattle.code.specs.Stripe.{block_count}
 use Rattle.layout.specs.declared.refusal.Refusal.{Refusal}
 use Rattle.layout.specs.Refusals.{number_of}
@@ -50,7 +50,7 @@ lay_range-requires-clause-placed g c =
     let R = c.loop-from.invariant in
     let f = rw R.sized at c.range_at-range.ensures in
     let d = c.in_ok-decode_range.ensures in
-    let q = first_words range.cols _ _ c.two_to-blocks.ensures (length_columns st.width range.from range.cols (block_count st) (blocks st ms ws))
+    let q = first_words range.cols _ _ c.block_count-blocks.ensures (length_columns st.width range.from range.cols (block_count st) (blocks st ms ws))
     (d.part_after refl) in
     range_placed a.content st ms ws R f d.value refl q c.judge-fit.ensures.fits_after c.judge-fit.ensures.value
     c.args.ready.vault.fits c.requires.out_len c.requires.level_room c.if-fit.true
@@ -65,12 +65,12 @@ loop-from-preserved g c =
     let R = c.loop-from.invariant in
     let f = rw R.sized at c.range_at-range.ensures in
     let d = c.in_ok-decode_range.ensures in
-    let q = first_words range.cols _ _ c.two_to-blocks.ensures (length_columns st.width range.from range.cols (block_count st) (blocks st ms ws))
+    let q = first_words range.cols _ _ c.block_count-blocks.ensures (length_columns st.width range.from range.cols (block_count st) (blocks st ms ws))
     (d.part_after refl) in
     range_taken a.content st ms ws R f d.value refl q c.judge-fit.ensures.fits_after c.judge-fit.ensures.value
     c.args.ready.vault.fits c.requires.out_len c.requires.level_room
-    (same_length (c.two_to-positions.result * range.cols) c.loop-from.scratch c.decode_range.new.part
-    (rw (c.two_to-positions.ensures, add-one) c.range_at-range.ensures.inside) c.decode_range.auto.part)
+    (same_length (c.position_count-positions.result * range.cols) c.loop-from.scratch c.decode_range.new.part
+    (rw c.position_count-positions.ensures c.range_at-range.ensures.inside) c.decode_range.auto.part)
     c.if-fit.auto.out
     (λ t. elim c.if-fit.branch [ then-fit w ↦ w.out-is ∙ w.lay_range.ensures | else-fit w ↦ cc ])
     (λ t. elim c.if-fit.branch [ then-fit w ↦ cc | else-fit w ↦ w.out-is ])
