@@ -16,9 +16,6 @@ use Rattle.weights.proofs.sums.add_sums.Goals as goal
 product_le : {unit x : ℕ} (g y : ℕ) → unit ≤ 4096 → x ≡ times 65537 g y → unit * x ≤ 4096 * 65536
 product_le g y b e = mul-le-mul {n₂ = 4096} {m₂ = 65536} b (omega (arith, e, times_lt 65537 (omega arith) g y))
 
-pub inverse-inverse-requires : goal.inverse-inverse-requires
-inverse-inverse-requires c = omega (arith, c.count-count.ensures, pow_mono {i = suc c.args.at.level} {j = 11} (omega arith))
-
 pub loop-i-init : goal.loop-i-init
 loop-i-init c = storing_start _ _ _ _
 
@@ -58,7 +55,3 @@ loop-i-preserved c =
     adding_turn c.args.at.level c.count-count.ensures c.args.unit c.args.part.now c.loop-i.invariant c.loop-i-test.true
     c.inverse-inverse.ensures c.exponent.ensures c.reversed.ensures c.mul.ensures
 
-pub returns : goal.returns
-returns c =
-    storing_done c.loop-i.invariant c.loop-i-test.false
-    ∙ ap (λ (m : ℕ). stored 0 (added_at c.args.at.level c.args.unit c.args.part.now c.args.logs.now) m c.args.logs.now) c.count-count.ensures

@@ -39,14 +39,6 @@ pub log_of_power-requires : goal.log_of_power-requires
 log_of_power-requires c =
     omega (arith, c.exponent.ensures, exponent_lt c.args.at.level c.loop-i.i (omega arith))
 
-pub overflow_mul-sum : goal.overflow_mul-sum
-overflow_mul-sum c =
-    omega (
-      arith,
-      term_lt c.args.at.level c.loop-i.i c.args.marks.now c.args.at.few c.count-count.ensures c.loop-i-test.true (c.from.ensures ∙ flag_is _)
-          c.exponent.ensures c.log_of_power.ensures,
-    )
-
 pub overflow_add-sum : goal.overflow_add-sum
 overflow_add-sum c =
     omega (
@@ -60,5 +52,3 @@ loop-i-preserved c =
     turn c.args.at.level c.loop-i.i c.args.marks.now c.args.at.few c.count-count.ensures c.loop-i-test.true (c.from.ensures ∙ flag_is _)
     c.exponent.ensures c.log_of_power.ensures c.loop-i.invariant
 
-pub returns : goal.returns
-returns c = c.loop-i.invariant.is ∙ ap (powers_to c.args.at.level c.args.marks.now) (omega arith)
