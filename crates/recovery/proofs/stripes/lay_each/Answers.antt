@@ -57,7 +57,7 @@ returns-in_err-map_err-clause-value c =
     let w : c.loop-level.level-counter ≡ suc (c.loop-level.level-counter - 1) = omega arith in
     let there = sym c.has_stripe.ensures ∙ c.if-has_stripe.true in
     let t = stopped_by _ c.lay_stripe.result c.map_err.result c.from_residual.result c.in_err-map_err.field-0.0 (c.loop-level.level-counter - 1)
-        (λ e g k. search rules) c.map_err.ensures.cases c.in_err-map_err.was c.from_residual.ensures.1 in
+    (λ e g k. search rules) c.map_err.ensures.cases c.in_err-map_err.was c.from_residual.ensures.1 in
     t.1 ∙ sym (ap answer_of (left_stop c.loop-level.invariant w there c.lay_stripe.ensures.value t.0))
 
 pub loop-level-preserved-in-Continue-1 : goal.loop-level-preserved-in-Continue-1

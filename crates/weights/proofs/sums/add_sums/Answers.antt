@@ -54,4 +54,3 @@ pub loop-i-preserved : goal.loop-i-preserved
 loop-i-preserved c =
     adding_turn c.args.at.level c.count-count.ensures c.args.unit c.args.part.now c.loop-i.invariant c.loop-i-test.true
     c.inverse-inverse.ensures c.exponent.ensures c.reversed.ensures c.mul.ensures
-

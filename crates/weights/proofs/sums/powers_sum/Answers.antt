@@ -51,4 +51,3 @@ pub loop-i-preserved : goal.loop-i-preserved
 loop-i-preserved c =
     turn c.args.at.level c.loop-i.i c.args.marks.now c.args.at.few c.count-count.ensures c.loop-i-test.true (c.from.ensures ∙ flag_is _)
     c.exponent.ensures c.log_of_power.ensures c.loop-i.invariant
-
