@@ -1,5 +1,5 @@
-// Where stripes stand, their numbers, which there are, and the first empty level. That a level is at most k stays a clause: a type for it would hold the header,
-// which each of these methods has already.
+// Where stripes stand, their numbers, which there are, and the first empty level. That a level is at most k stays a clause: a type for it would hold the
+// header, which each of these methods has already.
 ghost use Rattle.std.specs.Prelude.{◌≡◌, ◌^◌, ◌≤◌, ◌<◌, suc, ℕ};
 ghost use Rattle.layout.specs.Header.{first_of, stripe_at, stripe_of, is_filled, has_stripe, first_empty};
 

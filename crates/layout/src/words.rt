@@ -3,8 +3,8 @@ ghost use Rattle.std.specs.Prelude.{◌≡◌, ◌+◌, ◌*◌, ◌≤◌, leng
 ghost use Rattle.code.specs.steps.Storing.{stored, word_from};
 ghost use Rattle.layout.specs.Records.{are_data, is_blank, records_fit};
 
-// Copies as many words. By index: most rows are of few words, for which a call of `copy_from_slice` took longer than the loop (opening at s = 3 missed its mark),
-// and of words that `iter_mut().zip(..)` writes a proof knows nothing.
+// Copies as many words. By index: of words that `iter_mut().zip(..)` writes a proof knows nothing, and most rows are of few words, for which a call of
+// `copy_from_slice` took longer than the loop: an opening at s = 3 missed its mark.
 pub fn copy_words(out: &mut [u32], words: &[u32])
     requires { length out.old ≡ length words.now }
     ensures { out.new ≡ words.now }

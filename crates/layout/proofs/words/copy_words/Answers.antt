@@ -23,4 +23,5 @@ pub returns : goal.returns
 unfolding word_from
 returns c =
     storing_done c.loop-j.invariant c.loop-j-test.false
-    ∙ stored_all (word_from c.args.words.now 0) c.args.words.now c.args.out.now c.requires (λ i b. ap (λ (k : ℕ). get_or c.args.words.now k 0) (sym (zero-add i)))
+    ∙ stored_all (word_from c.args.words.now 0) c.args.words.now c.args.out.now c.requires
+    (λ i b. ap (λ (k : ℕ). get_or c.args.words.now k 0) (sym (zero-add i)))
