@@ -19,23 +19,9 @@ fits_at c =
     rw (add-one c.args.s) (c.requires.by_index c.loop-j.j c.loop-j-test.true) in
     omega (arith, n, c.loop-j.invariant.same)
 
-pub overflow_mul-at : goal.overflow_mul-at
-overflow_mul-at c = omega (arith, reads (goal.at.overflow_mul-at c).In-loop-j)
-
-pub offset_bounds-blocks-at : goal.offset_bounds-blocks-at
-offset_bounds-blocks-at c = omega (arith, reads (goal.at.offset_bounds-blocks-at c).In-loop-j)
-
-pub bounds-blocks-at : goal.bounds-blocks-at
-bounds-blocks-at c = omega (arith, reads (goal.at.bounds-blocks-at c).In-loop-j)
-
-pub overflow_mul-to : goal.overflow_mul-to
-overflow_mul-to c = omega (arith, fits_at (goal.at.overflow_mul-to c).In-loop-j)
-
 pub copy_row-requires : goal.copy_row-requires
 copy_row-requires c = (fits_at (goal.at.copy_row-requires c).In-loop-j, reads (goal.at.copy_row-requires c).In-loop-j)
 
 pub loop-j-preserved : goal.loop-j-preserved
 loop-j-preserved c = laying_turn c.loop-j.invariant c.loop-j-test.true _ refl (omega (arith, c.requires.blocks_len)) c.copy_row.ensures
 
-pub returns : goal.returns
-returns c = laying_done c.loop-j.invariant c.loop-j-test.false

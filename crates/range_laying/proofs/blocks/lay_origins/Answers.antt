@@ -19,22 +19,6 @@ reads c =
 inside : (c : In-loop-i) → c.loop-i.i * c.args.vault.stripe.width < length c.args.blocks.now
 inside c = omega (arith, reads c, c.args.vault.fits.thick)
 
-pub offset_bounds-blocks-from : goal.offset_bounds-blocks-from
-offset_bounds-blocks-from c = omega (arith, inside (goal.at.offset_bounds-blocks-from c).In-loop-i)
-
-pub bounds-blocks-from : goal.bounds-blocks-from
-bounds-blocks-from c = inside (goal.at.bounds-blocks-from c).In-loop-i
-
-pub put_pair-requires : goal.put_pair-requires
-put_pair-requires c =
-    let i = c.loop-i.invariant in
-    rw i.same (c.requires.by_index c.loop-i.i (omega (arith, c.loop-i-test.true, c.block_count-rows.ensures)))
-
-pub overflow_mul-from : goal.overflow_mul-from
-overflow_mul-from c = omega (arith, reads (goal.at.overflow_mul-from c).In-loop-i)
-
 pub loop-i-preserved : goal.loop-i-preserved
 loop-i-preserved c = naming_turn c.loop-i.invariant c.loop-i-test.true c.put_pair.ensures
 
-pub returns : goal.returns
-returns c = naming_done c.loop-i.invariant c.loop-i-test.false ∙ rw c.block_count-rows.ensures

@@ -8,5 +8,3 @@ loop-i-init c = filling_start _ _ _ _
 pub loop-i-preserved : goal.loop-i-preserved
 loop-i-preserved c = filling_turn _ _ c.loop-i.invariant c.loop-i-test.true c.requires c.put_pair.ensures
 
-pub returns : goal.returns
-returns c = filling_done _ _ c.loop-i.invariant c.loop-i-test.false
