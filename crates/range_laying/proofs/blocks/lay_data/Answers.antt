@@ -1,7 +1,7 @@
 -- `range_laying::blocks::lay_data` meets its contract. The invariant: the first j blocks are laid. Assumes nothing.
 use mathlib.Core.Path.{refl}
 use Rattle.std.proofs.Common.{suc, ◌+◌, ◌*◌, ◌≤◌, length, get_or, arith, add-one}
-use Rattle.range_laying.proofs.BlockLaying.{laying_start, laying_reads, laying_turn, laying_done}
+use Rattle.range_laying.proofs.BlockLaying.{laying_start, laying_reads, laying_turn}
 use Rattle.range_laying.proofs.blocks.lay_data.Goals.{In-loop-j}
 use Rattle.range_laying.proofs.blocks.lay_data.Goals as goal
 
@@ -24,4 +24,3 @@ copy_row-requires c = (fits_at (goal.at.copy_row-requires c).In-loop-j, reads (g
 
 pub loop-j-preserved : goal.loop-j-preserved
 loop-j-preserved c = laying_turn c.loop-j.invariant c.loop-j-test.true _ refl (omega (arith, c.requires.blocks_len)) c.copy_row.ensures
-

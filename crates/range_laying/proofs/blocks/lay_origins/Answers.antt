@@ -1,9 +1,8 @@
 -- `range_laying::blocks::lay_origins` meets its contract. The invariant: the origins of the first i blocks are laid. Assumes nothing.
 use Rattle.std.proofs.Common.{suc, ◌+◌, ◌*◌, ◌≤◌, ◌<◌, length, arith}
-use mathlib.Core.Path.{◌∙◌}
 use native.Mathlib.Nat.{mul-le-mul_right}
 use Rattle.code.specs.Stripe.{block_count}
-use Rattle.range_laying.proofs.PairLoops.{naming_start, naming_turn, naming_done}
+use Rattle.range_laying.proofs.PairLoops.{naming_start, naming_turn}
 use Rattle.range_laying.proofs.blocks.lay_origins.Goals.{In-loop-i}
 use Rattle.range_laying.proofs.blocks.lay_origins.Goals as goal
 
@@ -21,4 +20,3 @@ inside c = omega (arith, reads c, c.args.vault.fits.thick)
 
 pub loop-i-preserved : goal.loop-i-preserved
 loop-i-preserved c = naming_turn c.loop-i.invariant c.loop-i-test.true c.put_pair.ensures
-
