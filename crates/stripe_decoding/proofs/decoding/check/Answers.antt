@@ -31,11 +31,6 @@ returns-in_err-reading-clause-number c =
     passed_on _ c.from_residual.result c.from_residual.ensures.1
     ∙ early a.header a.image.now a.erasures.now a.stripe a.out.now a.scratch.now c.in_err-reading.ensures.number (some_number c.in_err-reading.field-0.0)
 
-pub has_stripe-requires : goal.has_stripe-requires
-has_stripe-requires c =
-    let v = c.in_ok-reading.reading.header in
-    omega (arith, (fits v.header v.fits).k_high, ap (λ (h : Header). h.k) c.in_ok-reading.ensures.same.0)
-
 pub returns-then-not-has_stripe-clause-number : goal.returns-then-not-has_stripe-clause-number
 returns-then-not-has_stripe-clause-number c =
     let a = c.args in

@@ -15,11 +15,6 @@ decode_and_lay-requires-clause-source_len c =
     bytes_fit r.header.header c.args.level (c.in-Some.ensures.0 ∙ c.new-vault.ensures) r.image.now r.header.fits c.requires.within r.sized
     c.stripe_bytes-bytes.ensures
 
-pub decode_and_lay-requires-clause-room : goal.decode_and_lay-requires-clause-room
-decode_and_lay-requires-clause-room c =
-    let h = c.args.reading.header in
-    logs_room h.header c.args.level (c.in-Some.ensures.0 ∙ c.new-vault.ensures) c.requires.laying_fits.room h.fits c.requires.within
-
 pub decode_and_lay-requires-clause-level_room : goal.decode_and_lay-requires-clause-level_room
 decode_and_lay-requires-clause-level_room c =
     rows_room c.args.reading.header.header c.args.level (c.in-Some.ensures.0 ∙ c.new-vault.ensures) c.requires.laying_fits.room

@@ -27,10 +27,6 @@ returns-in_err-decode_range-clause-value g c =
     ∙ range_stops c.args.content st ms (g.S.Source.words c.args.source) R f c.in_err-decode_range.ensures.value c.args.ready.ready
     (not_zero c.in_err-decode_range.field-0.0)
 
-pub returns-in_err-decode_range-clause-out_after : goal.returns-in_err-decode_range-clause-out_after
-returns-in_err-decode_range-clause-out_after g c z =
-    absurd (omega (arith, some_refused _ c.from_residual.result c.from_residual.ensures.1))
-
 pub returns-in_err-decode_range-clause-level_after : goal.returns-in_err-decode_range-clause-level_after
 returns-in_err-decode_range-clause-level_after g c w =
     let st = c.args.ready.vault.stripe in
