@@ -10,7 +10,3 @@ pub loop-level-preserved : goal.loop-level-preserved
 loop-level-preserved c =
     filling_turn _ _ c.loop-level.invariant (omega (arith, c.loop-level-test.true)) (omega (arith, c.requires)) c.count_stripe.ensures
 
-pub returns : goal.returns
-returns c =
-    filled_whole _ _ (suc c.args.reading.header.header.k) c.args.counts.now c.requires
-    (filling_done _ _ c.loop-level.invariant (omega (arith, c.loop-level-test.false)))
