@@ -17,8 +17,6 @@ use Rattle.image.specs.Erasures.{Erasure, mark_at, marks_of}
 use Rattle.image.specs.Loading.{stripe_in}
 use Rattle.image.proofs.Marking.{length_flags}
 use Rattle.image.proofs.StripeLoads.{stripe_long}
-use Rattle.judging.specs.StripeFits.{StripeFits}
-use Rattle.judging.proofs.StripeNumbers.{stripe_fits}
 
 -- THE NUMBERS st of stripe l
 module _ (h : Header) (l : ℕ) {st : Stripe} (e : st ≡ stripe_of h l) where

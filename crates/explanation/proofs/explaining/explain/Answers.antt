@@ -1,5 +1,5 @@
 -- `explanation::explaining::explain` meets its contract. Assumes nothing.
-use mathlib.Core.Path.{◌≡◌, sym, ap, ◌∙◌}
+use mathlib.Core.Path.{sym, ap, ◌∙◌}
 use Rattle.std.proofs.Common.{ℕ, replicate}
 use Rattle.recovery.specs.Origins.{origins_size}
 use Rattle.recovery.proofs.RecoverCall.{stopped_words, refused_verdict}

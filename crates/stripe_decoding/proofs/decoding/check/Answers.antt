@@ -1,11 +1,10 @@
 -- `stripe_decoding::decoding::check` meets its contract. Assumes nothing.
-use mathlib.Core.Path.{◌≡◌, refl, sym, ap, ◌∙◌}
+use mathlib.Core.Path.{◌≡◌, refl, sym, ◌∙◌}
 use mathlib.Core.Bool.{Bool, true, false}
 use Rattle.std.proofs.Common.{ℕ, List, ◌+◌, ◌<◌, length, add-one, arith}
 use Rattle.layout.specs.declared.Header.{Header}
 use Rattle.layout.specs.Header.{width, has_stripe}
-use Rattle.layout.specs.Refusals.{done, test, refusal, number_of}
-use Rattle.layout.proofs.Bounds.{fits}
+use Rattle.layout.specs.Refusals.{done, test, refusal}
 use Rattle.layout.proofs.Refusals.{passed_on, some_number}
 use Rattle.image.proofs.ImageRefusals.{image_tests, refused, passed}
 use Rattle.stripe_decoding.specs.StripeCall.{decode_early}

@@ -1,5 +1,5 @@
 -- `stripe_decoding::decoding::decode_stripe` meets its contract, by the laws of proofs/DecodedWords. Assumes nothing.
-use Rattle.std.proofs.Common.{◌≡◌, refl, sym, ap, ◌∙◌, ℕ, add-one, ◌≤◌, length, rules}
+use Rattle.std.proofs.Common.{◌≡◌, refl, sym, ap, ◌∙◌, ◌≤◌, length, rules}
 use Rattle.code.specs.Stripe.{block_words}
 use Rattle.layout.specs.Header.{stripe_of}
 use Rattle.layout.specs.Refusals.{answer_number}

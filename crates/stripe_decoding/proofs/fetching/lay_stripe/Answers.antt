@@ -1,7 +1,7 @@
 -- `stripe_decoding::fetching::lay_stripe` meets its contract, by the laws of proofs/StripeAnswers. Assumes nothing.
 use Rattle.std.proofs.Common.{◌∙◌}
 use Rattle.image.specs.Erasures.{erasures_in}
-use Rattle.stripe_decoding.proofs.StripeAnswers.{marks_fit, bytes_fit, logs_room, rows_room}
+use Rattle.stripe_decoding.proofs.StripeAnswers.{marks_fit, bytes_fit, rows_room}
 use Rattle.stripe_decoding.proofs.fetching.lay_stripe.Goals as goal
 
 pub new-requires : goal.new-requires

@@ -1,9 +1,7 @@
 -- `stripe_decoding::ranges::decode_and_lay` meets its contract, by the laws of proofs/RangeLoop. Assumes nothing.
-use Rattle.std.proofs.Common.{◌≡◌, ◌*◌, ◌∙◌, refl, arith}
+use Rattle.std.proofs.Common.{◌*◌, ◌∙◌, refl}
 use Rattle.code.specs.Stripe.{block_count}
-use Rattle.layout.specs.declared.refusal.Refusal.{Refusal}
-use Rattle.layout.specs.Refusals.{number_of}
-use Rattle.layout.proofs.Refusals.{passed_on, not_zero, some_refused}
+use Rattle.layout.proofs.Refusals.{passed_on, not_zero}
 use Rattle.judging.proofs.ColumnRanges.{length_columns}
 use Rattle.stripe_decoding.proofs.RangeLoop.{blocks, first_words, same_length, ranging_start, range_stops, range_left, range_placed, range_taken}
 use Rattle.stripe_decoding.proofs.RangeLoop.{ranges_ten, ranges_zero, ranges_laid, ranges_left}
