@@ -1,4 +1,6 @@
-// The vault's calls for C (include/vault.h): the header's numbers as parameters, and what an answer holds behind pointers. Each does what its call does.
+// The vault's calls for C (include/vault.h): the header's numbers as parameters, and what an answer holds behind pointers. Each does what its call does. Two
+// that look alike, as vault_recover and vault_explain, are two functions of C; what they share is fault_number and shelf_of. An answer is a number, and none of
+// the vault's types, since the C interface has no others.
 #![tactic(auto)]
 
 ghost use Rattle.std.specs.Prelude.{◌≡◌};

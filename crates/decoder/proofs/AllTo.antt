@@ -4,13 +4,15 @@ use mathlib.Core.Bool.{Bool, true, false, false≢true, ◌&&◌, ◌||◌}
 use mathlib.Core.Logic.{⊎_elim}
 use mathlib.Core.List.{List}
 use Prim.Native.Nat.{ℕ, zero, suc, ◌+◌, ◌≤◌, ◌<◌}
-use native.Mathlib.Nat.{eq-or-lt_of_le}
+use native.Mathlib.Nat.{eq-or-lt_of_le, zero-add}
 use native.Mathlib.Omega.{arith}
 use lib.Dec.{eqb}
 use lib.ListN.{length, get_or, take, drop, length-drop}
 use lib.Seq.{length-take-le, get_or-take, get_or-drop}
 use Rattle.std.proofs.Common.{ext_get_or}
-use Rattle.std.specs.Bool.{Decides}
+use Rattle.std.specs.Bool.{Decides, MatchBool}
+use Rattle.std.specs.List.{AllWithin, HoldsAt, range_with_len}
+use Rattle.std.proofs.lemmas.List.FromFn.{length-range_with_len, get_or-range_with_len}
 use borrow.Author.Tests.{eqb-true, eq-eqb}
 use Rattle.field.proofs.Booleans.{either, same_truth, both_true, first_true, second_true}
 use Rattle.decoder.specs.steps.RowTests.{all_to, same_at}
@@ -39,6 +41,17 @@ all_to_each (suc n) f e i h =
 
 pub all_to_false : (n i : ℕ) (f : ℕ → Bool) → i < n → f i ≡ false → all_to n f ≡ false
 all_to_false n i f h e = ⊎_elim (λ t. t ∙ sym (all_to_each n f t i h) ∙ e) (λ q. q) (either (all_to n f))
+
+-- as the library tells it of a chain over the numbers below n
+pub all_told : {b : Bool} (n : ℕ) (f : ℕ → Bool)
+    → MatchBool b (AllWithin (λ i. f i ≡ true) (range_with_len 0 n) 0 (length (range_with_len 0 n)))
+    ((k : ℕ) × (k < length (range_with_len 0 n)) × HoldsAt (λ i. f i ≡ false) (range_with_len 0 n) k)
+    → b ≡ all_to n f
+all_told {b = true} n f h =
+    sym (all_to_all n f (λ i t. rw (get_or-range_with_len 0 n i 0 t, zero-add i) at (h i 0 (omega arith) (rw length-range_with_len t))))
+all_told {b = false} n f h =
+    let t : h.0 < n = rw length-range_with_len at h.1 in
+    sym (all_to_false n h.0 f t (rw (get_or-range_with_len 0 n h.0 0 t, zero-add h.0) at (h.2 0)))
 
 pub all_to_same : (n : ℕ) (f g : ℕ → Bool) → ((i : ℕ) → i < n → f i ≡ g i) → all_to n f ≡ all_to n g
 unfolding all_to

@@ -10,12 +10,12 @@ use borrow.Rule.Slice.PartMut.{put_mid}
 use lib.Arith.{digits_lt, digits_div}
 use lib.ListN.{length, get_or, take, drop, take-append-drop}
 use lib.Pow.{pow_mono}
-use lib.Seq.{get_or-take, length-take-le}
+use lib.Seq.{sets, get_or-take, length-take-le, take_all}
 use Rattle.field.specs.Residue.{plus, minus, times}
 use Rattle.field.specs.Power.{inverse}
 use Rattle.field.specs.Words.{Words}
 use Rattle.field.proofs.Laws.{times_comm, times_zero}
-use Rattle.field.proofs.WordLists.{words_drop}
+use Rattle.field.proofs.WordLists.{words_take, words_drop}
 use Rattle.code.specs.Transform.{reversed, transform, untransform, turned, scaled}
 use Rattle.code.specs.Rows.{column, lifted}
 use Rattle.decoder.specs.steps.Decoder.{evaluated, halves_unmixed, half_of, derived_at, derived, divisor_at, selected_at, selected, weighed_at, weighed}
@@ -25,7 +25,7 @@ use Rattle.code.proofs.Shapes.{reversed_lt, length_transform, length_untransform
 use Rattle.code.proofs.Lifting.{length_lifted, words_lifted, words_column, lifted_then}
 use Rattle.code.proofs.Lifting.{length_column, column_at, is_lifted, lifted_append, table_lifted, two_halves}
 use Rattle.decoder.proofs.DecoderShapes.{derived_low, derived_high, selected_at_lem, weighed_at_lem}
-use Rattle.code.proofs.RowLaws.{Parts, lent_rest, put_rest, length_stored, stored_before, stored_at, stored_front, stored_last, scaled_rows_word}
+use Rattle.code.proofs.RowLaws.{Parts, lent_rest, put_rest, length_stored, stored_before, stored_at, stored_front, stored_last, sets_over, scaled_rows_word}
 
 -- STEP 3, word q of the second half
 unfoldable pub derive_word : (p level width : ℕ) → (rows : List ℕ) → (q : ℕ) → ℕ
@@ -194,13 +194,19 @@ module _ (w k l width b : ℕ) (rows x y : List ℕ) (e : b ≡ 2 ^ l) where
         let p = once l width b (take (b * width) rows) x (drop (b * width) rows) (untransform 65537 w k l) e ex in
         lent_rest (put_rest p y) ∙ ey ∙ ap (lifted _ _ _ _) (lent_rest p)
 
-    pub again_words : Words 65537 rows → Words 65537 (behind (b * width) (put_behind (b * width) (x ++ drop (b * width) rows) y))
+    pub long_again : length (behind (b * width) (put_behind (b * width) (x ++ drop (b * width) rows) y)) ≡ 2 ^ l * width
+    long_again = ap length lent_again ∙ length_lifted width (2 ^ l) (2 ^ l) (untransform 65537 w k l) (drop (b * width) rows)
+
+    pub again_words : Words 65537 rows
+        → Words 65537 (take (2 ^ l * width) (behind (b * width) (put_behind (b * width) (x ++ drop (b * width) rows) y)))
     again_words u =
-        rw lent_again (words_lifted 65537 width (2 ^ l) (2 ^ l) (untransform 65537 w k l) (drop (b * width) rows) (omega arith)
-        (λ j _. words_untransform 65537 (omega arith) w k l (words_column 65537 width (2 ^ l) j (words_drop 65537 (omega arith) (b * width) u))))
+        words_take 65537 (omega arith) (2 ^ l * width)
+        (rw lent_again (words_lifted 65537 width (2 ^ l) (2 ^ l) (untransform 65537 w k l) (drop (b * width) rows) (omega arith)
+        (λ j _. words_untransform 65537 (omega arith) w k l (words_column 65537 width (2 ^ l) j (words_drop 65537 (omega arith) (b * width) u)))))
 
     pub split_rows : (first : ℕ) (z : List ℕ) → length rows ≡ 2 ^ suc l * width
-        → z ≡ lifted width (2 ^ l) (2 ^ l) (turned 65537 w k first) (behind (b * width) (put_behind (b * width) (x ++ drop (b * width) rows) y))
+        → z ≡ sets (behind (b * width) (put_behind (b * width) (x ++ drop (b * width) rows) y)) 0 (lifted width (2 ^ l) (2 ^ l) (turned 65537 w k first)
+        (take (2 ^ l * width) (behind (b * width) (put_behind (b * width) (x ++ drop (b * width) rows) y))))
         → put_behind (b * width) (put_behind (b * width) (x ++ drop (b * width) rows) y) z
         ≡ lifted width (2 ^ suc l) (2 ^ suc l) (halves_unmixed 65537 w k l first) rows
     unfolding halves_unmixed
@@ -210,5 +216,7 @@ module _ (w k l width b : ℕ) (rows x y : List ℕ) (e : b ≡ 2 ^ l) where
         let T = turned 65537 w k first in
         let p = once l width b (take (b * width) rows) x (drop (b * width) rows) U e ex in
         (put_rest (put_rest p y) z).is
-        ∙ ap₂ ◌++◌ ex (ez ∙ ap (lifted width n n T) lent_again ∙ lifted_then width n n n U T (drop (b * width) rows) (length_untransform 65537 w k l))
+        ∙ ap₂ ◌++◌ ex (ez ∙ sets_over _ _ (long_again ∙ sym (length_lifted width n n T _))
+        ∙ ap (lifted width n n T) (take_all (2 ^ l * width) _ (omega (arith, long_again)) ∙ lent_again)
+        ∙ lifted_then width n n n U T (drop (b * width) rows) (length_untransform 65537 w k l))
         ∙ rw e (lifted_halves width l U (λ c. T (U c)) rows long (length_untransform 65537 w k l))

@@ -15,6 +15,7 @@ ghost use Rattle.decoder.specs.Promises.{Enough};
 
 use code::ValidStripe;
 use encoder::factors::Word;
+use mixing::direction::{Mixing, Unmixing};
 
 // Step 1: multiplies each row by its position's factor, and clears the rows of erased positions. Here and below part, marks and factors stay slices beside the
 // stripe: of a struct with references in it, part's a `&mut`, a contract would have to say at each place which of its values it means, entry's or return's.
@@ -31,6 +32,7 @@ fn weigh(part: &mut [u32], marks: &[bool], factors: &[u32], st: ValidStripe)
 {
     let width = st.stripe.width;
     let rows = st.position_count();
+    // By index: a position's row, mark and factor side by side.
     for i in 0..rows {
         let at = i * width;
         let g = if marks[i] {
@@ -52,12 +54,12 @@ fn unmix_halves(part: &mut [u32], st: ValidStripe)
         part.old }
 {
     let half = st.block_count() * st.stripe.width;
-    encoder::unmix_all(&mut part[..half], st);
-    encoder::unmix_all(&mut part[half..], st);
-    encoder::turn_back(&mut part[half..], st);
+    encoder::cross_half::<Unmixing>(&mut part[..half], st);
+    encoder::cross_half::<Unmixing>(&mut part[half..], st);
+    encoder::turn::<Unmixing>(&mut part[half..], st, 0);
 }
 
-// Whether two rows are equal.
+// Whether two rows are equal. They are named by where they begin, as the definitions name them.
 fn same_row(part: &[u32], low: usize, high: usize, width: usize) -> bool
     requires { (low + width ≤ length part.now) × (high + width ≤ length part.now) }
     ensures { result ≡ all_to width (same_at low high part.now) }
@@ -73,16 +75,11 @@ fn has_low_degree(part: &[u32], st: ValidStripe, erased: usize) -> bool
     let width = st.stripe.width;
     let rows = st.block_count();
     let half = rows * width;
-    for j in 0..rows {
+    (0..rows).all(|j| {
         let low = j * width;
-        let high = half + low;
-        if erased <= code::number::reversed(st.stripe.level, j) as usize
-            && !same_row(part, low, high, width)
-        {
-            return false;
-        }
-    }
-    true
+        (code::number::reversed(st.stripe.level, j) as usize) < erased
+            || same_row(part, low, half + low, width)
+    })
 }
 
 // a times the row at `low` less b times the row at `high`, in the latter's place.
@@ -92,6 +89,7 @@ fn derive_row(part: &mut [u32], low: usize, high: usize, width: usize, a: u32, b
     requires words { Words fermat.modulus part.old }
     ensures { part.new ≡ stored high (derive_at fermat.modulus low high a b part.old) width part.old }
 {
+    // By index: both rows stand in one slice, of which `split_at_mut` and two ranges would make four names in the place of two.
     for j in 0..width {
         let x = low + j;
         let y = high + j;
@@ -112,6 +110,7 @@ fn derive(part: &mut [u32], st: ValidStripe)
     let rows = st.block_count();
     let half = rows * width;
     let b = field::mul(32769, rows as u32);
+    // By index: row j of either half, and both halves stand in one slice.
     for j in 0..rows {
         let low = j * width;
         let a = field::add(code::number::reversed(st.stripe.level, j), b);
@@ -128,8 +127,8 @@ fn evaluate(part: &mut [u32], st: ValidStripe)
         (Decoder.evaluated (modulus_of st.stripe) (root_in st.stripe) st.stripe.k st.stripe.level) part.old }
 {
     let half = st.block_count() * st.stripe.width;
-    encoder::mix_all(&mut part[..half], st);
-    encoder::mix_all(&mut part[half..], st);
+    encoder::cross_half::<Mixing>(&mut part[..half], st);
+    encoder::cross_half::<Mixing>(&mut part[half..], st);
 }
 
 // Step 5: the first half becomes the polynomial's values at the points of X, from the second half where the position is erased.
@@ -149,6 +148,7 @@ fn select_values(part: &mut [u32], marks: &[bool], factors: &[u32], st: ValidStr
     let rows = st.block_count();
     let half = rows * width;
     let over = crate::factors_65537::inverse_of_square(st);
+    // By index, as in `weigh`.
     for i in 0..rows {
         let at = i * width;
         let d = crate::factors_65537::reciprocal(factors[i], st.stripe);
@@ -189,7 +189,7 @@ fn interpolate(part: &mut [u32], marks: &[bool], factors: &[u32], st: ValidStrip
     derive(part, st);
     evaluate(part, st);
     select_values(part, marks, factors, st);
-    encoder::unmix_all(&mut part[..half], st);
+    encoder::cross_half::<Unmixing>(&mut part[..half], st);
 }
 
 // Where nothing is erased and the check holds: the blocks are what step 2 left in the first half, over the count of rows.

@@ -1,5 +1,6 @@
 -- A stripe of 2 ^ l blocks is transformed alike whatever k is: the roots under which its levels are mixed depend on the level alone. Assumes nothing.
 use mathlib.Core.Path.{◌≡◌, refl, sym, ap₂, ◌∙◌}
+use mathlib.Core.Bool.{Bool, true, false}
 use mathlib.Core.List.{List, ◌++◌}
 use Prim.Native.Nat.{ℕ, zero, suc, ◌/◌, ◌^◌, ◌≤◌}
 use native.Mathlib.Omega.{arith}
@@ -10,6 +11,7 @@ use Rattle.field.proofs.PowerTables.{level_root, level_inverse}
 use Rattle.code.specs.Rows.{lifted}
 use Rattle.code.specs.Transform.{transform, unmixed, untransform}
 use Rattle.code.proofs.Lifting.{lifted_same}
+use Rattle.transform.specs.steps.Transforms.{transform_of}
 
 module _ (k m : ℕ) (hk : k ≤ 15) (hm : m ≤ 15) where
   same_transform : (l : ℕ) (xs : List ℕ) → l ≤ k → l ≤ m → transform 65537 (root_of fermat k) k l xs ≡ transform 65537 (root_of fermat m) m l xs
@@ -44,3 +46,9 @@ module _ (width k l : ℕ) (rows : List ℕ) (b : l ≤ k) (t : k ≤ 10) where
       lifted_same width (2 ^ l) (2 ^ l) (untransform 65537 (inverse 65537 (root_of fermat l)) l l)
       (untransform 65537 (inverse 65537 (root_of fermat k)) k l) rows
       (λ j _. same_untransform l k (omega arith) (omega arith) l _ (omega arith) b)
+
+  -- either way
+  pub rows_crossed : (u : Bool) → lifted width (2 ^ l) (2 ^ l) (transform_of u 65537 (root_of fermat l) l l) rows
+      ≡ lifted width (2 ^ l) (2 ^ l) (transform_of u 65537 (root_of fermat k) k l) rows
+  rows_crossed false = rows_transform
+  rows_crossed true = rows_untransform

@@ -3,40 +3,33 @@
 
 pub mod factors;
 
-ghost use Rattle.std.specs.Prelude.{◌≡◌, ◌++◌, ◌⊎◌, ℕ, ◌+◌, ◌≤◌, ◌<◌, length, get_or, take};
-ghost use Rattle.field.specs.Power.{inverse};
+ghost use Rattle.std.specs.Prelude.{◌≡◌, ◌⊎◌, ℕ, ◌+◌, ◌≤◌, ◌<◌, length, get_or, take};
+ghost use Rattle.std.proofs.lemmas.List.Edits.{sets};
 ghost use Rattle.field.specs.Field.{fermat};
 ghost use Rattle.field.specs.Words.{Words};
 ghost use Rattle.code.specs.Rows.{lifted};
-ghost use Rattle.code.specs.Transform.{transform, untransform, turned};
+ghost use Rattle.code.specs.Transform.{turned};
 ghost use Rattle.code.specs.Stripe.{modulus_of, root_in, block_count, block_words, coded_stripe};
 ghost use Rattle.code.specs.steps.Storing.{stored, scaled_word, scale_row};
+ghost use Rattle.mixing.specs.steps.Words.{root_for};
+ghost use Rattle.transform.specs.steps.Transforms.{transform_of};
 
-use code::{ValidStripe, table_65537};
-use mixing::direction::{Factor, Power};
+use code::ValidStripe;
+use mixing::direction::{Direction, Factor, Mixing};
+use mixing_twice::direction::TwoLevels;
 
-// Here and below the rows stay a slice beside the stripe: of a struct with a `&mut` slice in it a contract would have to say which of its values it means.
+// Here and below the rows stay a slice beside the stripe: of a struct with a `&mut` slice in it a contract would have to say which of its values it means. A
+// row is named by where it begins, and by an index: the row that is read and the one that is stored are of one slice, and may be one.
 
-// All mixing of a half of a stripe. It and its inverse stay two: the definition and the function called differ, and what is shared is the stripe's two numbers.
-pub fn mix_all(half: &mut [u32], st: ValidStripe)
+// All mixing of a half of a stripe, or its inverse, but for the factor 2^level.
+pub fn cross_half<D: TwoLevels>(half: &mut [u32], st: ValidStripe)
     requires half_len { length half.old ≡ block_words st.stripe }
     requires words { Words (modulus_of st.stripe) half.old }
     ensures { half.new ≡
         lifted st.stripe.width (block_count st.stripe) (block_count st.stripe)
-        (transform (modulus_of st.stripe) (root_in st.stripe) st.stripe.k st.stripe.level) half.old }
+        (transform_of D.unmixing (modulus_of st.stripe) (root_in st.stripe) st.stripe.k st.stripe.level) half.old }
 {
-    transform::mix_all(half, st.stripe.level, st.stripe.width);
-}
-
-// The inverse of all mixing of a half of a stripe, but for the factor 2^level.
-pub fn unmix_all(half: &mut [u32], st: ValidStripe)
-    requires half_len { length half.old ≡ block_words st.stripe }
-    requires words { Words (modulus_of st.stripe) half.old }
-    ensures { half.new ≡
-        lifted st.stripe.width (block_count st.stripe) (block_count st.stripe)
-        (untransform (modulus_of st.stripe) (inverse (modulus_of st.stripe) (root_in st.stripe)) st.stripe.k st.stripe.level) half.old }
-{
-    transform::unmix_all(half, st.stripe.level, st.stripe.width);
+    transform::cross_all::<D>(half, st.stripe.level, st.stripe.width);
 }
 
 // Multiplies the row from index `at` on by `g`.
@@ -62,59 +55,39 @@ pub fn scale_row_over<F: Factor>(part: &mut [u32], from: usize, to: usize, width
     }
 }
 
-// Turns the first half of the rows, over the second half: the row of write t is multiplied by w^rev(t), where w is the stripe's root. That is entry rev(t)
-// times 1024 / n of the powers, which is t with its ten bits reversed.
-fn turn_over(part: &mut [u32], st: ValidStripe)
-    requires part_len { length part.old ≡ block_words st.stripe + block_words st.stripe }
+// Turns as many rows as there are blocks, or turns them back, in the place of those from index `to` on: of the second half, or of themselves. The row of write
+// t is multiplied by w^rev(t), where w is the stripe's root, or its inverse: that is the power of the root of 1,024 records at t with its ten bits reversed.
+pub fn turn<D: Direction>(part: &mut [u32], st: ValidStripe, to: usize)
+    requires place { (block_words st.stripe ≤ to) ⊎ (to ≡ 0) }
+    requires room { to + block_words st.stripe ≤ length part.old }
     requires words { Words (modulus_of st.stripe) (take (block_words st.stripe) part.old) }
-    ensures { part.new ≡ take (block_words st.stripe) part.old ++
-        lifted st.stripe.width (block_count st.stripe) (block_count st.stripe)
-        (turned (modulus_of st.stripe) (root_in st.stripe) st.stripe.k st.stripe.first) (take (block_words st.stripe) part.old) }
+    ensures { part.new ≡
+        sets part.old to
+        (lifted st.stripe.width (block_count st.stripe) (block_count st.stripe)
+        (turned (modulus_of st.stripe) (root_for D.unmixing (modulus_of st.stripe) (root_in st.stripe)) st.stripe.k st.stripe.first)
+        (take (block_words st.stripe) part.old)) }
 {
     let first = st.stripe.first;
     let width = st.stripe.width;
     let rows = st.block_count();
-    let half = rows * width;
-    let powers = table_65537::powers();
+    let powers = D::powers(10);
     for j in 0..rows {
         let from = j * width;
         let e = code::number::reversed(10, first + j) as usize;
-        let g = Power { g: powers[e] };
-        scale_row_over(part, from, half + from, width, g);
-    }
-}
-
-// Turns a half of the rows back, in its place: by the powers of entry 2047, the inverse of entry 1.
-pub fn turn_back(part: &mut [u32], st: ValidStripe)
-    requires part_len { length part.old ≡ block_words st.stripe }
-    requires words { Words (modulus_of st.stripe) part.old }
-    ensures { part.new ≡
-        lifted st.stripe.width (block_count st.stripe) (block_count st.stripe)
-        (turned (modulus_of st.stripe) (inverse (modulus_of st.stripe) (root_in st.stripe)) st.stripe.k st.stripe.first) part.old }
-{
-    let first = st.stripe.first;
-    let width = st.stripe.width;
-    let rows = st.block_count();
-    let powers = table_65537::powers();
-    for j in 0..rows {
-        let at = j * width;
-        let e = code::number::reversed(10, first + j) as usize * 2047;
-        let g = Power {
-            g: powers[e % 2048],
-        };
-        scale_row(part, at, width, g);
+        scale_row_over(part, from, to + from, width, powers.of(e));
     }
 }
 
 // Codes the blocks in the first half of the rows: X where they stand, and Y behind it. Y is turned first, while the blocks stand. What stands in the second
-// half does not matter.
+// half does not matter. To mix both halves is two lines, in decoding too (`evaluate` and `unmix_halves` of the
+// crate decoder).
 pub fn code(part: &mut [u32], st: ValidStripe)
     requires part_len { length part.old ≡ block_words st.stripe + block_words st.stripe }
     requires words { Words (modulus_of st.stripe) (take (block_words st.stripe) part.old) }
     ensures { part.new ≡ coded_stripe st.stripe (take (block_words st.stripe) part.old) }
 {
     let half = st.block_count() * st.stripe.width;
-    turn_over(part, st);
-    mix_all(&mut part[..half], st);
-    mix_all(&mut part[half..], st);
+    turn::<Mixing>(part, st, half);
+    cross_half::<Mixing>(&mut part[..half], st);
+    cross_half::<Mixing>(&mut part[half..], st);
 }

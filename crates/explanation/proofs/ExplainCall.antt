@@ -67,6 +67,3 @@ module _ (h : Header) (m e n o s : List ℕ) where
 
   pub origins_taken : explain_early h m e n o s ≡ 0 → {o' : List ℕ} → o' ≡ recovered_words found (origins_size h) → o' ≡ explain_origins h m e n o s
   origins_taken z p = p ∙ sym (if_taken_lem (recovered_words found (origins_size h)) o z)
-
-  pub scratch_taken : explain_early h m e n o s ≡ 0 → {s' : List ℕ} → s' ≡ replicate (scratch_size h) 0 → s' ≡ explain_scratch h m e n o s
-  scratch_taken z p = p ∙ sym (if_taken_lem (replicate (scratch_size h) 0) s z)

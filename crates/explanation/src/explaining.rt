@@ -1,8 +1,9 @@
 // The call explain: what is left of each stripe that recovery needs, and where each record comes from.
-ghost use Rattle.std.specs.Prelude.{◌≡◌, [], ◌∷◌, ◌≤◌, length, IfOk};
+ghost use Rattle.std.specs.Prelude.{◌≡◌, [], ◌∷◌, ◌≤◌, length};
 ghost use Rattle.layout.specs.Records.{replaced};
 ghost use Rattle.layout.specs.Refusals.{answer_number};
 ghost use Rattle.image.specs.Erasures.{erasures_in};
+ghost use Rattle.image.specs.Readings.{Reads};
 ghost use Rattle.recovery.specs.Verdicts.{verdict_of};
 ghost use Rattle.explanation.specs.Counts.{counts_size, positions_left, left, shortfall, counts_of};
 ghost use Rattle.explanation.specs.ExplainCall.{explain_early, explain_answer, explain_counts, explain_origins, explain_scratch};
@@ -17,6 +18,7 @@ fn positions_left(reading: Reading, level: usize) -> usize
     requires { level ≤ reading.header.header.k }
     ensures { result ≡ positions_left reading.entry.header.header (erasures_in reading.entry.erasures.now) level }
 {
+    // as many as the largest stripe has positions: the library has no heap
     let mut marks = [false; 2048];
     image::erasures::mark_stripe(reading.header, reading.erasures, level, &mut marks);
     let all = code::number::two_to(level + 1);
@@ -33,13 +35,13 @@ fn count_stripe(reading: Reading, level: usize, counts: &mut [u32])
         (left reading.entry.header.header (erasures_in reading.entry.erasures.now) level ∷
         shortfall reading.entry.header.header (erasures_in reading.entry.erasures.now) level ∷ []) }
 {
-    if !layout::places::has_stripe(reading.header.header, level as u32) {
+    if !reading.header.has_stripe(level as u32) {
         range_laying::pairs::put_pair(counts, level, 0, 0);
         return;
     }
     let left = positions_left(reading, level);
     let needed = code::number::two_to(level);
-    let short = if left < needed { needed - left } else { 0 };
+    let short = needed.saturating_sub(left);
     range_laying::pairs::put_pair(counts, level, left as u32, short as u32);
 }
 
@@ -49,6 +51,7 @@ fn count_stripes(reading: Reading, counts: &mut [u32])
     ensures { counts.new ≡ counts_of reading.entry.header.header (erasures_in reading.entry.erasures.now) }
 {
     let stripes = reading.header.header.k as usize + 1;
+    // by index: a stripe's pair stands at its number
     for level in 0..stripes {
         count_stripe(reading, level, counts);
     }
@@ -65,13 +68,13 @@ fn check<'a>(
 ) -> Result<Reading<'a>, Refusal>
     ensures number { answer_number result ≡
         explain_early header image.now erasures.now counts.now origins.now scratch.now }
-    ensures same { IfOk result (λ r. (r.header.header ≡ header) × (r.image.now ≡ image.now) × (r.erasures.now ≡ erasures.now)) }
+    ensures same { Reads header image.now erasures.now result }
 {
-    ValidHeader::try_from(header)?;
+    let valid = ValidHeader::try_from(header)?;
     if counts.len() != (header.k as usize + 1) * 2 {
         return Err(Refusal::Length);
     }
-    image::erasures::check(header, image, erasures, 2, origins.len(), scratch.len())
+    image::erasures::check_sized(valid, image, erasures, 2, origins.len(), scratch.len())
 }
 
 // Explains what recovery would give. Tests 1, 2 (image, counts, origins, scratch), 3; then it counts what is left of all needed stripes, and then 7 to 10 as
@@ -95,6 +98,7 @@ pub fn explain(
 {
     let reading = check(header, image, erasures, counts, origins, scratch)?;
     count_stripes(reading, counts);
+    // `recovery::recovering::recover` has these lines too: a function of them would take the answer and a buffer, and have the longer contract.
     let answer = recovery::stripes::lay_stripes(reading, Content::Origins, origins, scratch);
     if answer.is_err() {
         origins.fill(0);

@@ -35,7 +35,7 @@ pub fn sub(x: u32, y: u32) -> u32
     difference(x, y)
 }
 
-// Any number modulo p: 65536 = p - 1 is -1, so it is the difference of its halves.
+// Any number modulo p: 65536 = p - 1 is -1, so it is the difference of its halves. Not by `%`, which the compiler makes a product of 64 bits.
 pub fn reduce(t: u32) -> u32
     ensures { result ≡ t % fermat.modulus }
 {

@@ -11,6 +11,7 @@ use lib.ListN.{length, get_or, drop}
 use lib.Seq.{drop-cons}
 use Rattle.image.specs.Image.{number_of, number_at}
 use Rattle.image.specs.Erasures.{erasures_from, erasures_in, erasures_rise}
+use Rattle.image.proofs.Pairs.{IsPair}
 
 four_bytes : (a b c d : ℕ) → number_of (a ∷ b ∷ c ∷ d ∷ []) ≡ a + 256 * (b + 256 * (c + 256 * (d + 256 * 0)))
 unfolding number_of
@@ -42,13 +43,12 @@ rise_next : (bytes : List ℕ) (size least i d : ℕ) → erasures_rise least si
 unfolding erasures_rise erasures_from
 rise_next bytes size least i d = refl
 
-module _ {bytes : List ℕ} {size least i o s : ℕ} (r : RiseLoop bytes size least i) (h : i < length bytes / 8) (eo : o ≡ number_at bytes (8 * i))
-    (es : s ≡ number_at bytes (8 * i + 4)) where
+module _ {bytes : List ℕ} {size least i o s : ℕ} (r : RiseLoop bytes size least i) (p : IsPair bytes i o s) where
   rise_step : (leb least o && (ltb 0 s && (leb (o + s) size && erasures_rise (suc (o + s)) size (erasures_from bytes (suc i) (length bytes / 8 - suc i)))))
       ≡ erasures_rise 0 size (erasures_in bytes)
   rise_step =
       let d : length bytes / 8 - i ≡ suc (length bytes / 8 - suc i) = omega arith in
-      rw (eo, es, ← rise_next, ← d) r.left
+      rw (p.offset, p.size, ← rise_next, ← d) r.left
 
   pub rise_turn : least ≤ o → o < o + s → o + s ≤ size → RiseLoop bytes size (o + s + 1) (i + 1)
   rise_turn a b c =

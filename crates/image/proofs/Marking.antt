@@ -2,8 +2,8 @@
 use mathlib.Core.Path.{◌≡◌, refl, sym, ap, ◌∙◌}
 use mathlib.Core.Bool.{Bool, true, false, ◌&&◌, ◌||◌, and-false, or-true, or-false, or_assoc}
 use mathlib.Core.List.{List, [], ◌∷◌, ◌++◌}
-use Prim.Native.Nat.{ℕ, zero, suc, ◌+◌, ◌*◌, ◌-◌, ◌/◌, ◌^◌, ◌≤◌, ◌<◌}
-use native.Mathlib.Nat.{le-div_iff_mul-le, div-lt_iff_lt-mul, mul-le-mul_right, suc-mul}
+use Prim.Native.Nat.{ℕ, zero, suc, min, ◌+◌, ◌*◌, ◌-◌, ◌/◌, ◌%◌, ◌^◌, ◌≤◌, ◌<◌}
+use native.Mathlib.Nat.{le-div_iff_mul-le, div-lt_iff_lt-mul, mul-le-mul_right, lt_of_mul-lt-mul_right, suc-mul}
 use native.Mathlib.Decide.{dec_lt}
 use native.Mathlib.Numerals.{add-one}
 use native.Mathlib.Omega.{arith}
@@ -11,6 +11,7 @@ use lib.Dec.{ltb, leb}
 use borrow.Author.Tests.{lt-ltb, le-ltb, le-leb, lt-leb}
 use borrow.Rule.Slice.PartMut.{put_mid}
 use Rattle.std.proofs.lemmas.List.{get_or-append_right}
+use Rattle.std.proofs.lemmas.Grind.{div_ceil_times}
 use lib.ListN.{length, get_or, take, drop, replicate, length-replicate, get_or-replicate, length-append, get_or-append, length-drop}
 use lib.Seq.{ext_get_or, length-take-le, get_or-take, get_or-drop}
 use Rattle.layout.specs.declared.Header.{Header}
@@ -18,6 +19,7 @@ use Rattle.layout.specs.Header.{width, stripe_at}
 use Rattle.image.specs.Image.{number_at}
 use Rattle.image.specs.Erasures.{Erasure, erasure_at, erasures_from, erasures_in, touched, flags_from, position_at, mark_at, marks_of}
 use Rattle.image.specs.steps.Marking.{erasure, mark_for, marks_for, is_between, Marked}
+use Rattle.image.proofs.Pairs.{IsPair}
 
 -- FROM low UP TO high
 module _ (low high i : ℕ) where
@@ -170,12 +172,15 @@ module _ (base step : ℕ) (pos : 0 < step) where
   pub highest_all : (n end : ℕ) → base + n * step ≤ end → Highest base step n end n
   highest_all n end h = record { within = omega arith; inside = λ i a. omega (arith, position_end a); behind = λ i a b. absurd (omega arith) }
 
-  pub highest_at : (n end : ℕ) → base < end → end < base + n * step → Highest base step n end ((end - base - 1) / step + 1)
+  pub highest_at : (n end : ℕ) → base < end → end < base + n * step → Highest base step n end ((end - base) / step + min 1 ((end - base) % step))
   highest_at n end a b =
+      let h = div_ceil_times (end - base) step pos in
       record {
-        within = let e : (end - base - 1) / step < n = (div-lt_iff_lt-mul {k = step} {x = end - base - 1} {y = n} pos).1 (omega arith) in omega arith;
-        inside = λ i h. let e : i * step ≤ end - base - 1 = (le-div_iff_mul-le {k = step} {x = i} {y = end - base - 1} pos).0 (omega arith) in omega arith;
-        behind = λ i h l. let e : end - base - 1 < i * step = (div-lt_iff_lt-mul {k = step} {x = end - base - 1} {y = i} pos).0 (omega arith) in omega arith;
+        within =
+            let e : (end - base) / step + min 1 ((end - base) % step) < suc n = lt_of_mul-lt-mul_right step (omega (arith, h.1, suc-mul n step)) in
+            omega arith;
+        inside = λ i t. omega (arith, h.1, suc-mul i step, mul-le-mul_right {m = suc i} step t);
+        behind = λ i t l. omega (arith, h.0, mul-le-mul_right {n = i} step t);
       }
 
   -- an erasure before the stripe, and one behind it
@@ -267,17 +272,15 @@ unfolding erasures_from
 mark_next base step n bytes i d k = mark_cons base step n (erasure_at bytes i) (erasures_from bytes (suc i) d) k
 
 pub mark_turn : {base step n : ℕ} {bytes : List ℕ} {size : ℕ} {marks after : List Bool} {i o s : ℕ} → MarkLoop base step n bytes size marks i
-    → i < length bytes / 8
-    → o ≡ number_at bytes (8 * i) → s ≡ number_at bytes (8 * i + 4) → Marked (mark_for base step n (erasure o s ∷ [])) marks after
-    → MarkLoop base step n bytes size after (i + 1)
-mark_turn {base} {step} {n} {bytes} {size} {marks} {after} {i} {o} {s} r h eo es m =
+    → IsPair bytes i o s → Marked (mark_for base step n (erasure o s ∷ [])) marks after → MarkLoop base step n bytes size after (i + 1)
+mark_turn {base} {step} {n} {bytes} {size} {marks} {after} {i} {o} {s} r p m =
     record { within = omega arith; long = m.same ∙ r.long; each = at }
   where
     at : (k : ℕ) → (get_or after k false || mark_for base step n (erasures_from bytes (i + 1) (length bytes / 8 - (i + 1))) k) ≡ mark_for base step n
         (erasures_in bytes) k
     at k =
         let d : length bytes / 8 - i ≡ suc (length bytes / 8 - suc i) = omega arith in
-        rw (add-one i, m.each k, or_assoc, eo, es, ← mark_next, ← d) (r.each k)
+        rw (add-one i, m.each k, or_assoc, p.offset, p.size, ← mark_next, ← d) (r.each k)
 
 -- THE MARKS OF A STRIPE are those of its bytes
 mark_is : (h : Header) (gs : List Erasure) (l i : ℕ) → mark_for (4 * stripe_at h l) (4 * width h) (2 ^ suc l) gs i ≡ mark_at h gs l i

@@ -1,4 +1,5 @@
-// A word and its four bytes, low byte first: the one way there and the one way back.
+// A word and its four bytes, low byte first: the one way there and the one way back. A word is named by where it begins, as the image's definition names it;
+// it is read by four indices, where `first_chunk` would have a case of too few bytes to rule out.
 ghost use Rattle.std.specs.Prelude.{◌≡◌, ◌+◌, ◌≤◌, length};
 ghost use Rattle.std.proofs.lemmas.List.Edits.{sets};
 ghost use Rattle.image.specs.Image.{little, number_at};

@@ -1,8 +1,11 @@
-// Erasure lists (docs/FORMAT.md, section 6), the marks of a stripe's positions, and the tests of the calls that are lent an image.
-ghost use Rattle.std.specs.Prelude.{◌≡◌, false, ◌&&◌, true, [], ◌∷◌, ◌+◌, ◌*◌, ◌/◌, ◌%◌, ◌≤◌, ◌<◌, ◌-◌, suc, eqb, length, replicate, IfOk};
+// Erasure lists (docs/FORMAT.md, section 6), the marks of a stripe's positions, and the tests of the calls that are lent an image. Header, image, erasure list
+// and buffers are parameters, as the C interface lends them, until tests 1 to 3 have made a `Reading`; of a buffer that changes a test takes the length alone.
+// Marks are an array of 2,048, which their definition gives in whole: so the number of positions stands beside it.
+ghost use Rattle.std.specs.Prelude.{◌≡◌, false, ◌&&◌, true, [], ◌∷◌, ◌+◌, ◌*◌, ◌%◌, ◌≤◌, ◌<◌, ◌-◌, suc, eqb, length, replicate};
 ghost use Rattle.image.specs.Image.{number_at};
 ghost use Rattle.image.specs.Erasures.{erasures_in, erasures_rise, marks_of};
 ghost use Rattle.image.specs.ImageTests.{image_tests};
+ghost use Rattle.image.specs.Readings.{Reads};
 ghost use Rattle.image.specs.steps.Marking.{Marked, erasure, mark_for, marks_for};
 ghost use Rattle.layout.specs.Header.{record_count, scratch_size};
 ghost use Rattle.layout.specs.Refusals.{done, refusal, answer_number};
@@ -17,15 +20,15 @@ struct Erasure {
     size: u32,
 }
 
-// Pair i of an erasure list: by its number, as `erasures_from` has it. Chunks of eight bytes would be cut into two numbers again, and are no plainer.
-fn erasure_at(erasures: &[u8], i: usize) -> Erasure
-    requires { i < length erasures.now / 8 }
-    ensures { (result.offset ≡ number_at erasures.now (8 * i)) × (result.size ≡ number_at erasures.now (8 * i + 4)) }
-{
-    let at = 8 * i;
-    Erasure {
-        offset: crate::bytes::number_at(erasures, at),
-        size: crate::bytes::number_at(erasures, at + 4),
+// A pair of an erasure list: two numbers of four bytes.
+impl From<[u8; 8]> for Erasure {
+    ghost from_gives = { λ pair lost. (lost.offset ≡ number_at pair 0) × (lost.size ≡ number_at pair 4) };
+
+    fn from(pair: [u8; 8]) -> Erasure {
+        Erasure {
+            offset: crate::bytes::number_at(&pair, 0),
+            size: crate::bytes::number_at(&pair, 4),
+        }
     }
 }
 
@@ -34,12 +37,13 @@ fn erasures_fit(erasures: &[u8], size: usize) -> bool
     requires { size < 4294967296 }
     ensures { result ≡ (eqb (length erasures.now % 8) 0 && erasures_rise 0 size (erasures_in erasures.now)) }
 {
-    if erasures.len() % 8 != 0 {
+    let (pairs, rest) = erasures.as_chunks::<8>();
+    if !rest.is_empty() {
         return false;
     }
     let mut least: usize = 0;
-    for i in 0..erasures.len() / 8 {
-        let lost = erasure_at(erasures, i);
+    for pair in pairs {
+        let lost = Erasure::from(*pair);
         let offset = lost.offset as usize;
         let end = offset + lost.size as usize;
         if offset < least || end <= offset || size < end {
@@ -64,7 +68,7 @@ fn mark_touched(marks: &mut [bool], lost: Erasure, base: usize, step: usize, pos
     }
     let low = offset.saturating_sub(base) / step;
     let high = if end < last {
-        (end - base - 1) / step + 1
+        (end - base).div_ceil(step)
     } else {
         positions
     };
@@ -77,26 +81,27 @@ fn mark(marks: &mut [bool], erasures: &[u8], base: usize, step: usize, positions
     requires step_nonzero { (0 < step) × (base + positions * step < 4294967296) }
     ensures { marks.new ≡ marks_for base step positions (erasures_in erasures.now) }
 {
-    for i in 0..erasures.len() / 8 {
-        mark_touched(marks, erasure_at(erasures, i), base, step, positions);
+    let (pairs, _) = erasures.as_chunks::<8>();
+    for pair in pairs {
+        mark_touched(marks, Erasure::from(*pair), base, step, positions);
     }
 }
 
-// Tests 1, 2 and 3 of a call that is lent an image, an output of `row` words for each record, and a scratch.
-pub fn check<'a>(
-    header: Header,
+// Tests 2 and 3 of a call that is lent an image, an output of `row` words for each record, and a scratch.
+pub fn check_sized<'a>(
+    header: ValidHeader,
     image: &'a [u8],
     erasures: &'a [u8],
     row: usize,
     out: usize,
     scratch: usize,
 ) -> Result<Reading<'a>, Refusal>
-    requires { row ≤ suc header.s }
+    requires { row ≤ suc header.header.s }
     ensures number { answer_number result ≡
-        refusal (image_tests header image.now erasures.now (eqb out (record_count header * row) && eqb scratch (scratch_size header)) done) }
-    ensures same { IfOk result (λ r. (r.header.header ≡ header) × (r.image.now ≡ image.now) × (r.erasures.now ≡ erasures.now)) }
+        refusal (image_tests header.header image.now erasures.now
+        (eqb out (record_count header.header * row) && eqb scratch (scratch_size header.header)) done) }
+    ensures same { Reads header.header image.now erasures.now result }
 {
-    let header = ValidHeader::try_from(header)?;
     let size = header.image_size();
     if image.len() != size || out != header.rows_size(row) || scratch != header.scratch_size() {
         return Err(Refusal::Length);
@@ -109,6 +114,24 @@ pub fn check<'a>(
         image,
         erasures,
     })
+}
+
+// Tests 1, 2 and 3 of such a call.
+pub fn check<'a>(
+    header: Header,
+    image: &'a [u8],
+    erasures: &'a [u8],
+    row: usize,
+    out: usize,
+    scratch: usize,
+) -> Result<Reading<'a>, Refusal>
+    requires { row ≤ suc header.s }
+    ensures number { answer_number result ≡
+        refusal (image_tests header image.now erasures.now (eqb out (record_count header * row) && eqb scratch (scratch_size header)) done) }
+    ensures same { Reads header image.now erasures.now result }
+{
+    let valid = ValidHeader::try_from(header)?;
+    check_sized(valid, image, erasures, row, out, scratch)
 }
 
 // Marks the erased positions of a stripe.

@@ -12,6 +12,7 @@ fn put_words(bytes: &mut [u8], at: usize, words: &[u32])
     requires { at + 4 * length words.now ≤ length bytes.old }
     ensures { bytes.new ≡ sets bytes.old at (bytes_of words.now) }
 {
+    // by index: of what is written to `as_chunks_mut` a proof knows the length alone
     for (i, word) in words.iter().enumerate() {
         crate::bytes::put_word(bytes, at + 4 * i, *word);
     }

@@ -2,7 +2,7 @@
 ghost use Rattle.std.specs.Prelude.{◌≡◌, true, ◌++◌, ◌+◌, ◌*◌, ◌≤◌, ◌<◌, length, drop};
 ghost use Rattle.field.specs.Words.{table};
 ghost use Rattle.code.specs.Stripe.{modulus_of, position_count, stripe_words};
-ghost use Rattle.code.specs.steps.Storing.{stored, word_from};
+ghost use Rattle.code.specs.steps.Storing.{word_from};
 ghost use Rattle.image.specs.Loading.{stripe_in, are_below, rows_in};
 ghost use Rattle.image.specs.steps.Loading.{columns_of};
 
@@ -29,7 +29,7 @@ fn row_in_field<S: Source>(source: S, at: usize, st: Stripe) -> bool
     requires size { S.count source < 18446744073709551616 }
     ensures { result ≡ are_below (modulus_of st) (table st.width (word_from (S.words source) at)) }
 {
-    // No early end: a loop that has none takes four words at a time.
+    // No early end: a loop that has none takes four words at a time. A fold says the same with the flag as its first argument.
     let mut fine = true;
     for j in 0..st.width {
         if field::MODULUS <= source.word(at + j) {
@@ -39,21 +39,20 @@ fn row_in_field<S: Source>(source: S, at: usize, st: Stripe) -> bool
     fine
 }
 
-// Loads `cols` words, from word number `at` on, to the index `to` on.
-fn load_row<S: Source>(part: &mut [u32], to: usize, source: S, at: usize, cols: usize)
-    requires room { to + cols ≤ length part.old }
-    requires inside { at + cols ≤ S.count source }
+// Loads as many words as the row has, from word number `at` on.
+fn load_row<S: Source>(row: &mut [u32], source: S, at: usize)
+    requires inside { at + length row.old ≤ S.count source }
     requires size { S.count source < 18446744073709551616 }
-    ensures { part.new ≡ stored to (word_from (S.words source) at) cols part.old }
+    ensures { row.new ≡ table (length row.old) (word_from (S.words source) at) }
 {
-    for j in 0..cols {
-        part[to + j] = source.word(at + j);
+    for (j, word) in row.iter_mut().enumerate() {
+        *word = source.word(at + j);
     }
 }
 
 // Loads a range of columns of each row, zeros for a marked row. With the first range, whether every word of every surviving row is a word of the field: all
 // columns are tested then, each row right after it is loaded. A later range is not tested, and passes.
-// A level is at most the header's k, and a range ends inside its stripe: a type that says so would depend on the header's or the stripe's value.
+// The stripe may have any numbers with a level up to 15, where a `ValidStripe` would ask more; and a type for a range that ends inside it would hold it.
 pub fn load<S: Source>(
     part: &mut [u32],
     source: S,
@@ -78,13 +77,15 @@ pub fn load<S: Source>(
     let from = range.from;
     let cols = range.cols;
     let mut fine = true;
-    for i in 0..rows {
+    // The rows of the part by index: of what is written to `chunks_exact_mut` a proof knows the length alone.
+    for (i, marked) in marks[..rows].iter().enumerate() {
         let to = i * cols;
         let at = i * width;
-        if marks[i] {
+        if *marked {
             part[to..to + cols].fill(0);
         } else {
-            load_row(part, to, source, at + from, cols);
+            load_row(&mut part[to..to + cols], source, at + from);
+            // here, where the row has just been read, and in no pass of its own
             if from == 0 {
                 fine = fine & row_in_field(source, at, st);
             }

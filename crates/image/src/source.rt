@@ -1,4 +1,5 @@
-// Where the words of a stripe come from. What loads them sees words alone, by one contract; each kind of source is an instance.
+// Where the words of a stripe come from. What loads them sees words alone, by one contract; each kind of source is an instance. That a source has the words
+// of a stripe stays a clause of what is lent both, since a type for it would hold both. So does that it has fewer than 2^64: an instance may have any number.
 ghost use Rattle.std.specs.Prelude.{◌≡◌, ◌*◌, ◌/◌, ◌<◌, ℕ, List, length, get_or};
 ghost use Rattle.image.specs.Image.{words_of};
 
@@ -25,7 +26,7 @@ impl Source for &[u8] {
     }
 }
 
-// Words that a vault lives in.
+// Words that a vault lives in, for callers that have no image of them.
 impl Source for &[u32] {
     ghost count = { λ s. length s.now };
 

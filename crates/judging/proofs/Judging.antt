@@ -1,16 +1,16 @@
 -- Test 10, range by range of columns: laws of specs/steps/Judging, and the loop that judges the words of a range. Assumes nothing.
 use mathlib.Core.Path.{◌≡◌, refl, sym, ap, ap₂, ◌∙◌}
 use mathlib.Core.Bool.{Bool, true, false, ◌&&◌, and_assoc, and_comm}
-use mathlib.Core.List.{List}
+use mathlib.Core.List.{List, ◌++◌}
 use Prim.Native.Nat.{ℕ, zero, suc, pred, ◌+◌, ◌*◌, ◌-◌, ◌^◌, ◌≤◌, ◌<◌}
 use native.Mathlib.Numerals.{add-one}
 use native.Mathlib.Decide.{dec_lt}
 use native.Mathlib.Omega.{arith}
 use borrow.Author.Tests.{ltb-true, eqb-true, eq-eqb, ne_eqb}
 use lib.Dec.{eqb, ltb}
-use lib.ListN.{length, get_or, set, take, drop, replicate, length-set, length-drop, get_or-replicate}
+use lib.ListN.{length, get_or, set, take, drop, replicate, length-set, length-drop, length-append, get_or-append, get_or-replicate}
 use Rattle.std.proofs.lemmas.List.{drop-take}
-use lib.Seq.{get_or-set_same, get_or-set_other, take-length, get_or-take, get_or-drop, drop-drop}
+use lib.Seq.{get_or-set_same, get_or-set_other, take-length, length-take-le, get_or-take, get_or-drop, drop-drop}
 use Rattle.code.specs.declared.Stripe.{Stripe}
 use Rattle.code.specs.Stripe.{block_count}
 use Rattle.code.proofs.Lifting.{row_in}
@@ -71,9 +71,6 @@ judge_start st from cols words before =
 
 module _ {st : Stripe} {from cols : ℕ} {words : List ℕ} {before fits : List Bool} {all : Bool} {j : ℕ}
     (J : JudgeLoop st from cols words before fits all j) where
-  pub judge_reads : {n b m : ℕ} → j < n → n ≡ b → b * cols ≤ m → j * cols + cols ≤ m
-  judge_reads h e u = let x = rw e at (row_in cols h) in omega arith
-
   module _ {r : Bool} (b : j < length before) (f : r ≡ row_fits st from (take (j * cols + cols - j * cols) (drop (j * cols) words)) j) where
     abbrev fine : Bool
     fine = get_or fits j false && r
@@ -111,11 +108,27 @@ module _ {st : Stripe} {from cols : ℕ} {words : List ℕ} {before fits : List 
       held = rw add-one all_held;
     }
 
-  pub judged : {n : ℕ} → j ≡ n → n ≡ block_count st → Judged st from cols words before fits
-  judged e f = record { same = J.same; each = λ i b. J.done i (omega (arith, e, f)) }
+-- after all n of them, which are the first of the marks that are lent
+module _ {st : Stripe} {from cols : ℕ} {words : List ℕ} (before : List Bool) {fits : List Bool} {all : Bool} {j n : ℕ}
+    (J : JudgeLoop st from cols words (take n before) fits all j) (e : n ≡ block_count st) (h : n ≤ length before) (t : length (take n before) ≤ j) where
+  long : length (take n before) ≡ n
+  long = length-take-le n before h
 
-  pub judged_all : {n : ℕ} → j ≡ n → n ≡ block_count st → all ≡ all_hold fits (block_count st)
-  judged_all e f = J.held ∙ ap (all_hold fits) (e ∙ f)
+  mark : (i : ℕ) → i < n → get_or (fits ++ drop n before) i false ≡ get_or fits i false
+  mark i b = get_or-append fits (drop n before) false i (omega (arith, J.same, long))
+
+  pub judged : Judged st from cols words before (fits ++ drop n before)
+  judged = record {
+    same = omega (arith, length-append fits (drop n before), length-drop n before, J.same, long);
+    each = λ i b. let l : i < n = omega (arith, e) in
+        mark i l ∙ J.done i (omega (arith, long))
+        ∙ ap (λ (m : Bool). m && row_fits st from (take cols (drop (i * cols) words)) i) (get_or-take n before i false l);
+  }
+
+  pub judged_all : j ≤ length (take n before) → all ≡ all_hold (fits ++ drop n before) (block_count st)
+  judged_all b =
+      let k : j ≡ block_count st = omega (arith, e, long) in
+      J.held ∙ ap (all_hold fits) k ∙ hold_same fits (fits ++ drop n before) (block_count st) (λ i b. sym (mark i (omega (arith, e))))
 
 -- WHAT A BLOCK'S NUMBER HAS TO BE: below n on a level, its place on the full stripe
 pub number_below : (st : Stripe) (j x : ℕ) → st.level < st.k → number_fits st j x ≡ true → x < 2 ^ st.k

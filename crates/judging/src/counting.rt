@@ -7,8 +7,8 @@ use crate::VaultStripe;
 
 // Whether at least half of a stripe's positions survive.
 pub fn enough_survive(vault: VaultStripe, marks: &[bool]) -> bool
-    requires { position_count vault.stripe ≤ length marks.now }
-    ensures { result ≡ not (ltb (length (survivors vault.stripe.level marks.now)) (block_count vault.stripe)) }
+    requires { position_count vault.valid.stripe ≤ length marks.now }
+    ensures { result ≡ not (ltb (length (survivors vault.valid.stripe.level marks.now)) (block_count vault.valid.stripe)) }
 {
-    decoder::decoding::count_erased(marks, vault.stripe.level) <= vault.block_count()
+    decoder::decoding::count_erased(marks, vault.valid.stripe.level) <= vault.valid.block_count()
 }

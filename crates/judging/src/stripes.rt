@@ -6,14 +6,14 @@ ghost use Rattle.layout.specs.Header.{stripe_of};
 ghost use Rattle.judging.specs.StripeFits.{StripeFits};
 ghost use Rattle.judging.specs.steps.Ready.{Ready};
 
-use code::Stripe;
+use code::ValidStripe;
 use layout::ValidHeader;
 
 // A stripe that a vault can have: its level is at most k, k at most 10, and a block is its number and 1 to 128 data words.
 #[derive(Clone, Copy)]
 pub struct VaultStripe {
-    pub stripe: Stripe,
-    ghost fits: { StripeFits stripe },
+    pub valid: ValidStripe,
+    ghost fits: { StripeFits valid.stripe },
 }
 
 // A stripe and the marks of its positions, of which at least half survive.
@@ -21,41 +21,28 @@ pub struct VaultStripe {
 pub struct ReadyStripe<'a> {
     pub vault: VaultStripe,
     pub marks: &'a [bool],
-    ghost ready: { Ready vault.stripe marks.now },
+    ghost ready: { Ready vault.valid.stripe marks.now },
 }
 
 impl VaultStripe {
     // A stripe of a header: a level, or k for the full stripe.
     pub fn new(header: ValidHeader, level: usize) -> VaultStripe
         requires { level ≤ header.header.k }
-        ensures { result.stripe ≡ stripe_of header.header level }
+        ensures { result.valid.stripe ≡ stripe_of header.header level }
     {
-        VaultStripe {
+        let valid = ValidStripe {
             stripe: header.stripe_of(level),
-        }
-    }
-
-    // The number of blocks.
-    pub fn block_count(self) -> usize
-        ensures { result ≡ block_count self.stripe }
-    {
-        code::number::two_to(self.stripe.level)
-    }
-
-    // The number of positions.
-    pub fn position_count(self) -> usize
-        ensures { result ≡ position_count self.stripe }
-    {
-        code::number::two_to(self.stripe.level + 1)
+        };
+        VaultStripe { valid }
     }
 }
 
 impl<'a> ReadyStripe<'a> {
     // Test 7: nothing where too few positions survive.
     pub fn new(vault: VaultStripe, marks: &'a [bool]) -> Option<ReadyStripe<'a>>
-        requires { position_count vault.stripe ≤ length marks.now }
-        ensures { MatchOption result (ltb (length (survivors vault.stripe.level marks.now)) (block_count vault.stripe) ≡ true)
-            (λ r. (r.vault.stripe ≡ vault.stripe) × (r.marks.now ≡ marks.now)) }
+        requires { position_count vault.valid.stripe ≤ length marks.now }
+        ensures { MatchOption result (ltb (length (survivors vault.valid.stripe.level marks.now)) (block_count vault.valid.stripe) ≡ true)
+            (λ r. (r.vault.valid.stripe ≡ vault.valid.stripe) × (r.marks.now ≡ marks.now)) }
     {
         if crate::counting::enough_survive(vault, marks) {
             Some(ReadyStripe { vault, marks })

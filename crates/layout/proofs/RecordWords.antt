@@ -1,16 +1,19 @@
 -- Laws of specs/Records: data words, blank blocks, records replaced, and records that fit. Assumes nothing.
 use mathlib.Core.Path.{◌≡◌, refl, sym, ap, ap₂, ◌∙◌}
-use mathlib.Core.Bool.{true, false}
+use mathlib.Core.Bool.{Bool, true, false}
 use mathlib.Core.Logic.{⊎_elim}
 use mathlib.Core.List.{List, [], ◌∷◌, ◌++◌, append_assoc}
 use Prim.Native.Nat.{ℕ, zero, suc, ◌+◌, ◌*◌, ◌≤◌, ◌<◌}
-use native.Mathlib.Nat.{eq-or-lt_of_le, le_refl, mul-le-mul_right, zero-mul}
+use native.Mathlib.Nat.{eq-or-lt_of_le, le_refl, mul-le-mul_right, zero-add, zero-mul}
 use native.Mathlib.Decide.{dec_lt}
 use native.Mathlib.Omega.{arith}
 use lib.Dec.{lit<}
 use lib.ListN.{length, take, drop, replicate, length-drop}
 use lib.Seq.{sets, sets-eq, length-take-le, take_all, take_at, drop_at}
 use borrow.Author.Tests.{eqb-true, leb-true, le-leb}
+use Rattle.std.specs.Bool.{MatchBool}
+use Rattle.std.specs.List.{AllWithin, HoldsAt, range_with_len}
+use Rattle.std.proofs.lemmas.List.FromFn.{length-range_with_len, get_or-range_with_len}
 use Rattle.field.specs.Words.{Words, every}
 use Rattle.field.proofs.WordLists.{words_take, part_inside, take_sets, drop_sets}
 use Rattle.layout.specs.Records.{is_data, are_data, is_zero, is_blank, record_in, replaced, records_fit}
@@ -73,23 +76,31 @@ module _ (s : ℕ) (r : List ℕ) (j : ℕ) (b : List ℕ) (long : length b ≡ 
           ∙ ap (λ (x : List ℕ). take s (drop (i * s) x)) (take_sets (j * s) r (j * s) b (le_refl (j * s))) ∙ part_inside (i * s) s (j * s) r e
       at (no h) = ap (take s) (drop_sets (i * s) r (j * s) b (omega (arith, record_end i s j (omega arith))))
 
--- RECORDS FIT: none of none, one after others
-pub fit_none : (s : ℕ) (r : List ℕ) → records_fit s r 0 ≡ true
+-- RECORDS FIT: where each does
+fit_each : (s : ℕ) (r : List ℕ) (n : ℕ) → ((i : ℕ) → i < n → are_data (record_in s r i) ≡ true) → records_fit s r n ≡ true
 unfolding records_fit
-fit_none s r = refl
-
-pub fit_one : (s : ℕ) (r : List ℕ) (n : ℕ) → records_fit s r n ≡ true → are_data (record_in s r n) ≡ true → records_fit s r (suc n) ≡ true
-unfolding records_fit
-fit_one s r n e d = both_true e d
+fit_each s r zero e = refl
+fit_each s r (suc n) e = both_true (fit_each s r n (λ i h. e i (omega arith))) (e n (omega arith))
 
 -- not with one that does not
-pub unfit_one : (s : ℕ) (r : List ℕ) (n i : ℕ) → i < n → are_data (record_in s r i) ≡ false → records_fit s r n ≡ false
+unfit_one : (s : ℕ) (r : List ℕ) (n i : ℕ) → i < n → are_data (record_in s r i) ≡ false → records_fit s r n ≡ false
 unfolding records_fit
 unfit_one s r zero i h e = absurd (omega arith)
 unfit_one s r (suc n) i h e =
     ⊎_elim (λ q. second_false (records_fit s r n) (ap (λ (j : ℕ). are_data (record_in s r j)) (sym q) ∙ e))
     (λ b. first_false (are_data (record_in s r n)) (unfit_one s r n i b e))
     (eq-or-lt_of_le (omega arith))
+
+-- as the library tells it of a chain over the records' numbers, f the test of one
+pub fit_told : {f : ℕ → Bool} {b : Bool} (s : ℕ) (r : List ℕ) (n : ℕ) → ((i : ℕ) → f i ≡ are_data (record_in s r i))
+    → MatchBool b (AllWithin (λ i. f i ≡ true) (range_with_len 0 n) 0 (length (range_with_len 0 n)))
+    ((k : ℕ) × (k < length (range_with_len 0 n)) × HoldsAt (λ i. f i ≡ false) (range_with_len 0 n) k)
+    → b ≡ records_fit s r n
+fit_told {f} {b = true} s r n e h =
+    sym (fit_each s r n (λ i t. sym (e i) ∙ rw (get_or-range_with_len 0 n i 0 t, zero-add i) at (h i 0 (omega arith) (rw length-range_with_len t))))
+fit_told {f} {b = false} s r n e h =
+    let t : h.0 < n = rw length-range_with_len at h.1 in
+    sym (unfit_one s r n h.0 t (sym (e h.0) ∙ rw (get_or-range_with_len 0 n h.0 0 t, zero-add h.0) at (h.2 0)))
 
 -- they fit if all their words do
 fit_front : (s : ℕ) (r : List ℕ) (n : ℕ) → records_fit s r n ≡ are_data (take (n * s) r)

@@ -1,5 +1,5 @@
 // Where stripes stand, their numbers, which there are, and the first empty level. That a level is at most k stays a clause: a type for it would hold the
-// header, which each of these methods has already.
+// header, which each of these methods has already. The full stripe is the one with the number k, here and in what stands above: so the calls name it.
 ghost use Rattle.std.specs.Prelude.{◌≡◌, ◌^◌, ◌≤◌, ◌<◌, suc, ℕ};
 ghost use Rattle.layout.specs.Header.{first_of, stripe_at, stripe_of, is_filled, has_stripe, first_empty};
 
@@ -43,17 +43,16 @@ impl ValidHeader {
             width: self.width(),
         }
     }
+
+    // Test 6: whether there is such a stripe.
+    pub fn has_stripe(self, stripe: u32) -> bool
+        ensures { result ≡ has_stripe self.header stripe }
+    {
+        has_stripe(self.header, stripe)
+    }
 }
 
-// Whether a level is filled.
-pub fn is_filled(header: Header, level: usize) -> bool
-    requires { level ≤ 10 }
-    ensures { result ≡ is_filled header level }
-{
-    header.c as usize / code::number::two_to(level) % 2 == 1
-}
-
-// Test 6: whether there is such a stripe.
+// The same for a header of any numbers with k up to 10, which the type would not take.
 pub fn has_stripe(header: Header, stripe: u32) -> bool
     requires { header.k ≤ 10 }
     ensures { result ≡ has_stripe header stripe }
@@ -61,7 +60,16 @@ pub fn has_stripe(header: Header, stripe: u32) -> bool
     stripe == header.k || (stripe < header.k && is_filled(header, stripe as usize))
 }
 
-// The first empty level, counted from 0: the lowest bit of c that is 0. The specification asks that a loop over the bits of c yields it by a break.
+// Whether a level is filled. The header may have any numbers, and the level's bound is the shift's alone.
+pub fn is_filled(header: Header, level: usize) -> bool
+    requires { level ≤ 10 }
+    ensures { result ≡ is_filled header level }
+{
+    header.c as usize / code::number::two_to(level) % 2 == 1
+}
+
+// The first empty level, counted from 0: the lowest bit of c that is 0. It is a rule of the project (document 01) that a loop over
+// the bits of c yields it by a break.
 pub fn first_empty(c: u32) -> usize
     ensures { (k : ℕ) → suc c < 2 ^ k → (result ≡ first_empty k 0 c) × (result < k) }
 {

@@ -1,4 +1,4 @@
-// Test 1 of a header, and the sizes that it gives: in words, of the image in bytes. Each test of a length calls these.
+// Test 1 of a header, and the sizes that it gives: in words, of the image in bytes. The tests of a length call these where a header has passed test 1.
 ghost use Rattle.std.specs.Prelude.{◌≡◌, suc, ◌*◌, ◌≤◌};
 ghost use Rattle.layout.specs.Header.{header_fits, record_count, width, raw_size, full_size, log_size, out_size, scratch_size, image_size};
 

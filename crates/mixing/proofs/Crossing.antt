@@ -42,9 +42,6 @@ pub crossing_stores : (unmixing : Bool) → Stores 65537 (crossing_of unmixing 6
 crossing_stores false = record { low_lt = λ g a b. plus_lt 65537 (omega arith) a _; high_lt = λ g a b. minus_lt 65537 (omega arith) a _ }
 crossing_stores true = record { low_lt = λ g a b. plus_lt 65537 (omega arith) a b; high_lt = λ g a b. times_lt 65537 (omega arith) g _ }
 
-pub summing_stores : Stores 65537 (summing 65537)
-summing_stores = record { low_lt = λ g a b. plus_lt 65537 (omega arith) a b; high_lt = λ g a b. minus_lt 65537 (omega arith) a b }
-
 -- one crossing, word by word
 module _ (c : Crossing) (g x y : ℕ) (l : List ℕ) where
   length_crossed : length (crossed c g x y l) ≡ length l
@@ -249,11 +246,9 @@ sums_lifted width d l t e =
     pairs_row (summing 65537) (λ _. 1) (factor 1 width) width width l (λ j _. sym (power_of_one 65537 (omega arith) (j / width)))
     ∙ (rw o at (all_pairs (summing 65537) 1 1 width d t l (rw o e)))
 
-pub sums_block : (width : ℕ) → OnBlock 65537 (width + width) (sum_row 65537 width 0 width)
-sums_block width = record {
-  long = λ a e. length_row (summing 65537) (λ _. 1) width 0 width a ∙ e;
-  words = λ a w. words_row (omega arith) summing_stores (λ _. 1) width 0 width w;
-}
+-- what is done to a block of two rows
+pub row_block : {c : Crossing} → Stores 65537 c → (f : ℕ → ℕ) (n : ℕ) → OnBlock 65537 (n + n) (crossed_row c f n 0 n)
+row_block {c} s f n = record { long = λ a e. length_row c f n 0 n a ∙ e; words = λ a w. words_row (omega arith) s f n 0 n w }
 
 -- THE LOOP OVER ROWS: the first i rows are crossed, under powers of entry `step` of a table
 pub record RowsLoop (c : Crossing) (part₀ : List ℕ) (m width : ℕ) (powers : List ℕ) (step : ℕ) (part : List ℕ) (i : ℕ) : Type 0 where

@@ -11,15 +11,8 @@ use Rattle.code.specs.Rows.{lifted}
 use Rattle.code.specs.steps.Mixing.{Crossing, crossed_row, RowFactors, ShortFactors, repeated_at, factor_at, each_block}
 use Rattle.code.specs.steps.Storing.{stored}
 use Rattle.code.proofs.RowLaws.{length_stored, stored_at}
-use Rattle.mixing.proofs.Crossing.{Stores, Crosses, length_row, words_row, words_lifted}
-use Rattle.code.proofs.Blocks.{OnBlock, each_same, each_rows}
-
--- a level crossed word by word, each under the factor of its row
-pub words_block : {c : Crossing} → Stores 65537 c → (fs : List ℕ) (n : ℕ) → OnBlock 65537 (n + n) (crossed_row c (factor_at fs) n 0 n)
-words_block {c} s fs n = record {
-  long = λ a e. length_row c (factor_at fs) n 0 n a ∙ e;
-  words = λ a w. words_row (omega arith) s (factor_at fs) n 0 n w;
-}
+use Rattle.mixing.proofs.Crossing.{Crosses, words_lifted}
+use Rattle.code.proofs.Blocks.{each_same, each_rows}
 
 -- the factors that are repeated
 module _ (width : ℕ) (fs₀ : List ℕ) {m step : ℕ} {powers fs : List ℕ} (f : RowFactors 65537 m step powers) (room : m * width ≤ length fs₀)

@@ -1,8 +1,11 @@
-// Crossings of two words, mixing and unmixing, and what they are crossed under: a factor, and the factors of a row's words.
-ghost use Rattle.std.specs.Prelude.{◌≡◌, ℕ, ◌-◌, ◌<◌, Bool, true, false, length, get_or};
+// Mixing and unmixing: what they make of two words, in which order they go through the levels, and what words are crossed under: a factor, and the factors
+// of a row's words.
+ghost use Rattle.std.specs.Prelude.{◌≡◌, ℕ, ◌-◌, ◌^◌, ◌≤◌, ◌<◌, Bool, true, false, length, get_or};
 ghost use Rattle.field.specs.Residue.{times};
-ghost use Rattle.field.specs.Field.{fermat};
-ghost use Rattle.mixing.specs.steps.Words.{crossing_of};
+ghost use Rattle.field.specs.Field.{fermat, power_table};
+ghost use Rattle.mixing.specs.steps.Words.{crossing_of, pass_of, step_of};
+
+use crate::row_powers::RowPowers;
 
 // What a word is multiplied by.
 pub trait Factor: Copy {
@@ -92,10 +95,20 @@ impl Factors for PerWord<'_> {
     }
 }
 
-// Which way words are crossed: mixing, or unmixing.
+// Which way words are crossed: mixing, from single rows up, or unmixing, from all rows down.
 pub trait Direction {
     // Whether it is unmixing: the definitions of specs/steps go by that.
     ghost unmixing: { Bool };
+
+    // The pass over the rows that is made in a turn, of so many.
+    fn pass(turn: usize, all: usize) -> usize
+        requires { turn < all }
+        ensures { result ≡ pass_of unmixing turn all };
+
+    // The factors of 2^level rows that are crossed with as many, out of the table of powers. The level's bound is the table's.
+    fn powers(level: usize) -> RowPowers<'static>
+        requires { level ≤ 10 }
+        ensures { (result.rows ≡ 2 ^ level) × (result.step ≡ step_of unmixing level) × (result.table.now ≡ power_table) };
 
     // What is stored in the place of two words.
     fn cross<F: Factor>(g: F, a: u32, b: u32) -> (u32, u32)
@@ -113,6 +126,20 @@ pub struct Unmixing;
 impl Direction for Mixing {
     ghost unmixing = { false };
 
+    fn pass(turn: usize, _all: usize) -> usize {
+        turn
+    }
+
+    // The root of 2^level records is entry 1024 / 2^level.
+    fn powers(level: usize) -> RowPowers<'static> {
+        let rows = code::number::two_to(level);
+        RowPowers {
+            table: code::table_65537::powers(),
+            rows,
+            step: 1024 / rows,
+        }
+    }
+
     #[inline(always)]
     fn cross<F: Factor>(g: F, a: u32, b: u32) -> (u32, u32) {
         let t = g.product(b);
@@ -122,6 +149,20 @@ impl Direction for Mixing {
 
 impl Direction for Unmixing {
     ghost unmixing = { true };
+
+    fn pass(turn: usize, all: usize) -> usize {
+        all - 1 - turn
+    }
+
+    // Its inverse is entry 2048 - 1024 / 2^level.
+    fn powers(level: usize) -> RowPowers<'static> {
+        let rows = code::number::two_to(level);
+        RowPowers {
+            table: code::table_65537::powers(),
+            rows,
+            step: 2048 - 1024 / rows,
+        }
+    }
 
     #[inline(always)]
     fn cross<F: Factor>(g: F, a: u32, b: u32) -> (u32, u32) {

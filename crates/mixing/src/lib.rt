@@ -3,5 +3,6 @@
 #![tactic(auto)]
 
 pub mod direction;
+pub mod row_powers;
 pub mod rows;
 pub mod words;

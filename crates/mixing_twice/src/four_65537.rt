@@ -1,5 +1,7 @@
 // Four words, one of each of four rows: the sums and differences that two levels of mixing, or of unmixing, come to. They are reduced where they are
 // given back, and not between the levels: the contracts say what a result is modulo p. 256 is a square root of -1.
+// The bound of a word that is not reduced stays a clause, and four words are four parameters: a type for the bound, or an array, would be made and taken apart
+// in each line of `cross_four`.
 ghost use Rattle.std.specs.Prelude.{◌≡◌, ◌+◌, ◌*◌, ◌-◌, ◌%◌, ◌≤◌, ◌<◌};
 ghost use Rattle.field.specs.Residue.{times};
 ghost use Rattle.field.specs.Field.{fermat};

@@ -1,5 +1,5 @@
-// Two levels of mixing, and of unmixing, in one pass over four rows.
-ghost use Rattle.std.specs.Prelude.{◌≡◌, ◌+◌, ◌*◌, ◌-◌, ◌%◌, ◌≤◌, ◌<◌, length, get_or};
+// Two levels of mixing, and of unmixing, in one pass over four rows. Rows are named by where they begin: four of them are of one slice, and all change.
+ghost use Rattle.std.specs.Prelude.{◌≡◌, ◌+◌, ◌*◌, ◌%◌, ◌≤◌, ◌<◌, length, get_or};
 ghost use Rattle.field.specs.Field.{fermat};
 ghost use Rattle.field.specs.Words.{Words};
 ghost use Rattle.code.specs.Rows.{lifted};
@@ -8,8 +8,10 @@ ghost use Rattle.mixing_twice.specs.steps.Quads.{quad_row, EntryFactors, QuadFac
 
 use crate::direction::{ThreeFactors, TwoLevels, UnreducedFactor};
 use mixing::direction::{One, Power};
+use mixing::row_powers::RowPowers;
 
-// Crosses `width` words of four rows, `far` apart, under the factors t. By index: of what is written through `iter_mut` a proof knows the length alone.
+// Crosses `width` words of four rows, `far` apart, under the factors t. By index: of what is written through `iter_mut().zip(..)`, as rows of
+// one slice would be, a proof knows the length alone.
 fn cross_rows<D: TwoLevels, F: UnreducedFactor>(
     part: &mut [u32],
     at: usize,
@@ -34,20 +36,20 @@ fn cross_rows<D: TwoLevels, F: UnreducedFactor>(
     }
 }
 
-// Crosses four rows under entries of the powers; no product where these are entry 0.
+// Crosses four rows under the entries 2e, e and 3e of a table of powers, around it; no product where these are entry 0.
 fn cross_by<D: TwoLevels>(
     part: &mut [u32],
     at: usize,
     far: usize,
     width: usize,
-    powers: &[u32],
+    table: &[u32],
     e: usize,
 )
     requires width_in_bounds { at + far + far + far + width ≤ length part.old }
-    requires entry_factors { EntryFactors fermat.modulus e powers.now }
+    requires entry_factors { EntryFactors fermat.modulus e table.now }
     requires words { Words fermat.modulus part.old }
     ensures { part.new ≡
-        quad_row (four_of D.unmixing) (get_or powers.now (2 * e % 2048) 0) (get_or powers.now (e % 2048) 0) far width at part.old }
+        quad_row (four_of D.unmixing) (get_or table.now (2 * e % 2048) 0) (get_or table.now (e % 2048) 0) far width at part.old }
 {
     if e == 0 {
         let t = ThreeFactors {
@@ -58,55 +60,61 @@ fn cross_by<D: TwoLevels>(
         cross_rows::<D, _>(part, at, far, width, &t);
     } else {
         let t1 = Power {
-            g: powers[2 * e % 2048],
+            g: table[2 * e % 2048],
         };
-        let t2 = Power {
-            g: powers[e % 2048],
-        };
+        let t2 = Power { g: table[e % 2048] };
         let t3 = Power {
-            g: powers[3 * e % 2048],
+            g: table[3 * e % 2048],
         };
         let t = ThreeFactors { t1, t2, t3 };
         cross_rows::<D, _>(part, at, far, width, &t);
     }
 }
 
-// Crosses 4m rows, two levels at once. Row i's factors are powers of v, entry `step` of the powers: entries 2i, i and 3i steps on, around the table.
-fn cross<D: TwoLevels>(part: &mut [u32], m: usize, width: usize, powers: &[u32], step: usize)
-    requires part_len { length part.old ≡ (m + m + (m + m)) * width }
-    requires quad_factors { QuadFactors fermat.modulus (turn_of D.unmixing) m step powers.now }
+// Crosses 4m rows, two levels at once, of which m are the rows of `powers`. Row i's factors are entries 2i, i and 3i steps on.
+fn cross<D: TwoLevels>(part: &mut [u32], width: usize, powers: RowPowers)
+    requires part_len { let m = powers.rows in length part.old ≡ (m + m + (m + m)) * width }
+    requires quad_factors { QuadFactors fermat.modulus (turn_of D.unmixing) powers.rows powers.step powers.table.now }
     requires words { Words fermat.modulus part.old }
-    ensures { part.new ≡
-        lifted width (m + m + (m + m)) (m + m + (m + m)) (twice D.unmixing fermat.modulus (get_or powers.now step 0) m) part.old }
+    ensures { let m = powers.entry.rows in
+        part.new ≡
+        lifted width (m + m + (m + m)) (m + m + (m + m))
+        (twice D.unmixing fermat.modulus (get_or powers.entry.table.now powers.entry.step 0) m) part.old }
 {
+    let m = powers.rows;
+    // by index: four rows at a time, m of them apart
     for i in 0..m {
-        cross_by::<D>(part, i * width, m * width, width, powers, i * step);
+        cross_by::<D>(
+            part,
+            i * width,
+            m * width,
+            width,
+            powers.table,
+            i * powers.step,
+        );
     }
 }
 
-// Crosses each of `blocks` blocks of 4m rows, two levels at once. In its caller's body the loop over rows has too few registers.
+// Crosses each of `blocks` blocks of 4m rows, two levels at once, of which m are the rows of `powers`. In its caller's body the loop over rows has too few
+// registers.
 #[inline(never)]
-pub fn cross_each<D: TwoLevels>(
-    half: &mut [u32],
-    blocks: usize,
-    m: usize,
-    width: usize,
-    powers: &[u32],
-    step: usize,
-)
-    requires half_len { length half.old ≡ blocks * ((m + m + (m + m)) * width) }
-    requires width_bound { (m + m + (m + m)) * width < 9223372036854775808 }
-    requires m_bound { m < 4294967296 }
-    requires quad_factors { QuadFactors fermat.modulus (turn_of D.unmixing) m step powers.now }
+pub fn cross_each<D: TwoLevels>(half: &mut [u32], blocks: usize, width: usize, powers: RowPowers)
+    requires half_len { let m = powers.rows in length half.old ≡ blocks * ((m + m + (m + m)) * width) }
+    requires width_bound { let m = powers.rows in (m + m + (m + m)) * width < 9223372036854775808 }
+    requires m_bound { powers.rows < 4294967296 }
+    requires quad_factors { QuadFactors fermat.modulus (turn_of D.unmixing) powers.rows powers.step powers.table.now }
     requires words { Words fermat.modulus half.old }
-    ensures { half.new ≡
+    ensures { let m = powers.entry.rows in
+        half.new ≡
         each_block blocks ((m + m + (m + m)) * width)
-        (lifted width (m + m + (m + m)) (m + m + (m + m)) (twice D.unmixing fermat.modulus (get_or powers.now step 0) m)) half.old }
+        (lifted width (m + m + (m + m)) (m + m + (m + m))
+        (twice D.unmixing fermat.modulus (get_or powers.entry.table.now powers.entry.step 0) m)) half.old }
 {
+    let m = powers.rows;
     let size = (m + m + (m + m)) * width;
     // by index: of what is written to `chunks_exact_mut` a proof knows the length alone
     for b in 0..blocks {
         let at = b * size;
-        cross::<D>(&mut half[at..at + size], m, width, powers, step);
+        cross::<D>(&mut half[at..at + size], width, powers);
     }
 }

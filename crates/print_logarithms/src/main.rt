@@ -1,14 +1,13 @@
 // The program that prints the table of logarithms (`log_table`, logarithms/specs/Logarithms), one number to a line, computed from 3 and 3^32 alone.
 #![tactic(auto)]
 
-ghost use Rattle.std.specs.Prelude.{◌≡◌, ◌<◌, All, IfOk, map, string_bytes};
+ghost use Rattle.std.specs.Prelude.{◌≡◌, ◌<◌, All, IfOk, map};
 ghost use Rattle.field.specs.Residue.{minus};
 ghost use Rattle.field.specs.Field.{fermat};
-ghost use Rattle.print_lines.specs.Text.{lines};
 ghost use Rattle.logarithms.specs.Logarithms.{log_table};
 ghost use Rattle.logarithms.specs.Logarithms;
 
-use print_lines::Lines;
+use print_lines::Table;
 use std::alloc::{AllocError, Global};
 use std::io;
 
@@ -23,6 +22,7 @@ fn logarithm(x: u32) -> u32
         }
         power = field::mul(3, power);
     }
+    // none: the definition says 0
     0
 }
 
@@ -37,24 +37,19 @@ fn logarithms(alloc: Global, powers: &[u32]) -> Result<Vec<u32>, AllocError>
         .collect(alloc)
 }
 
-// The text of the table.
-fn table_text(alloc: Global) -> Result<String, AllocError>
-    ensures { IfOk result (λ text. string_bytes text ≡ lines log_table) }
-{
-    let u = field::power(3, 32);
-    let powers = print_lines::powers(alloc, u, 2048)?;
-    let table = logarithms(alloc, &powers)?;
-    Lines(&table).to_string(alloc)
-}
+// The table of logarithms.
+struct Logs;
 
-// Writes the table's text to standard output. No contract can say what a call writes: this one says what is handed to the call.
-fn print(rt: &impl Print, text: &str) -> io::Result<()>
-    requires { text.now ≡ lines log_table }
-{
-    rt.print(text)
+impl Table for Logs {
+    ghost numbers = { log_table };
+
+    fn compute(alloc: Global) -> Result<Vec<u32>, AllocError> {
+        let u = field::power(3, 32);
+        let powers = print_lines::powers(alloc, u, 2048)?;
+        logarithms(alloc, &powers)
+    }
 }
 
 fn main(rt: HostRuntime) -> io::Result<()> {
-    let text = table_text(rt.alloc())?;
-    print(&rt, &text)
+    print_lines::print::<Logs>(rt.alloc(), &rt)
 }

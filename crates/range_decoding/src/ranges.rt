@@ -23,13 +23,13 @@ fn in_fours(n: usize) -> usize
 
 // The range of columns from `from` on that is decoded at once: all that are left, or as many as the room is for, in fours.
 pub fn range_at(vault: VaultStripe, from: usize, room: usize) -> Range
-    requires left { from < vault.stripe.width }
-    requires room { position_count vault.stripe ≤ room }
-    ensures { RangeFits vault.stripe from room result }
+    requires left { from < vault.valid.stripe.width }
+    requires room { position_count vault.valid.stripe ≤ room }
+    ensures { RangeFits vault.valid.stripe from room result }
 {
-    let st = vault.stripe;
+    let st = vault.valid.stripe;
     let left = st.width - from;
-    let most = room / code::number::two_to(st.level + 1);
+    let most = room / vault.valid.position_count();
     Range {
         from,
         cols: if most < left { in_fours(most) } else { left },
@@ -45,23 +45,24 @@ pub fn decode_range<S: Source>(
     range: Range,
     part: &mut [u32],
 ) -> Result<(), Refusal>
-    requires source_len { S.count source ≡ stripe_words ready.vault.stripe }
-    requires factors_are { Factors ready.vault.stripe ready.marks.now factors.now }
-    requires inside { range.from + range.cols ≤ ready.vault.stripe.width }
+    requires source_len { S.count source ≡ stripe_words ready.vault.valid.stripe }
+    requires factors_are { Factors ready.vault.valid.stripe ready.marks.now factors.now }
+    requires inside { range.from + range.cols ≤ ready.vault.valid.stripe.width }
     requires all_in_field { 0 < range.from →
-        are_below (modulus_of ready.vault.stripe) (rows_in ready.vault.stripe ready.marks.now (S.words source)) ≡ true }
-    requires part_len { length part.old ≡ position_count ready.vault.stripe * range.cols }
+        are_below (modulus_of ready.vault.valid.stripe) (rows_in ready.vault.valid.stripe ready.marks.now (S.words source)) ≡ true }
+    requires part_len { length part.old ≡ position_count ready.vault.valid.stripe * range.cols }
     ensures value { answer_number result ≡
-        range_number (are_below (modulus_of ready.entry.vault.stripe) (rows_in ready.entry.vault.stripe ready.entry.marks.now (S.words source)))
-        (is_consistent_range ready.entry.vault.stripe ready.entry.marks.now (rows_in ready.entry.vault.stripe ready.entry.marks.now (S.words source)) range) }
+        range_number (are_below (modulus_of ready.entry.vault.valid.stripe) (rows_in ready.entry.vault.valid.stripe ready.entry.marks.now (S.words source)))
+        (is_consistent_range ready.entry.vault.valid.stripe ready.entry.marks.now
+        (rows_in ready.entry.vault.valid.stripe ready.entry.marks.now (S.words source)) range) }
     ensures part_after { answer_number result ≡ 0 →
         part.new ≡
-        columns_of ready.entry.vault.stripe.width range.from range.cols (block_count ready.entry.vault.stripe)
-        (blocks_in ready.entry.vault.stripe ready.entry.marks.now (rows_in ready.entry.vault.stripe ready.entry.marks.now (S.words source))) ++
-        replicate (block_count ready.entry.vault.stripe * range.cols) 0 }
-    ensures part_after_9 { answer_number result ≡ 9 → part.new ≡ replicate (position_count ready.entry.vault.stripe * range.cols) 0 }
+        columns_of ready.entry.vault.valid.stripe.width range.from range.cols (block_count ready.entry.vault.valid.stripe)
+        (blocks_in ready.entry.vault.valid.stripe ready.entry.marks.now (rows_in ready.entry.vault.valid.stripe ready.entry.marks.now (S.words source))) ++
+        replicate (block_count ready.entry.vault.valid.stripe * range.cols) 0 }
+    ensures part_after_9 { answer_number result ≡ 9 → part.new ≡ replicate (position_count ready.entry.vault.valid.stripe * range.cols) 0 }
 {
-    let st = ready.vault.stripe;
+    let st = ready.vault.valid.stripe;
     let marks = ready.marks;
     if !image::loading::load(part, source, marks, st, range) {
         return Err(Refusal::OutOfField);

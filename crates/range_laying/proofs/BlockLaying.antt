@@ -42,6 +42,3 @@ module _ {s : ℕ} {bs : List ℕ} {rows : ℕ} {r o : List ℕ} {j : ℕ} (L : 
     same = ap length q ∙ length_stored (i * s) (word_from bs (j * (s + 1) + 1)) s o ∙ L.same;
     now = q ∙ row_put s i (j * (s + 1) + 1) bs o (laying_reads s b f) ∙ rw (n, add-one (j * (s + 1)), add-one j, add-one s, ← L.now);
   }
-
-pub laying_done : {s : ℕ} {bs : List ℕ} {rows : ℕ} {r o : List ℕ} {j : ℕ} → Laying s bs rows r o j → rows ≤ j → o ≡ laid s bs rows r
-laying_done {rows} {j} L b = let e : j ≡ rows = omega (arith, L.turns) in rw e at L.now

@@ -67,9 +67,6 @@ module _ (f g : ℕ → ℕ) where
     now = q ∙ ap (λ (x : List ℕ). replaced 2 x i (f i ∷ g i ∷ [])) F.now ∙ pair_more i o₀ (omega arith) ∙ rw add-one;
   }
 
-  pub filling_done : {n i : ℕ} {o₀ o : List ℕ} → Filling n o₀ o i → n ≤ i → o ≡ pairs_to f g n ++ drop (n * 2) o₀
-  filling_done {n} {i} F b = let e : i ≡ n = omega (arith, F.turns) in rw e at F.now
-
   -- and nothing is left behind them
   pub filled_whole : (n : ℕ) (o₀ : List ℕ) {o : List ℕ} → length o₀ ≡ n * 2 → o ≡ pairs_to f g n ++ drop (n * 2) o₀ → o ≡ pairs_to f g n
   filled_whole n o₀ e q =
@@ -105,6 +102,3 @@ module _ {width l t : ℕ} {bs : List ℕ} {rows : ℕ} {r o : List ℕ} {j : �
     same = ap length q ∙ length-sets o (get_or bs (j * width) 0 * 2) (l ∷ (t + j) ∷ []) ∙ N.same;
     now = q ∙ rw (add-one j, ← N.now);
   }
-
-  pub naming_done : rows ≤ j → o ≡ origins_laid width l t bs rows r
-  naming_done b = let e : j ≡ rows = omega (arith, N.turns) in rw e at N.now

@@ -22,6 +22,7 @@ fn copy_rows(
     requires from_inside { (from.first + count ≤ from.stride) × (rows * from.stride ≤ length words.now) }
     ensures { out.new ≡ copied_rows to.first to.stride from.first from.stride count words.now rows out.old }
 {
+    // By index: the rows of `out` are written a part at a time, and of what is written to `chunks_exact_mut` a proof knows the length alone.
     for i in 0..rows {
         let x = from.first + i * from.stride;
         let y = to.first + i * to.stride;
@@ -31,13 +32,13 @@ fn copy_rows(
 
 // Copies the words of a range of columns, which stand in rows, to their columns of `out`, whose rows lack the first `skip` columns.
 fn copy_columns(words: &[u32], vault: VaultStripe, range: Range, skip: usize, out: &mut [u32])
-    requires inside { (0 < range.cols) × (range.from + range.cols ≤ vault.stripe.width) × (skip ≤ vault.stripe.width) }
-    requires words_len { block_count vault.stripe * range.cols ≤ length words.now }
-    requires out_len { block_count vault.stripe * (vault.stripe.width - skip) ≤ length out.old }
-    ensures { out.new ≡ copied_columns vault.stripe range skip words.now out.old }
+    requires inside { (0 < range.cols) × (range.from + range.cols ≤ vault.valid.stripe.width) × (skip ≤ vault.valid.stripe.width) }
+    requires words_len { block_count vault.valid.stripe * range.cols ≤ length words.now }
+    requires out_len { block_count vault.valid.stripe * (vault.valid.stripe.width - skip) ≤ length out.old }
+    ensures { out.new ≡ copied_columns vault.valid.stripe range skip words.now out.old }
 {
-    let st = vault.stripe;
-    let rows = vault.block_count();
+    let st = vault.valid.stripe;
+    let rows = vault.valid.block_count();
     let from = range.from;
     let end = from + range.cols;
     let first = from.max(skip);
@@ -60,6 +61,7 @@ fn lay_data(blocks: &[u32], s: usize, rows: usize, out: &mut [u32])
     requires by_index { (j : ℕ) → j < rows → suc (block_number (suc s) blocks.now j) * s ≤ length out.old }
     ensures { out.new ≡ laid s blocks.now rows out.old }
 {
+    // By index: `chunks_exact` would ask that s + 1 fits, also where there is no block. The stripe, which bounds s, is no matter of copying.
     for j in 0..rows {
         let at = j * (s + 1);
         let to = blocks[at] as usize * s;
@@ -69,14 +71,17 @@ fn lay_data(blocks: &[u32], s: usize, rows: usize, out: &mut [u32])
 
 // Lays the origins of a level's blocks over those of the records, one after the other: the level, and the number of the write.
 fn lay_origins(vault: VaultStripe, blocks: &[u32], out: &mut [u32])
-    requires blocks_len { length blocks.now ≡ block_words vault.stripe }
-    requires by_index { (j : ℕ) → j < block_count vault.stripe → suc (block_number vault.stripe.width blocks.now j) * 2 ≤ length out.old }
-    ensures { out.new ≡ origins_laid vault.stripe.width vault.stripe.level vault.stripe.first blocks.now (block_count vault.stripe) out.old }
+    requires blocks_len { length blocks.now ≡ block_words vault.valid.stripe }
+    requires by_index { (j : ℕ) → j < block_count vault.valid.stripe → suc (block_number vault.valid.stripe.width blocks.now j) * 2 ≤ length out.old }
+    ensures { out.new ≡
+        origins_laid vault.valid.stripe.width vault.valid.stripe.level vault.valid.stripe.first blocks.now
+        (block_count vault.valid.stripe) out.old }
 {
-    let width = vault.stripe.width;
-    let level = vault.stripe.level;
-    let first = vault.stripe.first;
-    let rows = vault.block_count();
+    let width = vault.valid.stripe.width;
+    let level = vault.valid.stripe.level;
+    let first = vault.valid.stripe.first;
+    let rows = vault.valid.block_count();
+    // By index: of each block the number alone is read, to which a piece of `chunks_exact` would add a name.
     for i in 0..rows {
         let from = i * width;
         let write = first + i;
@@ -87,14 +92,14 @@ fn lay_origins(vault: VaultStripe, blocks: &[u32], out: &mut [u32])
 // Lays a range of the columns of a stripe's blocks, which stand in rows. On the full stripe a block's record is the one of its place, and a range is laid where
 // it stands; on a level the blocks' numbers say where, and the range is all columns.
 pub fn lay_range(content: Content, vault: VaultStripe, range: Range, words: &[u32], out: &mut [u32])
-    requires inside { (0 < range.cols) × (range.from + range.cols ≤ vault.stripe.width) }
-    requires words_len { length words.now ≡ block_count vault.stripe * range.cols }
-    requires out_len { block_count vault.stripe * row_words content vault.stripe ≤ length out.old }
-    requires placed { vault.stripe.level < vault.stripe.k → Placed content vault.stripe range words.now out.old }
-    ensures { out.new ≡ laid_range content vault.stripe range words.now out.old }
+    requires inside { (0 < range.cols) × (range.from + range.cols ≤ vault.valid.stripe.width) }
+    requires words_len { length words.now ≡ block_count vault.valid.stripe * range.cols }
+    requires out_len { block_count vault.valid.stripe * row_words content vault.valid.stripe ≤ length out.old }
+    requires placed { vault.valid.stripe.level < vault.valid.stripe.k → Placed content vault.valid.stripe range words.now out.old }
+    ensures { out.new ≡ laid_range content vault.valid.stripe range words.now out.old }
 {
-    let st = vault.stripe;
-    let rows = vault.block_count();
+    let st = vault.valid.stripe;
+    let rows = vault.valid.block_count();
     let whole = st.level == st.k;
     match content {
         Content::Blocks => copy_columns(words, vault, range, 0, out),

@@ -18,6 +18,7 @@ pub fn fill_pairs(out: &mut [u32], n: usize, one: u32, other: u32)
     requires { n * 2 ≤ length out.old }
     ensures { out.new ≡ pairs_to (λ i. one) (λ i. other) n ++ drop (n * 2) out.old }
 {
+    // By index: of what is written to pieces of two words a proof knows the length alone.
     for i in 0..n {
         put_pair(out, i, one, other);
     }

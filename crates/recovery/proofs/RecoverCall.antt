@@ -25,9 +25,6 @@ module _ (h : Header) (m e o s : List ℕ) where
   pub leaves_taken : recover_early h m e o s ≡ 0 → {o' : List ℕ} → o' ≡ recovered_words found (raw_size h) → o' ≡ recover_leaves h m e o s
   leaves_taken z p = p ∙ sym (if_taken_lem (recovered_words found (raw_size h)) o z)
 
-  pub scratch_taken : recover_early h m e o s ≡ 0 → {s' : List ℕ} → s' ≡ replicate (scratch_size h) 0 → s' ≡ recover_scratch h m e o s
-  scratch_taken z p = p ∙ sym (if_taken_lem (replicate (scratch_size h) 0) s z)
-
 -- where it stops the words are zeros
 pub stopped_words : (x : Recovered) {a : Verdict} (size : ℕ) → a ≡ answer_of x → (a.number ≡ 0 → ⊥) → recovered_words x size ≡ replicate size 0
 stopped_words (stopped n l) size e d = refl

@@ -24,10 +24,10 @@ fn lay_each(
         out.new ≡ recovered_words (stripes_laid reading.entry.header.header content reading.entry.image.now reading.entry.erasures.now)
         (laid_size reading.entry.header.header content) }
 {
-    let header = reading.header.header;
-    // `0..=header.k` was tried: its loop returns after the last turn from inside, and the law of what is left to lay did not close there.
-    for level in (0..header.k + 1).rev() {
-        if layout::places::has_stripe(header, level) {
+    let header = reading.header;
+    // `0..=k` was tried: its loop returns after the last turn from inside, and the law of what is left to lay did not close there.
+    for level in (0..header.header.k + 1).rev() {
+        if header.has_stripe(level) {
             stripe_decoding::fetching::lay_stripe(
                 reading,
                 content,

@@ -10,13 +10,13 @@ ghost use Rattle.store.specs.StoreCalls.{open_number, opened_as, open_answer, op
 use code::{Stripe, ValidStripe};
 use layout::{Header, Refusal, ValidHeader};
 
-// Stores as many words, each modulo p. By index: of words that an adapter of `iter_mut` writes nothing is known.
+// Stores as many words, each modulo p.
 pub(crate) fn reduce_row(out: &mut [u32], words: &[u32])
     requires { length out.old ≡ length words.now }
     ensures { out.new ≡ reduced fermat.modulus words.now }
 {
-    for j in 0..words.len() {
-        out[j] = field::reduce(words[j]);
+    for (j, residue) in out.iter_mut().enumerate() {
+        *residue = field::reduce(words[j]);
     }
 }
 
@@ -54,7 +54,8 @@ impl Residues for Reduced {
     }
 }
 
-// Record i as a block: its number, and its data modulo p.
+// Record i as a block: its number, and its data modulo p. Where `put_row` of writing multiplies by a factor this one reduces: a trait for both would mean two
+// things.
 fn block_row<R: Residues>(row: &mut [u32], i: usize, words: &[u32])
     requires row_len { length row.old ≡ suc (length words.now) }
     requires i_lt_modulus { i < fermat.modulus }
@@ -71,20 +72,15 @@ pub(crate) fn build<R: Residues>(header: ValidHeader, raw: &[u32], full: &mut [u
     requires whole_words { WholeWords fermat.modulus R.whole raw.now }
     ensures { full.new ≡ full_stripe header.header raw.now }
 {
-    let k = header.header.k as usize;
     let s = header.header.s as usize;
     let width = header.width();
+    // By index: the rows of `full` are written a part at a time, and of what is written to `chunks_exact_mut` a proof knows the length alone.
     for i in 0..header.record_count() {
         let at = i * width;
         let from = i * s;
         block_row::<R>(&mut full[at..at + width], i, &raw[from..from + s]);
     }
-    let stripe = Stripe {
-        level: k,
-        k,
-        first: 0,
-        width,
-    };
+    let stripe = header.stripe_of(header.header.k as usize);
     encoder::code(full, ValidStripe { stripe });
 }
 

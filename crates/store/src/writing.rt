@@ -14,6 +14,7 @@ ghost use Rattle.store.specs.StoreCalls.{write_number, written_as, write_answer,
 
 use crate::opening::Reduced;
 use layout::{Header, Refusal, ValidHeader};
+use mixing::direction::{Direction, Factor, Mixing, One, Power};
 
 // A block that is written: the record's number and its data, all words of the field.
 #[derive(Clone, Copy)]
@@ -32,20 +33,19 @@ fn put_record(raw: &mut [u32], i: usize, words: &[u32])
     raw[at..at + words.len()].copy_from_slice(words);
 }
 
-// Puts a block as a row: its number and its data, each times g. By index, as `reduce_row` of opening.rt.
-fn put_row(row: &mut [u32], block: Block, g: u32)
-    requires row_len { length row.old ≡ suc (length block.words.now) }
-    requires g_bound { g < fermat.modulus - 1 }
-    ensures { row.new ≡ scaled fermat.modulus g (block.entry.number ∷ block.entry.words.now) }
+// Puts a block as a row: its number and its data, each times a factor.
+fn put_row<F: Factor>(row: &mut [u32], block: Block, factor: F)
+    requires { length row.old ≡ suc (length block.words.now) }
+    ensures { row.new ≡ scaled fermat.modulus (F.value factor) (block.entry.number ∷ block.entry.words.now) }
 {
-    row[0] = field::short_65537::mul(g, block.number);
+    row[0] = factor.product(block.number);
     let rest = &mut row[1..];
-    for j in 0..block.words.len() {
-        rest[j] = field::short_65537::mul(g, block.words[j]);
+    for (j, word) in rest.iter_mut().enumerate() {
+        *word = factor.product(block.words[j]);
     }
 }
 
-// Copies `count` words from index `from` on to index `to` on, each modulo p.
+// Copies `count` words from index `from` on to index `to` on, each modulo p. Both parts are of one log, which is split here.
 fn copy_reduced(log: &mut [u32], from: usize, to: usize, count: usize)
     requires count_bound { from + count ≤ to }
     requires count_in_bounds { to + count ≤ length log.old }
@@ -56,7 +56,8 @@ fn copy_reduced(log: &mut [u32], from: usize, to: usize, count: usize)
 }
 
 // Where X (half 0) or Y (half 1) of a level begins in the log.
-// A number, and no enum: it is the factor of the place, by which X and Y are one formula.
+// A number, and no enum: it is the factor of the place, by which X and Y are one formula. That a level is at most 10 is a clause, here and below: the type that
+// says so is the header's, and these are lent a level of the log alone.
 fn half_at(level: usize, half: usize, width: usize) -> usize
     requires { (level ≤ 10) × (half ≤ 1) × (width ≤ 129) }
     ensures { result ≡ half_start width level half }
@@ -65,16 +66,15 @@ fn half_at(level: usize, half: usize, width: usize) -> usize
     (rows + rows - 2) * width + half * (rows * width)
 }
 
-// Copies X (half 0) or Y (half 1) of all levels below to that half of a level, the oldest first, each word modulo p, and puts the block's row times g after
-// them.
-fn gather(log: &mut [u32], level: usize, half: usize, block: Block, g: u32)
+// Copies X (half 0) or Y (half 1) of all levels below to that half of a level, the oldest first, each word modulo p, and puts the block's row times a factor
+// after them.
+fn gather<F: Factor>(log: &mut [u32], level: usize, half: usize, block: Block, factor: F)
     requires level_bound { (level ≤ 9) × (half ≤ 1) × (length block.words.now ≤ 128) }
     requires level_in_bounds { half_start (suc (length block.words.now)) (suc level) 0 ≤ length log.old }
-    requires g_bound { g < fermat.modulus - 1 }
     ensures { log.new ≡
         sets log.old (half_start (suc (length block.entry.words.now)) level half)
         (gathered fermat.modulus (suc (length block.entry.words.now)) log.old half
-        (scaled fermat.modulus g (block.entry.number ∷ block.entry.words.now)) level) }
+        (scaled fermat.modulus (F.value factor) (block.entry.number ∷ block.entry.words.now)) level) }
 {
     let width = block.words.len() + 1;
     let end = half_at(level, half, width) + code::number::two_to(level) * width;
@@ -83,7 +83,7 @@ fn gather(log: &mut [u32], level: usize, half: usize, block: Block, g: u32)
         // What follows this level are those below it and the block's row: as many words again.
         copy_reduced(log, half_at(l, half, width), end - 2 * size, size);
     }
-    put_row(&mut log[end - width..end], block, g);
+    put_row(&mut log[end - width..end], block, factor);
 }
 
 // Mixes the last row of 2^level rows with the one before it, those two with the two before them, and so on, under the roots of the field.
@@ -93,11 +93,10 @@ fn fold(half: &mut [u32], level: usize, width: usize)
     requires words { Words fermat.modulus half.old }
     ensures { half.new ≡ folded fermat.modulus (root_of fermat) width level half.old }
 {
-    let powers = code::table_65537::powers();
     for l in 0..level {
-        let m = code::number::two_to(l);
-        let from = half.len() - 2 * m * width;
-        mixing::rows::mix(&mut half[from..], m, width, powers, 1024 >> l);
+        let powers = Mixing::powers(l);
+        let from = half.len() - 2 * powers.rows * width;
+        mixing::rows::mix(&mut half[from..], width, powers);
     }
 }
 
@@ -122,8 +121,10 @@ fn rebuild(header: ValidHeader, log: &mut [u32], level: usize, block: Block)
 {
     let width = header.width();
     let e = code::number::reversed(10, header.header.c as usize);
-    let turn = code::table_65537::entry(e as usize);
-    gather(log, level, 0, block, 1);
+    let turn = Power {
+        g: code::table_65537::entry(e as usize),
+    };
+    gather(log, level, 0, block, One);
     gather(log, level, 1, block, turn);
     let start = half_at(level, 0, width);
     let end = half_at(level + 1, 0, width);
@@ -147,7 +148,7 @@ fn check_writing(
     if block.len() != header.s as usize {
         return Err(Refusal::Length);
     }
-    // What the last tests ask, before any of them is gone by: so their order stands alone.
+    // What the last tests ask, before any of them is gone by: so their order stands alone, and a wrong one is refused for a fact.
     let outside = valid.record_count() <= number as usize;
     let fit = layout::words::all_data(block);
     let blank = layout::words::is_blank(block);

@@ -3,7 +3,7 @@ use mathlib.Core.Path.{◌≡◌}
 use mathlib.Core.Bool.{Bool, true}
 use mathlib.Core.List.{List}
 use Prim.Native.Nat.{ℕ, suc, ◌*◌, ◌/◌, ◌^◌, ◌≤◌, ◌<◌}
-use native.Mathlib.Nat.{mul-le-mul_left, mul-le-mul_right}
+use native.Mathlib.Nat.{mul-le-mul_right}
 use native.Mathlib.Omega.{arith}
 use lib.ListN.{length}
 use lib.Pow.{pow_mono}
@@ -32,13 +32,6 @@ module _ (h : Header) (l : ℕ) {st : Stripe} (e : st ≡ stripe_of h l) where
 
   -- the scratch: three words for each position, and the rows of a level
   module _ {n : ℕ} (s : n ≡ scratch_size h) where
-    pub logs_room : header_fits h ≡ true → l ≤ h.k → 3 * position_count st ≤ n
-    logs_room f w =
-        let F = fits h f in
-        let b : 2 ^ suc l ≤ 2 ^ suc h.k = pow_mono {i = suc l} {j = suc h.k} (omega (arith, w)) in
-        let t : 2 ≤ width h = omega (arith, F.s_low) in
-        rw (s, e) (omega (arith, b, F.double, mul-le-mul_left (record_count h) t))
-
     pub rows_room : st.level < st.k → stripe_words st ≤ n
     rows_room b =
         let c : l < h.k = rw e at b in

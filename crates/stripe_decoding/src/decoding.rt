@@ -1,8 +1,9 @@
 // Stripe decoding: the call decode (docs/FORMAT.md, sections 7 and 9).
-ghost use Rattle.std.specs.Prelude.{◌≡◌, ◌≤◌, length, replicate, IfOk};
+ghost use Rattle.std.specs.Prelude.{◌≡◌, ◌≤◌, length, replicate};
 ghost use Rattle.layout.specs.Header.{out_size, scratch_size};
 ghost use Rattle.layout.specs.Refusals.{answer_number};
 ghost use Rattle.image.specs.Erasures.{erasures_in};
+ghost use Rattle.image.specs.Readings.{Reads};
 ghost use Rattle.judging.specs.Decoding.{decoded_number, decoded_words};
 ghost use Rattle.stripe_decoding.specs.Decoding.{decode_stripe};
 ghost use Rattle.stripe_decoding.specs.StripeCall.{decode_early, decode_number, decode_leaves, decode_scratch};
@@ -21,11 +22,11 @@ fn check<'a>(
     scratch: &[u32],
 ) -> Result<Reading<'a>, Refusal>
     ensures number { answer_number result ≡ decode_early header image.now erasures.now stripe out.now scratch.now }
-    ensures same { IfOk result (λ r. (r.header.header ≡ header) × (r.image.now ≡ image.now) × (r.erasures.now ≡ erasures.now)) }
+    ensures same { Reads header image.now erasures.now result }
 {
     let row = header.s as usize + 1;
     let reading = image::erasures::check(header, image, erasures, row, out.len(), scratch.len())?;
-    if !layout::places::has_stripe(header, stripe) {
+    if !reading.header.has_stripe(stripe) {
         return Err(Refusal::NoStripe);
     }
     Ok(reading)

@@ -13,6 +13,9 @@ use judging::{ReadyStripe, VaultStripe};
 use layout::Refusal;
 use range_laying::Content;
 
+// That output and scratch have their sizes stays a clause, here and where stripes are laid: a type for it would hold two `&mut` slices, and a
+// contract would have to say of each whether it means the words lent or those left.
+
 // Decodes a stripe of an image and lays its blocks: 7, 8, 9 or 10 where it is refused. A level that is refused leaves the output as it was. What is left of the
 // scratch is open, and of the output where the full stripe is refused.
 pub fn lay_stripe(
@@ -33,6 +36,7 @@ pub fn lay_stripe(
         out.new ≡ laid_from (lay_blocks content (stripe_of reading.entry.header.header level))
         (decode_stripe reading.entry.header.header reading.entry.image.now (erasures_in reading.entry.erasures.now) level) out.old }
 {
+    // as many as the largest stripe has positions: the library has no heap
     let mut marks = [false; 2048];
     image::erasures::mark_stripe(reading.header, reading.erasures, level, &mut marks);
     let vault = VaultStripe::new(reading.header, level);

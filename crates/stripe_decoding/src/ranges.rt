@@ -15,10 +15,10 @@ use range_laying::Content;
 // left in the scratch is open.
 fn store_factors(factors: &mut [u32], ready: ReadyStripe, scratch: &mut [u32])
     requires factors_are { factors.old ≡ replicate 2048 0 }
-    requires room { 3 * position_count ready.vault.stripe ≤ length scratch.old }
-    ensures { Factors ready.entry.vault.stripe ready.entry.marks.now factors.new }
+    requires room { 3 * position_count ready.vault.valid.stripe ≤ length scratch.old }
+    ensures { Factors ready.entry.vault.valid.stripe ready.entry.marks.now factors.new }
 {
-    let level = ready.vault.stripe.level;
+    let level = ready.vault.valid.stripe.level;
     if 0 < decoder::decoding::count_erased(ready.marks, level) {
         weights::store_logs(factors, scratch, ready.marks, level);
     }
@@ -34,22 +34,23 @@ pub fn decode_and_lay<S: Source>(
     out: &mut [u32],
     scratch: &mut [u32],
 ) -> Result<(), Refusal>
-    requires source_len { S.count source ≡ stripe_words ready.vault.stripe }
-    requires out_len { length out.old ≡ 2 ^ ready.vault.stripe.k * row_words content ready.vault.stripe }
-    requires room { 3 * position_count ready.vault.stripe ≤ length scratch.old }
-    requires level_room { ready.vault.stripe.level < ready.vault.stripe.k → stripe_words ready.vault.stripe ≤ length scratch.old }
-    ensures value { answer_number result ≡ decoded_number (decode_rows ready.entry.vault.stripe ready.entry.marks.now (S.words source)) }
+    requires source_len { S.count source ≡ stripe_words ready.vault.valid.stripe }
+    requires out_len { length out.old ≡ 2 ^ ready.vault.valid.stripe.k * row_words content ready.vault.valid.stripe }
+    requires room { 3 * position_count ready.vault.valid.stripe ≤ length scratch.old }
+    requires level_room { ready.vault.valid.stripe.level < ready.vault.valid.stripe.k → stripe_words ready.vault.valid.stripe ≤ length scratch.old }
+    ensures value { answer_number result ≡ decoded_number (decode_rows ready.entry.vault.valid.stripe ready.entry.marks.now (S.words source)) }
     ensures out_after { answer_number result ≡ 0 →
-        out.new ≡ laid_from (lay_blocks content ready.entry.vault.stripe)
-        (decode_rows ready.entry.vault.stripe ready.entry.marks.now (S.words source)) out.old }
-    ensures level_after { ready.entry.vault.stripe.level < ready.entry.vault.stripe.k →
-        out.new ≡ laid_from (lay_blocks content ready.entry.vault.stripe)
-        (decode_rows ready.entry.vault.stripe ready.entry.marks.now (S.words source)) out.old }
+        out.new ≡ laid_from (lay_blocks content ready.entry.vault.valid.stripe)
+        (decode_rows ready.entry.vault.valid.stripe ready.entry.marks.now (S.words source)) out.old }
+    ensures level_after { ready.entry.vault.valid.stripe.level < ready.entry.vault.valid.stripe.k →
+        out.new ≡ laid_from (lay_blocks content ready.entry.vault.valid.stripe)
+        (decode_rows ready.entry.vault.valid.stripe ready.entry.marks.now (S.words source)) out.old }
 {
     let vault = ready.vault;
-    let st = vault.stripe;
-    let positions = vault.position_count();
-    let blocks = vault.block_count();
+    let st = vault.valid.stripe;
+    let positions = vault.valid.position_count();
+    let blocks = vault.valid.block_count();
+    // as many as the largest stripe has positions, and below its blocks: the library has no heap
     let mut factors = [0u32; 2048];
     store_factors(&mut factors, ready, scratch);
     let mut fits = [true; 1024];

@@ -21,6 +21,7 @@ impl<T: Copy> Buffer<T> {
         self.lent = count;
     }
 
+    // What is lent, to be read or to be changed.
     pub fn part(&self) -> &[T] {
         let count = self.lent.min(self.all.len());
         &self.all[..count]

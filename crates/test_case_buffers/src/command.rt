@@ -41,6 +41,17 @@ pub enum Bytes {
     List,
 }
 
+// Any number names one of the two.
+impl From<u32> for Bytes {
+    fn from(number: u32) -> Bytes {
+        if number == 0 {
+            Bytes::Image
+        } else {
+            Bytes::List
+        }
+    }
+}
+
 // What is set: a number of the header, or how much of a buffer is lent.
 #[derive(Clone, Copy)]
 pub enum Number {
@@ -135,12 +146,7 @@ impl Command {
         match (kind, numbers) {
             ([3], [buffer, at, count]) => {
                 let bytes = read_bytes(alloc, input, count)?;
-                let buffer = if buffer == 0 {
-                    Bytes::Image
-                } else {
-                    Bytes::List
-                };
-                Ok(Some(Command::Change(Change::Load(buffer, at, bytes))))
+                Ok(Some(Command::Change(Change::Load(Bytes::from(buffer), at, bytes))))
             }
             ([kind], numbers) => Ok(Command::of(kind, numbers).ok()),
         }

@@ -6,7 +6,7 @@ use test_case_buffers::output;
 use test_case_buffers::state::State;
 use vault::{Fault, Header, Refusal, calls};
 
-// The number of an answer, 0 if the call was taken.
+// The number of an answer, 0 if the call was taken. The C boundary, which this program does not name, has one of its own.
 fn number<T: Drop>(answer: Result<T, Refusal>) -> u32 {
     answer.map_or_else(|refusal| refusal.number(), |_| 0)
 }
@@ -86,6 +86,8 @@ pub(crate) fn decode(state: &mut State, stripe: u32, out: &mut impl Write) -> io
     output::words(out, " out", state.out.part())?;
     output::words(out, " scratch", state.scratch.part())
 }
+
+// Calls that leave the same buffers, as decode and recover, stay two: each has its own answer and its own parameters, and they share the functions that print.
 
 // A number, and the stripe where one is named.
 fn verdict(out: &mut impl Write, name: &str, answer: Result<(), Fault>) -> io::Result<()> {

@@ -7,18 +7,12 @@ ghost use Rattle.field.specs.Words.{Words};
 ghost use Rattle.code.specs.Stripe.{modulus_of, position_count, stripe_words};
 
 use code::{Stripe, ValidStripe};
+use layout::Refusal;
 use std::alloc::Global;
 use std::io;
 use std::io::{BufReader, BufWriter, Read, Write};
 
 mod input;
-
-// Why a stripe's blocks do not come back.
-#[derive(Clone, Copy)]
-enum Refusal {
-    TooFew,
-    Inconsistent,
-}
 
 // Codes the blocks that stand in the first half of a stripe.
 fn code(part: &mut [u32], st: ValidStripe)
@@ -28,7 +22,7 @@ fn code(part: &mut [u32], st: ValidStripe)
     encoder::code(part, st);
 }
 
-// Decodes a stripe in place, where at least half of its positions survive.
+// Decodes a stripe in place, where at least half of its positions survive. Test 7 stands here, since that of judging is for a stripe of a vault.
 fn decode(part: &mut [u32], marks: &[bool], st: ValidStripe) -> Result<(), Refusal>
     requires width_nonzero { 0 < st.stripe.width }
     requires marks_len { length marks.now ≡ position_count st.stripe }
@@ -49,10 +43,11 @@ fn decode(part: &mut [u32], marks: &[bool], st: ValidStripe) -> Result<(), Refus
 }
 
 // The numbers of a stripe, where there is one that has them and its positions have at most 8,192 words, with two more each: cases of more are skipped.
-fn stripe(level: usize, k: usize, width: usize, first: usize) -> Option<ValidStripe>
-    requires { (level < 256) × (k < 256) × (width < 256) × (first < 65536) }
+fn stripe(level: u8, k: u8, width: u8, first: u16) -> Option<ValidStripe>
     ensures { IfSome result (λ st. (0 < st.stripe.width) × (st.stripe.width < 256)) }
 {
+    let (level, k) = (usize::from(level), usize::from(k));
+    let (width, first) = (usize::from(width), usize::from(first));
     if k < level || 10 < k || width == 0 {
         return None;
     }
@@ -85,24 +80,19 @@ fn print(out: &mut impl Write, words: &[u32]) -> io::Result<()> {
 fn run_case(alloc: Global, input: &mut impl Read, out: &mut impl Write) -> io::Result<()> {
     let [kind, level, k, width, low, high] = input::bytes::<6>(input)?;
     let first = u16::from_le_bytes([low, high]);
-    let numbers = stripe(
-        usize::from(level),
-        usize::from(k),
-        usize::from(width),
-        usize::from(first),
-    );
-    let Some(st) = numbers else {
+    let Some(st) = stripe(level, k, width, first) else {
         return Ok(());
     };
     let positions = st.position_count();
     let mut part = vec![in alloc; 0; positions * st.stripe.width]?;
+    // the cases' format: kind 1 is decoded, any other is coded
     if kind == 1 {
         let marks = input::marks(alloc, input, positions)?;
         input::words(input, &mut part)?;
         match decode(&mut part, &marks, st) {
             Ok(()) => write!(out, "0 ")?,
-            Err(Refusal::TooFew) => return writeln!(out, "7"),
-            Err(Refusal::Inconsistent) => write!(out, "9 ")?,
+            Err(Refusal::TooFew) => return writeln!(out, "{}", Refusal::TooFew.number()),
+            Err(refusal) => write!(out, "{} ", refusal.number())?,
         }
     } else {
         input::words(input, &mut part)?;

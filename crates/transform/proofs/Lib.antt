@@ -1,3 +1,4 @@
+pub mod EitherWay
 pub mod MixLevels
 pub mod NarrowLevels
 pub mod QuadLevels

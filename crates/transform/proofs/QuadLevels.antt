@@ -13,21 +13,19 @@ use lib.Seq.{length-take-le}
 use Rattle.field.specs.Residue.{times}
 use Rattle.field.specs.Power.{power, power_from, inverse}
 use Rattle.field.specs.Field.{Root, fermat, root_of, power_table}
-use Rattle.field.specs.Words.{Words}
 use Rattle.field.proofs.Powers.{power_lt, power_zero, power_add}
 use Rattle.field.proofs.Unity.{root_distinct, root_back, two_div}
 use Rattle.field.proofs.Primes.{fermat_prime, fermat_root}
 use Rattle.field.proofs.PowerTables.{table_is, length_table_of_powers, powers_entry, table_power, table_root, table_back, level_root, level_inverse}
-use Rattle.code.specs.Rows.{lifted}
-use Rattle.code.specs.Transform.{mixed_halves, unmixed, untransform}
+use Rattle.code.specs.Transform.{mixed_halves, unmixed}
 use Rattle.code.proofs.Shapes.{length_two, length_unmixed}
 use Rattle.code.proofs.Lifting.{row_in}
 use Rattle.code.specs.steps.Mixing.{sum_row, each_block}
 use Rattle.code.proofs.Blocks.{OnBlock, Level, each_rows, both, rows_double, rows_then, mixing_block, unmixing_block, pow_down}
 use Rattle.mixing_twice.specs.steps.Quads.{EntryFactors, QuadFactors, mixed_twice, unmixed_twice}
 use Rattle.mixing_twice.proofs.TwoLevels.{length_mixed_halves}
-use Rattle.transform.proofs.MixLevels.{MixLoop, level_here, mix_start, mix_turn}
-use Rattle.transform.proofs.UnmixLevels.{UnmixLoop, unmix_turn, unmix_done}
+use Rattle.transform.proofs.MixLevels.{MixLoop, level_here, mix_turn}
+use Rattle.transform.proofs.UnmixLevels.{UnmixLoop, unmix_turn}
 use Rattle.mixing.proofs.SumRows.{mixing_sums, unmixing_sums, sums_level}
 
 -- an odd number is not twice another
@@ -245,14 +243,12 @@ module _ (width : ℕ) (half : List ℕ) {level blocks : ℕ} (some : 0 < level)
   pairs_in = alone.rows ∙ ap (λ (n : ℕ). blocks * n) {x = 2 * width} {y = width + width} (omega arith)
 
   module _ {half' : List ℕ} (el : length half' ≡ length half) (eh : half' ≡ each_block blocks (width + width) (sum_row 65537 width 0 width) half) where
-    pub first_turn : Words 65537 half → MixLoop half level width half' 1
-    first_turn words =
+    pub first_turn : {half₀ : List ℕ} → MixLoop half₀ level width half 0 → MixLoop half₀ level width half' 1
+    first_turn h =
         let x = power 65537 (root_of fermat level) (2 ^ level / 2 ^ 0) in
-        mix_turn (mix_start few e words) {v = x} some alone el refl (eh ∙ sums_level width blocks (mixed_halves 65537 x 1) half (mixing_sums x) pairs_in)
+        mix_turn h {v = x} some alone el refl (eh ∙ sums_level width blocks (mixed_halves 65537 x 1) half (mixing_sums x) pairs_in)
 
-    pub last_turn : {half₀ : List ℕ} → UnmixLoop half₀ level width half 1
-        → half' ≡ lifted width (2 ^ level) (2 ^ level) (untransform 65537 (inverse 65537 (root_of fermat level)) level level) half₀
+    pub last_turn : {half₀ : List ℕ} → UnmixLoop half₀ level width half 1 → UnmixLoop half₀ level width half' 0
     last_turn h =
         let x = power 65537 (inverse 65537 (root_of fermat level)) (2 ^ level / 2 ^ 0) in
-        unmix_done (unmix_turn h {v = x} (omega arith) alone el refl (eh ∙ sums_level width blocks (unmixed 65537 x 1) half (unmixing_sums x) pairs_in))
-        (omega arith)
+        unmix_turn h {v = x} (omega arith) alone el refl (eh ∙ sums_level width blocks (unmixed 65537 x 1) half (unmixing_sums x) pairs_in)

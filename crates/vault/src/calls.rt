@@ -2,7 +2,8 @@
 // has a precondition. Each contract says, for every input, what the call answers (`result`), and what is left of each buffer that it may change: `x.old` is
 // the buffer x as it was lent, `x.new` as it is left, `x.now` one that does not change, and «x» a parameter whose name is a word of the language. An answer is
 // read as the number of the table of refusals and what goes with it: by answer_number, opened_as, written_as, read_part and verdict_of. Where the promises
-// (specs/promises) speak of a call, they speak of these definitions.
+// (specs/promises) speak of a call, they speak of these definitions. Each call goes on to the one that does it: here all contracts stand where a caller reads
+// them together.
 ghost use Rattle.std.specs.Prelude.{◌≡◌};
 ghost use Rattle.power_table.specs.PowersCall.{powers_number, powers_leaves};
 ghost use Rattle.store.specs.Buffers.{buffers};

@@ -11,7 +11,7 @@ use vault::{Fault, calls};
 
 // Opens a vault over raw records, makes its image, and recovers from that image what an erasure list leaves: what the last of the three calls answers, or the
 // first that is refused. Where each buffer has its length, the opening is taken and the list leaves half of each needed stripe, all three are taken, and the
-// output is the raw records.
+// output is the raw records. The parameters are what the three calls are lent.
 pub fn open_and_recover(
     k: u32,
     s: u32,

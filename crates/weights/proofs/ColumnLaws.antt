@@ -1,52 +1,77 @@
--- Columns of a word for each position: the loop that loads one by exponents in bit-reversed order, its words, and those of what is mixed and multiplied.
--- Assumes nothing.
-use mathlib.Core.Path.{◌≡◌, sym, ap, ap₂, subst, ◌∙◌}
+-- Loops that store each word of a list, and columns of a word for each position: one that is loaded by exponents in bit-reversed order, its words, and those
+-- of what is mixed and multiplied. Assumes nothing.
+use mathlib.Core.Path.{◌≡◌, refl, sym, ap, subst, ◌∙◌}
 use mathlib.Core.Bool.{Bool, false}
 use mathlib.Core.List.{List, ◌++◌}
 use Prim.Native.Nat.{ℕ, suc, ◌+◌, ◌/◌, ◌%◌, ◌^◌, ◌≤◌, ◌<◌}
 use native.Mathlib.Nat.{zero-add}
 use native.Mathlib.Omega.{arith}
-use lib.ListN.{length, get_or, set, take, drop}
-use lib.Seq.{get_or-take, get_or-drop}
+use borrow.Rule.Slice.PartMut.{put_mid}
+use lib.ListN.{length, get_or, set, take, drop, length-drop}
+use lib.Seq.{length-take-le}
+use Rattle.std.proofs.lemmas.List.{length-take}
 use Rattle.field.specs.Residue.{times}
 use Rattle.field.specs.Power.{inverse}
 use Rattle.field.specs.Field.{fermat, root_of}
 use Rattle.field.proofs.Laws.{times_lt}
 use Rattle.field.specs.Words.{Words, table}
-use Rattle.field.proofs.WordLists.{get_or_table, same_table}
+use Rattle.field.proofs.WordLists.{length_table, get_or_table}
 use Rattle.code.specs.Transform.{reversed, bit_reversed}
 use Rattle.code.specs.Convolution.{products}
 use Rattle.code.specs.Rows.{Column}
 use Rattle.code.proofs.Shapes.{reversed_lt, length_transform, length_untransform, words_transform, words_untransform, column_reversed, column_table}
-use Rattle.code.proofs.RowLaws.{Storing, storing_start, storing_turn, storing_done, storing_front, storing_rest, stored_front, stored_last, no_rest}
+use Rattle.code.specs.steps.Storing.{stored}
+use Rattle.code.proofs.RowLaws.{Storing, storing_start, storing_turn, storing_done, storing_rest, stored_front, stored_part, no_rest}
 use Rattle.logarithms.specs.Weights.{log_of_less}
 use Rattle.weights.specs.steps.Digits.{position_at, flag, flag_at, flags, digit_at, digits, mixed_column, unmixed_column}
 use Rattle.weights.proofs.ExponentLaws.{flag_le}
 
--- a loop that stores from index 0 on
-pub storing_turn_first : {f : ℕ → ℕ} {n : ℕ} {l₀ l : List ℕ} {i x : ℕ} → Storing 0 f n l₀ l i → i < n → x ≡ f i → Storing 0 f n l₀ (set l i x) (i + 1)
-storing_turn_first {f} {n} {l₀} {l} {i} {x} h b e =
-    subst (λ (k : ℕ). Storing 0 f n l₀ (set l k x) (i + 1)) (zero-add i) (storing_turn h b e)
+-- A LOOP THAT STORES EACH WORD of a list: i of them
+pub record StoringEach (f : ℕ → ℕ) (l₀ l : List ℕ) (i : ℕ) : Type 0 where
+  pub storing : Storing 0 f (length l₀) l₀ l i
 
--- THE LOOP THAT LOADS: the words of xs, by exponents, stand at reversed places
+pub each_start : (f : ℕ → ℕ) (l : List ℕ) → StoringEach f l l 0
+each_start f l = record { storing = storing_start 0 f (length l) l }
+
+module _ {f : ℕ → ℕ} {l₀ l : List ℕ} {i : ℕ} (h : StoringEach f l₀ l i) where
+  pub each_turn : {x : ℕ} → i < length l₀ → x ≡ f i → StoringEach f l₀ (set l i x) (i + 1)
+  each_turn {x} b e = subst (λ (k : ℕ). StoringEach f l₀ (set l k x) (i + 1)) (zero-add i) record { storing = storing_turn h.storing b e }
+
+  -- the word whose turn it is
+  pub each_next : get_or l i 0 ≡ get_or l₀ i 0
+  each_next = storing_rest h.storing i (omega arith)
+
+  pub each_done : {n : ℕ} → length l₀ ≤ i → length l₀ ≡ n → l ≡ table n f
+  each_done {n} b e =
+      storing_done h.storing b ∙ stored_front f (length l₀) l₀ (omega arith) ∙ no_rest (table (length l₀) f) l₀ (length l₀) refl
+      ∙ ap (λ (m : ℕ). table m f) e
+
+-- an index into a front that is lent
+pub lent_lt : {A : Type 0} (n : ℕ) (w : List A) {i : ℕ} → i < length (take n w) → i < n
+lent_lt n w b = omega (arith, length-take n w)
+
+-- A PART of w that is lent to such a loop, and comes back: the front of m words, or n words from index b on
+pub each_front : {m n : ℕ} (w : List ℕ) {f : ℕ → ℕ} {l : List ℕ} {i : ℕ} → n ≡ m → StoringEach f (take n w) l i → length (take n w) ≤ i → m ≤ length w
+    → l ++ drop n w ≡ stored 0 f m w
+each_front {n = n} w {f} e h b room =
+    ap (λ (r : List ℕ). r ++ drop n w) (each_done h b (length-take-le n w (omega arith))) ∙ sym (stored_front f n w (omega arith))
+    ∙ ap (λ (k : ℕ). stored 0 f k w) e
+
+pub each_part : {a b k n : ℕ} (w : List ℕ) {f : ℕ → ℕ} {l : List ℕ} {i : ℕ} → a ≡ b → k ≡ n → StoringEach f (take k (drop a w)) l i
+    → length (take k (drop a w)) ≤ i → b + n ≤ length w → put_mid a k w l ≡ stored b f n w
+each_part {a} {b} {k} {n} w {f} {l} ea ek h c room =
+    let is : l ≡ table n f = each_done h c (length-take-le k (drop a w) (omega (arith, length-drop a w)) ∙ ek) in
+    ap (λ (m : ℕ). put_mid m k w l) ea
+    ∙ stored_part b f n k w l ek room (ap length is ∙ length_table n f) (λ i t. ap (λ (r : List ℕ). get_or r i 0) is ∙ get_or_table n i f t)
+
+-- THE COLUMN THAT IS LOADED: the words of xs, by exponents, stand at reversed places
 abbrev pub loaded_at : (level : ℕ) (xs : List ℕ) (j : ℕ) → ℕ
 loaded_at l xs j = get_or xs (reversed (suc l) j) 0
 
-pub record Loading (level : ℕ) (xs : List ℕ) (n : ℕ) (l₀ l : List ℕ) (i : ℕ) : Type 0 where
-  pub storing : Storing 0 (loaded_at level xs) n l₀ l i
-
-pub load_start : (level : ℕ) (xs : List ℕ) (n : ℕ) (l : List ℕ) → Loading level xs n l l 0
-load_start level xs n l = record { storing = storing_start 0 (loaded_at level xs) n l }
-
-module _ {level : ℕ} {xs : List ℕ} {n : ℕ} {l₀ l : List ℕ} {i : ℕ} (h : Loading level xs n l₀ l i) where
-  pub load_turn : {x : ℕ} → i < n → x ≡ loaded_at level xs i → Loading level xs n l₀ (set l i x) (i + 1)
-  load_turn b e = record { storing = storing_turn_first h.storing b e }
-
-  pub load_done : n ≤ i → n ≡ 2 ^ suc level → length l₀ ≡ 2 ^ suc level → l ≡ bit_reversed (suc level) xs
-  unfolding bit_reversed
-  load_done b e long =
-      storing_done h.storing b ∙ stored_front (loaded_at level xs) n l₀ (omega arith) ∙ no_rest (table n (loaded_at level xs)) l₀ n (long ∙ sym e)
-      ∙ ap (λ (m : ℕ). table m (loaded_at level xs)) e
+pub load_done : (level : ℕ) (xs : List ℕ) {l₀ l : List ℕ} {i : ℕ} → StoringEach (loaded_at level xs) l₀ l i → length l₀ ≤ i → length l₀ ≡ 2 ^ suc level
+    → l ≡ bit_reversed (suc level) xs
+unfolding bit_reversed
+load_done level xs h b e = each_done h b e
 
 -- what is loaded: a mark, a digit
 pub flag_loaded : (l : ℕ) (ms : List Bool) (j : ℕ) {e i x : ℕ} → e ≡ reversed (suc l) j → i ≡ position_at l e → x ≡ flag (get_or ms i false)
@@ -95,32 +120,17 @@ unmixed_column_lem l {c} C e = rw e record {
   words = words_untransform 65537 (omega arith) (inverse 65537 (root_of fermat (suc l))) (suc l) (suc l) C.words;
 }
 
--- THE LOOP THAT MULTIPLIES the n last words by the n first ones
-abbrev pub product_at : (n : ℕ) (l : List ℕ) (i : ℕ) → ℕ
-product_at n l i = times 65537 (get_or l i 0) (get_or l (n + i) 0)
+-- THE COLUMN THAT IS MULTIPLIED, each word of l by that of a
+abbrev pub product_at : (a l : List ℕ) (i : ℕ) → ℕ
+product_at a l i = times 65537 (get_or a i 0) (get_or l i 0)
 
-pub record Multiplying (n : ℕ) (l₀ l : List ℕ) (i : ℕ) : Type 0 where
-  pub storing : Storing n (product_at n l₀) n l₀ l i
+module _ (a : List ℕ) {l₀ l : List ℕ} {i : ℕ} (h : StoringEach (product_at a l₀) l₀ l i) where
+  pub multiply_words : Words 65537 l₀ → Words 65537 a → (get_or a i 0 < 65537) × (get_or l i 0 < 65537)
+  multiply_words w v = (v.word i, rw (each_next h) (w.word i))
 
-pub multiply_start : (n : ℕ) (l : List ℕ) → Multiplying n l l 0
-multiply_start n l = record { storing = storing_start n (product_at n l) n l }
+  pub multiply_turn : {x : ℕ} → i < length l₀ → x ≡ times 65537 (get_or a i 0) (get_or l i 0) → StoringEach (product_at a l₀) l₀ (set l i x) (i + 1)
+  multiply_turn b e = each_turn h b (e ∙ ap (times 65537 (get_or a i 0)) (each_next h))
 
-module _ {n : ℕ} {l₀ l : List ℕ} {i : ℕ} (h : Multiplying n l₀ l i) where
-  low : i < n → get_or l i 0 ≡ get_or l₀ i 0
-  low b = storing_front h.storing i b
-
-  high : get_or l (n + i) 0 ≡ get_or l₀ (n + i) 0
-  high = storing_rest h.storing (n + i) (omega arith)
-
-  pub multiply_words : Words 65537 l₀ → i < n → (get_or l i 0 < 65537) × (get_or l (n + i) 0 < 65537)
-  multiply_words w b = (rw (low b) (w.word i), rw high (w.word (n + i)))
-
-  pub multiply_turn : {x : ℕ} → i < n → x ≡ times 65537 (get_or l i 0) (get_or l (n + i) 0) → Multiplying n l₀ (set l (n + i) x) (i + 1)
-  multiply_turn b e = record { storing = storing_turn h.storing b (e ∙ ap₂ (times 65537) (low b) high) }
-
-  pub multiply_done : n ≤ i → length l₀ ≡ n + n → l ≡ take n l₀ ++ products 65537 n (take n l₀) (drop n l₀)
+  pub multiply_done : length l₀ ≤ i → l ≡ products 65537 (length l₀) a l₀
   unfolding products
-  multiply_done b long =
-      storing_done h.storing b ∙ stored_last n (product_at n l₀) n l₀ long
-      ∙ ap (λ (r : List ℕ). take n l₀ ++ r)
-      (same_table n _ _ (λ k c. sym (ap₂ (times 65537) (get_or-take n l₀ k 0 c) (get_or-drop n l₀ k 0))))
+  multiply_done b = each_done h b refl

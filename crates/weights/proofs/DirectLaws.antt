@@ -9,11 +9,12 @@ use native.Mathlib.Numerals.{add-one}
 use native.Mathlib.Decide.{dec_lt}
 use native.Mathlib.Omega.{arith}
 use lib.Pow.{pow_mono}
-use lib.ListN.{length, get_or, set, drop}
-use Rattle.field.proofs.WordLists.{same_table}
+use lib.ListN.{length, get_or, set, take, drop, get_or-append}
+use lib.Seq.{get_or-append-add, get_or-take, get_or-drop}
+use Rattle.field.specs.Words.{table}
+use Rattle.field.proofs.WordLists.{length_table, get_or_table, same_table}
 use Rattle.code.specs.steps.Storing.{stored, always, word_from}
-use Rattle.code.proofs.RowLaws.{Storing, storing_start, storing_rest}
-use Rattle.code.proofs.RowLaws.{stored_off, stored_before, stored_at, stored_front, length_stored}
+use Rattle.code.proofs.RowLaws.{stored_before, stored_at, stored_front, length_stored}
 use Rattle.logarithms.specs.Logarithms.{log_table}
 use Rattle.logarithms.specs.Weights.{exponent_at, log_of_power, log_of_less, log_at, logs}
 use Rattle.weights.specs.steps.Digits.{flag, powers_to}
@@ -21,7 +22,7 @@ use Rattle.weights.specs.steps.Direct.{less_to, Sums, row_sum, direct_at}
 use Rattle.logarithms.proofs.Weights.{exponent_lt}
 use Rattle.weights.proofs.ExponentLaws.{log_of_power_lt, log_of_less_lt, flag_times_le}
 use Rattle.weights.proofs.DigitSums.{log_sums}
-use Rattle.weights.proofs.ColumnLaws.{storing_turn_first}
+use Rattle.weights.proofs.ColumnLaws.{StoringEach, each_turn, each_next}
 
 -- THE BOUND: as many terms of 16 bits as positions
 less_le : (l : ℕ) (ms : List Bool) (e n : ℕ) → less_to l ms e n ≤ 65536 * n
@@ -124,34 +125,58 @@ module _ {l : ℕ} {ms : List Bool} {j : ℕ} {u : List ℕ} (h : Sums l ms j u)
   row_fits small e c =
       omega (arith, row_is e c, less_le l ms e j, log_of_less_lt l (e + (2 ^ suc l - exponent_at l j)), positions_le l small)
 
-  pub row_added : {n : ℕ} {v : List ℕ} → n ≡ 2 ^ suc l → n ≤ length u → get_or ms j false ≡ true → v ≡ stored 0 (row_sum u from) n u → Sums l ms (j + 1) v
-  row_added {n} {v} en room m e = record {
-    sums = λ x c. ap₂ (λ (r : List ℕ) (k : ℕ). get_or r k 0) e (sym (zero-add x)) ∙ stored_at 0 (row_sum u from) n u x (omega arith) (omega arith)
-        ∙ row_is x c ∙ sym (less_marked l ms x j m);
-    terms = λ d c. ap (λ (r : List ℕ). get_or r (2 ^ suc l + d) 0) e
-        ∙ stored_off 0 (row_sum u from) n u (2 ^ suc l + d) (λ i t q. omega arith) ∙ h.terms d c;
-  }
+-- s is the sums, t the terms behind them, and r those of the position
+module _ {l : ℕ} {ms : List Bool} {j : ℕ} (s t : List ℕ) (h : Sums l ms j (s ++ t)) (b : j < 2 ^ suc l) {n f a : ℕ} (count : n ≡ 2 ^ suc l)
+    (long : length s ≡ n) (ef : f ≡ exponent_at l j) (ea : a ≡ n - f) where
+  abbrev r : List ℕ
+  r = take (a + n - a) (drop a t)
+
+  first_is : (e : ℕ) → e < n → get_or (s ++ t) e 0 ≡ get_or s e 0
+  first_is e c = get_or-append s t 0 e (omega arith)
+
+  behind_is : (x : List ℕ) (k : ℕ) → length x ≡ n → get_or (x ++ t) (n + k) 0 ≡ get_or t k 0
+  behind_is x k e = ap (λ (m : ℕ). get_or (x ++ t) (m + k) 0) (sym e) ∙ get_or-append-add x t k 0
+
+  sum_is : (e : ℕ) → e < n → get_or s e 0 + get_or r e 0 ≡ row_sum (s ++ t) (n + a) e
+  unfolding row_sum
+  sum_is e c =
+      ap₂ ◌+◌ (sym (first_is e c))
+      (get_or-take (a + n - a) (drop a t) e 0 (omega arith) ∙ get_or-drop a t e 0 ∙ sym (behind_is s (a + e) long)
+      ∙ ap (λ (k : ℕ). get_or (s ++ t) k 0) {x = n + (a + e)} {y = n + a + e} (omega arith))
+
+  at : n + a ≡ 2 ^ suc l + (2 ^ suc l - f)
+  at = omega arith
+
+  pub sum_fits : l ≤ 10 → (e : ℕ) → e < length s → get_or s e 0 + get_or r e 0 < 4294967296
+  sum_fits small e c = omega (arith, sum_is e (omega arith), row_fits h b ef at small e (omega arith))
+
+  pub row_added : {v : List ℕ} → get_or ms j false ≡ true → v ≡ table (length s) (λ e. get_or s e 0 + get_or r e 0) → Sums l ms (j + 1) (v ++ t)
+  row_added {v} m ev =
+      let g = λ (e : ℕ). get_or s e 0 + get_or r e 0 in
+      let same : length v ≡ n = ap length ev ∙ length_table (length s) g ∙ long in
+      record {
+        sums = λ e c. get_or-append v t 0 e (omega arith) ∙ ap (λ (x : List ℕ). get_or x e 0) ev ∙ get_or_table (length s) e g (omega arith)
+            ∙ sum_is e (omega arith) ∙ row_is h b ef at e c ∙ sym (less_marked l ms e j m);
+        terms = λ d c. ap (λ (k : ℕ). get_or (v ++ t) (k + d) 0) (sym count) ∙ behind_is v d same ∙ sym (behind_is s d long)
+            ∙ ap (λ (k : ℕ). get_or (s ++ t) (k + d) 0) count ∙ h.terms d c;
+      }
 
 pub row_skipped : {l : ℕ} {ms : List Bool} {j : ℕ} {u : List ℕ} → Sums l ms j u → get_or ms j false ≡ false → Sums l ms (j + 1) u
 row_skipped {l} {ms} {j} h m = record { sums = λ e c. h.sums e c ∙ sym (less_unmarked l ms e j m); terms = h.terms }
 
--- THE LOOP THAT ADDS A ROW: e of its n words
-pub record AddingRow (from n : ℕ) (l₀ l : List ℕ) (e : ℕ) : Type 0 where
-  pub storing : Storing 0 (row_sum l₀ from) n l₀ l e
+-- THE LOOP THAT ADDS A ROW: each word of r to that of s
+abbrev pub sum_of : (r s : List ℕ) (e : ℕ) → ℕ
+sum_of r s e = get_or s e 0 + get_or r e 0
 
-pub add_start : (from n : ℕ) (l : List ℕ) → AddingRow from n l l 0
-add_start from n l = record { storing = storing_start 0 (row_sum l from) n l }
+module _ (r : List ℕ) {s v : List ℕ} {e : ℕ} (h : StoringEach (sum_of r s) s v e) where
+  next_is : get_or v e 0 + get_or r e 0 ≡ sum_of r s e
+  next_is = ap (λ (x : ℕ). x + get_or r e 0) (each_next h)
 
-module _ {from n : ℕ} {l₀ l : List ℕ} {e : ℕ} (h : AddingRow from n l₀ l e) where
-  sum_is : get_or l e 0 + get_or l (from + e) 0 ≡ row_sum l₀ from e
-  unfolding row_sum
-  sum_is = ap₂ ◌+◌ (storing_rest h.storing e (omega arith)) (storing_rest h.storing (from + e) (omega arith))
+  pub add_fits : ((k : ℕ) → k < length s → sum_of r s k < 4294967296) → e < length s → get_or v e 0 + get_or r e 0 < 4294967296
+  add_fits f b = omega (arith, next_is, f e b)
 
-  pub add_fits : ((k : ℕ) → k < n → row_sum l₀ from k < 4294967296) → e < n → get_or l e 0 + get_or l (from + e) 0 < 4294967296
-  add_fits f b = omega (arith, sum_is, f e b)
-
-  pub add_turn : e < n → AddingRow from n l₀ (set l e (get_or l e 0 + get_or l (from + e) 0)) (e + 1)
-  add_turn b = record { storing = storing_turn_first h.storing b sum_is }
+  pub add_turn : e < length s → StoringEach (sum_of r s) s (set v e (get_or v e 0 + get_or r e 0)) (e + 1)
+  add_turn b = each_turn h b next_is
 
 -- THE LOGARITHMS, once all positions are added
 module _ {l : ℕ} {ms : List Bool} {u : List ℕ} {x : ℕ} (h : Sums l ms (2 ^ suc l) u) (shared : x ≡ powers_to l ms (2 ^ suc l)) where

@@ -14,10 +14,10 @@ use Rattle.code.specs.Transform.{reversed}
 use Rattle.code.specs.Rows.{Column}
 use Rattle.code.specs.steps.Storing.{stored, always}
 use Rattle.code.proofs.Shapes.{reversed_lt}
-use Rattle.code.proofs.RowLaws.{Storing, storing_rest, stored_front}
+use Rattle.code.proofs.RowLaws.{stored_front}
 use Rattle.logarithms.specs.Weights.{exponent_at}
 use Rattle.weights.specs.steps.Digits.{Holds, sum_rows, sum_at, with_sum, with_sums, added_at}
-use Rattle.weights.proofs.ColumnLaws.{storing_turn_first, product_column, unmixed_column_lem}
+use Rattle.weights.proofs.ColumnLaws.{StoringEach, lent_lt, each_turn, each_next, product_column, unmixed_column_lem}
 
 -- the first words stored
 module _ (n : ℕ) (f : ℕ → ℕ) (u v : List ℕ) (room : n ≤ length u) (e : v ≡ stored 0 f n u) where
@@ -88,20 +88,17 @@ module _ (l : ℕ) {n : ℕ} (count : n ≡ 2 ^ suc l) where
   pub row_lt : (part : List ℕ) (r : ℕ) → r < 2 ^ suc l → Words 65537 (take (2 ^ suc l) (drop (2 ^ suc l) part)) → get_or part (n + r) 0 < 65537
   row_lt part r c w = rw (row_is part r, ← get_or-take (2 ^ suc l) (drop (2 ^ suc l) part) r 0 c) (w.word r)
 
-  -- and the word
-  word_is : {f : ℕ → ℕ} {u v : List ℕ} {i : ℕ} → Storing 0 f n u v i → get_or v i 0 ≡ get_or u i 0
-  word_is {i = i} h = storing_rest h i (omega arith)
+  -- and the word, of the front of u that is lent
+  pub word_lt : {f : ℕ → ℕ} (u : List ℕ) {v : List ℕ} {i : ℕ} → StoringEach f (take n u) v i → Words 65536 (take (2 ^ suc l) u) → get_or v i 0 < 65536
+  word_lt u {i = i} h w = rw (each_next h, count) (w.word i)
 
-  pub word_lt : {f : ℕ → ℕ} {u v : List ℕ} {i : ℕ} → Storing 0 f n u v i → i < n → Words 65536 (take (2 ^ suc l) u) → get_or v i 0 < 65536
-  word_lt {u = u} {i = i} h b w = rw (word_is h, ← get_or-take (2 ^ suc l) u i 0 (omega arith)) (w.word i)
-
-  pub adding_turn : (unit : ℕ) (part : List ℕ) {u v : List ℕ} {i g e r x : ℕ} → Storing 0 (added_at l unit part u) n u v i → i < n → g ≡ inverse 65537 n
-      → e ≡ exponent_at l i → r ≡ reversed (suc l) e → x ≡ times 65537 g (get_or part (n + r) 0)
-      → Storing 0 (added_at l unit part u) n u (set v i ((get_or v i 0 + unit * x) % 65536)) (i + 1)
+  pub adding_turn : (unit : ℕ) (part u : List ℕ) {v : List ℕ} {i g e r x : ℕ} → StoringEach (added_at l unit part u) (take n u) v i → i < length (take n u)
+      → g ≡ inverse 65537 n → e ≡ exponent_at l i → r ≡ reversed (suc l) e → x ≡ times 65537 g (get_or part (n + r) 0)
+      → StoringEach (added_at l unit part u) (take n u) (set v i ((get_or v i 0 + unit * x) % 65536)) (i + 1)
   unfolding added_at with_sum sum_at
-  adding_turn unit part {r = r} h b eg ee er ex =
-      storing_turn_first h b
-      (ap₂ (λ (y z : ℕ). (y + unit * z) % 65536) (word_is h)
+  adding_turn unit part u {i = i} {r = r} h b eg ee er ex =
+      each_turn h b
+      (ap₂ (λ (y z : ℕ). (y + unit * z) % 65536) (each_next h ∙ get_or-take n u i 0 (lent_lt n u b))
       (ex ∙ ap₂ (times 65537) (eg ∙ ap (inverse 65537) count)
       (row_is part r ∙ ap (λ (k : ℕ). get_or (drop (2 ^ suc l) part) k 0) (er ∙ ap (reversed (suc l)) ee))))
 

@@ -7,6 +7,14 @@ ghost use Rattle.code.specs.Convolution.{products};
 ghost use Rattle.weights.specs.steps.Digits.{flags, digits, crossed_column, sum_rows};
 
 use crate::exponents::Positions;
+use mixing::direction::{Direction, Mixing, Unmixing};
+
+// A digit of the logarithms: six of their sixteen bits, those from `unit` on.
+#[derive(Clone, Copy)]
+pub struct Digit {
+    pub unit: u32,
+    ghost some: { 0 < unit },
+}
 
 // The marks, 1 where a position is erased.
 pub fn load_flags(column: &mut [u32], marks: &[bool], at: Positions)
@@ -15,63 +23,53 @@ pub fn load_flags(column: &mut [u32], marks: &[bool], at: Positions)
     ensures { column.new ≡
         bit_reversed (suc at.level) (flags at.level marks.now) }
 {
-    let count = at.count();
-    for j in 0..count {
+    for (j, word) in column.iter_mut().enumerate() {
         let i = at.position(at.reversed(j));
-        column[j] = u32::from(marks[i]);
+        *word = u32::from(marks[i]);
     }
 }
 
 // A digit of the logarithms of u^d - 1, for all exponents d.
-fn load_digits(column: &mut [u32], at: Positions, unit: u32)
-    requires unit_bound { 0 < unit }
-    requires column_len { length column.old ≡ 2 ^ suc at.level }
-    ensures { column.new ≡ bit_reversed (suc at.level) (digits at.level unit) }
+fn load_digits(column: &mut [u32], at: Positions, digit: Digit)
+    requires { length column.old ≡ 2 ^ suc at.level }
+    ensures { column.new ≡ bit_reversed (suc at.level) (digits at.level digit.unit) }
 {
-    let count = at.count();
-    for j in 0..count {
-        column[j] = at.log_of_less(at.reversed(j)) / unit % 64;
+    for (j, word) in column.iter_mut().enumerate() {
+        *word = at.log_of_less(at.reversed(j)) / digit.unit % 64;
     }
 }
 
-// All mixing of a column, which is rows of one word, or its inverse, but for a factor 2^(level + 1). A flag says which: two functions in its place would say
-// the same three clauses twice.
-pub fn cross(column: &mut [u32], at: Positions, unmixing: bool)
+// All mixing of a column, which is rows of one word, or its inverse, but for a factor 2^(level + 1).
+pub fn cross<D: Direction>(column: &mut [u32], at: Positions)
     requires column_len { length column.old ≡ 2 ^ suc at.level }
     requires words { Words fermat.modulus column.old }
-    ensures { column.new ≡ crossed_column unmixing at.level column.old }
+    ensures { column.new ≡ crossed_column D.unmixing at.level column.old }
 {
-    if unmixing {
-        transform::small_rows::unmix_small_rows(column, at.level + 1, 1);
-    } else {
-        transform::small_rows::mix_small_rows(column, at.level + 1, 1);
-    }
+    transform::small_rows::cross_small_rows::<D>(column, at.level + 1, 1);
 }
 
-// Multiplies the last `count` words by the first ones, each by its own.
-fn multiply(part: &mut [u32], count: usize)
-    requires part_len { length part.old ≡ count + count }
-    requires words { Words fermat.modulus part.old }
-    ensures { part.new ≡
-        take count part.old ++ products fermat.modulus count (take count part.old) (drop count part.old) }
+// Multiplies each word of a column by the word in its place of another one.
+fn multiply(column: &mut [u32], by: &[u32])
+    requires by_len { length by.now ≡ length column.old }
+    requires words { Words fermat.modulus column.old }
+    requires words_2 { Words fermat.modulus by.now }
+    ensures { column.new ≡ products fermat.modulus (length column.old) by.now column.old }
 {
-    for i in 0..count {
-        let to = count + i;
-        part[to] = field::mul(part[i], part[to]);
+    for (i, word) in column.iter_mut().enumerate() {
+        *word = field::mul(by[i], *word);
     }
 }
 
 // The sums of a digit for all positions, behind the mixed marks.
-pub fn store_sums(part: &mut [u32], at: Positions, unit: u32)
-    requires unit_bound { 0 < unit }
+pub fn store_sums(part: &mut [u32], at: Positions, digit: Digit)
     requires part_len { length part.old ≡ 2 ^ suc at.level + 2 ^ suc at.level }
     requires words { Words fermat.modulus (take (2 ^ suc at.level) part.old) }
     ensures { part.new ≡
-        take (2 ^ suc at.level) part.old ++ sum_rows at.level unit (take (2 ^ suc at.level) part.old) }
+        take (2 ^ suc at.level) part.old ++ sum_rows at.level digit.unit (take (2 ^ suc at.level) part.old) }
 {
-    let count = at.count();
-    load_digits(&mut part[count..], at, unit);
-    cross(&mut part[count..], at, false);
-    multiply(part, count);
-    cross(&mut part[count..], at, true);
+    let (marks, sums) = part.split_at_mut(at.count());
+    load_digits(sums, at, digit);
+    cross::<Mixing>(sums, at);
+    multiply(sums, marks);
+    cross::<Unmixing>(sums, at);
 }

@@ -3,6 +3,7 @@ ghost use Rattle.std.specs.Prelude.{◌≡◌, suc, ◌++◌, ◌*◌, ◌^◌, 
 ghost use Rattle.logarithms.specs.Weights.{erased_to};
 ghost use Rattle.logarithms.specs.Weights as Weights;
 
+use crate::columns::Digit;
 use crate::exponents::Positions;
 use crate::sums;
 
@@ -16,7 +17,7 @@ pub fn store_convolved(logs: &mut [u32], part: &mut [u32], marks: &[bool], at: P
         Weights.logs at.level marks.now ++ drop (2 ^ suc at.level) logs.old }
 {
     sums::start(logs, part, marks, at);
-    sums::add_digit(logs, part, at, 1);
-    sums::add_digit(logs, part, at, 64);
-    sums::add_digit(logs, part, at, 4096);
+    sums::add_digit(logs, part, at, Digit { unit: 1 });
+    sums::add_digit(logs, part, at, Digit { unit: 64 });
+    sums::add_digit(logs, part, at, Digit { unit: 4096 });
 }

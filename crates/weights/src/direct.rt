@@ -1,10 +1,11 @@
 // The logarithms by sums made directly, for few positions: there the transforms cost more than the sums. The sums are made for all exponents at once, so
 // that an erased position adds one row of terms that stand side by side: the terms u^d - 1 for all differences d of exponents, twice, stand behind the sums.
 ghost use Rattle.std.specs.Prelude.{◌≡◌, ◌++◌, ℕ, suc, ◌+◌, ◌*◌, ◌^◌, ◌≤◌, ◌<◌, length, get_or, drop};
+ghost use Rattle.field.specs.Words.{table};
 ghost use Rattle.code.specs.steps.Storing.{stored};
 ghost use Rattle.logarithms.specs.Weights.{log_of_less};
 ghost use Rattle.logarithms.specs.Weights as Weights;
-ghost use Rattle.weights.specs.steps.Direct.{Sums, row_sum, direct_at};
+ghost use Rattle.weights.specs.steps.Direct.{Sums, direct_at};
 
 use crate::exponents::Positions;
 use crate::sums;
@@ -15,21 +16,19 @@ fn load_terms(part: &mut [u32], at: Positions)
     ensures { part.new ≡ stored (2 ^ suc at.level) (log_of_less at.level) (2 ^ suc at.level) part.old }
 {
     let count = at.count();
-    for d in 0..count {
-        let to = count + d;
-        part[to] = at.log_of_less(d);
+    for (d, term) in part[count..2 * count].iter_mut().enumerate() {
+        *term = at.log_of_less(d);
     }
 }
 
-// Adds the `count` words from index `from` on to the first ones.
-fn add_row(part: &mut [u32], from: usize, count: usize)
-    requires count_in_bounds { from + count ≤ length part.old }
-    requires by_index { (e : ℕ) → e < count → row_sum part.old from e < 4294967296 }
-    ensures { part.new ≡ stored 0 (row_sum part.old from) count part.old }
+// Adds to each sum the term in its place.
+fn add_row(sums: &mut [u32], terms: &[u32])
+    requires terms_len { length terms.now ≡ length sums.old }
+    requires by_index { (e : ℕ) → e < length sums.old → get_or sums.old e 0 + get_or terms.now e 0 < 4294967296 }
+    ensures { sums.new ≡ table (length sums.old) (λ e. get_or sums.old e 0 + get_or terms.now e 0) }
 {
-    for e in 0..count {
-        let x = from + e;
-        part[e] = part[e] + part[x];
+    for (e, sum) in sums.iter_mut().enumerate() {
+        *sum += terms[e];
     }
 }
 
@@ -41,12 +40,12 @@ fn add_rows(part: &mut [u32], marks: &[bool], at: Positions)
     ensures { Sums at.level marks.now (2 ^ suc at.level) part.new }
 {
     let count = at.count();
-    for j in 0..count {
-        if marks[j] {
+    let (sums, terms) = part.split_at_mut(count);
+    for (j, mark) in marks[..count].iter().enumerate() {
+        if *mark {
             let f = at.exponent(j);
             let ahead = count - f;
-            let from = count + ahead;
-            add_row(part, from, count);
+            add_row(sums, &terms[ahead..ahead + count]);
         }
     }
 }
@@ -59,9 +58,9 @@ fn store_words(logs: &mut [u32], part: &[u32], at: Positions, shared: u32)
     ensures { logs.new ≡ stored 0 (direct_at at.level shared part.now) (2 ^ suc at.level) logs.old }
 {
     let count = at.count();
-    for i in 0..count {
+    for (i, log) in logs[..count].iter_mut().enumerate() {
         let from = at.exponent(i);
-        logs[i] = (shared + part[from]) % 65536;
+        *log = (shared + part[from]) % 65536;
     }
 }
 

@@ -2,7 +2,8 @@
 // erased positions of a term that depends on the difference of exponents alone, so that all of them are one convolution of the marks with the table of
 // logarithms: mixed, multiplied word by word, unmixed. Such a sum has to stay below p, and a logarithm has 16 bits: it is done for each of three digits
 // of six bits. Where there are few positions the sums are made directly.
-// That the words are below p, and how many there are, stays in clauses: they stand in buffers of u32, which the C interface lends, and change in place.
+// That the words are below p, and how many there are, stays in clauses: they stand in slices of u32 that change in place, the part in one that the C interface
+// lends, the logarithms in one with room for the largest stripe, whose rest is promised to stay.
 #![tactic(auto)]
 
 mod columns;
@@ -21,6 +22,7 @@ use exponents::Positions;
 const CONVOLVED_FROM: usize = 9;
 
 // Stores the logarithms of all positions at the beginning of an array. The words of the part serve to compute these: what is left there is open.
+// The level comes as a number, and is made `Positions` here.
 pub fn store_logs(logs: &mut [u32], part: &mut [u32], marks: &[bool], level: usize)
     requires level_bound { level ≤ 10 }
     requires level_in_bounds { 2 ^ suc level ≤ length marks.now }

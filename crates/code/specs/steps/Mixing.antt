@@ -53,13 +53,6 @@ pub record ShortFactors (p n : ℕ) (factors : List ℕ) : Type 0 where
   pub room : n ≤ length factors
   pub short : (x : ℕ) → x < n → get_or factors x 0 < p - 1
 
--- the first n words mixed with the next n, or unmixed, each under a factor of its own
-abbrev pub mix_words : (p : ℕ) → (factors : List ℕ) → (n : ℕ) → List ℕ → List ℕ
-mix_words p fs n l = crossed_row (mixing p) (factor_at fs) n 0 n l
-
-abbrev pub unmix_words : (p : ℕ) → (factors : List ℕ) → (n : ℕ) → List ℕ → List ℕ
-unmix_words p fs n l = crossed_row (unmixing p) (factor_at fs) n 0 n l
-
 -- f done to each of the first b blocks of n words
 unfoldable pub each_block : (b n : ℕ) → (f : List ℕ → List ℕ) → List ℕ → List ℕ
 each_block zero n f l = l

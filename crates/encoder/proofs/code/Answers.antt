@@ -2,7 +2,7 @@
 use Rattle.std.proofs.Common.{◌≡◌, List, ◌++◌, ℕ, suc, ◌+◌, ◌*◌, ◌-◌, ◌^◌, length, take, drop, sym, ap, ap₂, subst, ◌∙◌, arith}
 use borrow.Rule.Slice.PartMut.{put_mid}
 use lib.Dec.{lit<}
-use lib.Seq.{length-take-le}
+use lib.Seq.{sets, take_at, length-take-le}
 use Rattle.field.specs.Words.{Words}
 use Rattle.code.specs.Rows.{lifted}
 use Rattle.code.specs.Transform.{transform, turned}
@@ -10,7 +10,7 @@ use Rattle.code.specs.declared.Stripe.{Stripe}
 use Rattle.code.specs.Stripe.{coded, coded_rows, coded_stripe, root_in, block_count, block_words}
 use Rattle.code.proofs.Shapes.{length_transform, length_turned, words_turned}
 use Rattle.code.proofs.Lifting.{length_lifted, words_lifted, lifted_then, lifted_both}
-use Rattle.code.proofs.RowLaws.{Parts, lent_front, lent_rest, put_front, put_rest}
+use Rattle.code.proofs.RowLaws.{sets_behind, Parts, lent_front, lent_rest, put_front, put_rest}
 use Rattle.encoder.proofs.code.Goals as goal
 
 -- X and Y of all columns
@@ -25,6 +25,17 @@ coded_rows_lem w k l t width bs x z ex ez =
     ap₂ ◌++◌ ex (ez ∙ lifted_then width n n n U T bs (λ c h. length_turned 65537 w k t c ∙ h))
     ∙ lifted_both width n n n T (λ c. T (U c)) bs (length_transform 65537 w k l)
     ∙ ap (λ (m : ℕ). lifted width n m (coded 65537 w k l t) bs) {x = n + n} {y = 2 ^ suc l} (omega arith)
+
+-- turned over the second half
+turned_behind : (st : Stripe) (u : List ℕ) {n : ℕ} {v : List ℕ} → length u ≡ block_words st + block_words st → n ≡ block_words st
+    → v ≡ sets u n (lifted st.width (block_count st) (block_count st) (turned 65537 (root_in st) st.k st.first) (take (block_words st) u))
+    → v ≡ take (block_words st) u ++ lifted st.width (block_count st) (block_count st) (turned 65537 (root_in st) st.k st.first) (take (block_words st) u)
+turned_behind st u long half_is e =
+    (rw half_is at e) ∙ sets_behind (block_words st) u _ (long ∙ ap (λ (m : ℕ). block_words st + m) (sym (length_lifted _ _ _ _ _)))
+
+-- and the first half the blocks
+front_words : (a b : List ℕ) {n : ℕ} {v : List ℕ} → v ≡ a ++ b → length a ≡ n → Words 65537 a → Words 65537 (take n v)
+front_words a b {n} e long w = rw (e, take_at a b n long) w
 
 -- the part after each call, where u is as it is given: v, with the blocks in its first half, of n words, and the turned ones behind; x is the first half, mixed
 module _ (st : Stripe) (n : ℕ) (u v x : List ℕ) (half_is : n ≡ block_words st) (long : length u ≡ block_words st + block_words st)
@@ -61,13 +72,23 @@ module _ (st : Stripe) (n : ℕ) (u v x : List ℕ) (half_is : n ≡ block_words
       ∙ coded_rows_lem (root_in st) st.k st.level st.first st.width blocks x z mixed
       (ez ∙ ap (lifted st.width (block_count st) (block_count st) (transform 65537 (root_in st) st.k st.level)) (lent_rest mixed_parts))
 
-pub mix_all-requires-2-clause-words : goal.mix_all-requires-2-clause-words
-mix_all-requires-2-clause-words c =
-    mix_words c.args.st.stripe (c.block_count.result * c.args.st.stripe.width) c.args.part.now c.turn_over.new.part c.mix_all.new.half
-    (ap (λ (n : ℕ). n * c.args.st.stripe.width) c.block_count.ensures) c.requires.part_len c.turn_over.ensures c.mix_all.ensures
+pub cross_half-requires-clause-words : goal.cross_half-requires-clause-words
+cross_half-requires-clause-words c =
+    let st = c.args.st.stripe in
+    let half_is = ap (λ (n : ℕ). n * st.width) c.block_count.ensures in
+    front_words _ _ (turned_behind st c.args.part.now c.requires.part_len half_is c.turn.ensures)
+    (length-take-le (block_words st) c.args.part.now (omega (arith, c.requires.part_len)) ∙ sym half_is) c.requires.words
+
+pub cross_half-requires-2-clause-words : goal.cross_half-requires-2-clause-words
+cross_half-requires-2-clause-words c =
+    let st = c.args.st.stripe in
+    let half_is = ap (λ (n : ℕ). n * st.width) c.block_count.ensures in
+    mix_words st (c.block_count.result * st.width) c.args.part.now c.turn.new.part c.cross_half.new.half half_is c.requires.part_len
+    (turned_behind st c.args.part.now c.requires.part_len half_is c.turn.ensures) c.cross_half.ensures
 
 pub returns : goal.returns
 returns c =
-    all_coded c.args.st.stripe (c.block_count.result * c.args.st.stripe.width) c.args.part.now c.turn_over.new.part c.mix_all.new.half
-    (ap (λ (n : ℕ). n * c.args.st.stripe.width) c.block_count.ensures) c.requires.part_len c.turn_over.ensures c.mix_all.ensures c.mix_all-2.new.half
-    c.mix_all-2.ensures
+    let st = c.args.st.stripe in
+    let half_is = ap (λ (n : ℕ). n * st.width) c.block_count.ensures in
+    all_coded st (c.block_count.result * st.width) c.args.part.now c.turn.new.part c.cross_half.new.half half_is c.requires.part_len
+    (turned_behind st c.args.part.now c.requires.part_len half_is c.turn.ensures) c.cross_half.ensures c.cross_half-2.new.half c.cross_half-2.ensures

@@ -3,4 +3,4 @@ use Rattle.decoder.proofs.DecodeSteps.{evaluated_rows}
 use Rattle.decoder.proofs.decoding.evaluate.Goals as goal
 
 pub returns : goal.returns
-returns c = evaluated_rows _ _ _ _ _ _ _ _ c.block_count.ensures c.requires.part_len c.mix_all.ensures c.mix_all-2.ensures
+returns c = evaluated_rows _ _ _ _ _ _ _ _ c.block_count.ensures c.requires.part_len c.cross_half.ensures c.cross_half-2.ensures

@@ -1,26 +1,35 @@
 -- `decoder::decoding::has_low_degree` meets its contract. Assumes nothing.
-use Rattle.std.proofs.Common.{◌∙◌, sym}
-use Rattle.decoder.proofs.decoding.has_low_degree.Invariants.{start, turn, passed, tested, failed}
+use Rattle.std.proofs.Common.{rules, refl, ◌≡◌, ◌+◌, ◌*◌, ◌^◌, ◌≤◌, ◌<◌, ◌||◌, ltb, suc, ℕ, List, Bool, true, false, ap, arith}
+use Rattle.std.proofs.lemmas.Iterator.{cases_from_all, YieldsList-from_range, serves_from_Range}
+use borrow.Author.Tests.{tests}
+use Rattle.code.specs.Transform.{reversed}
+use Rattle.code.proofs.Lifting.{two_halves, row_in}
+use Rattle.decoder.specs.steps.RowTests.{all_to, same_at, low_row_at, low_rows}
+use Rattle.decoder.proofs.AllTo.{all_told}
 use Rattle.decoder.proofs.decoding.has_low_degree.Goals as goal
-use Rattle.decoder.proofs.decoding.has_low_degree.Goals.{else-erased-reversed-via-then-erased-reversed+else-not-same_row}
-use Rattle.decoder.proofs.decoding.has_low_degree.Goals.{else-erased-reversed-via-else-erased-reversed}
 
-pub loop-j-init : goal.loop-j-init
-loop-j-init c =
-    start c.args.part.now c.args.st.stripe.level c.args.st.stripe.width c.args.erased c.block_count-rows.result c.block_count-rows.ensures c.requires
+-- the test of a pair of rows, and that all of them are the definition's
+abbrev tested : (level erased width half : ℕ) → (part : List ℕ) → (j : ℕ) → Bool
+tested l e w h r j = ltb (reversed l j) e || all_to w (same_at (j * w) (h + j * w) r)
 
-pub returns-then-not-same_row : goal.returns-then-not-same_row
-returns-then-not-same_row c =
-    let h = c.loop-j.invariant in
-    failed h c.loop-j-test.true
-    (tested h (rw c.reversed.ensures at c.if-erased-reversed.true) (sym c.if-not-same_row.true ∙ c.same_row.ensures))
+low_told : (l e w : ℕ) (r : List ℕ) {n : ℕ} {b : Bool} → n ≡ 2 ^ l → b ≡ all_to n (tested l e w (n * w) r) → b ≡ low_rows l e w r
+unfolding low_row_at
+low_told l e w r s h = rw s at h
 
-pub loop-j-preserved : goal.loop-j-preserved
-loop-j-preserved c =
-    let h = c.loop-j.invariant in
-    turn h c.loop-j-test.true
-    (elim c.else-erased-reversed.branch [
-      | else-erased-reversed-via-then-erased-reversed+else-not-same_row w ↦
-          tested h (rw c.reversed.ensures at w.if-erased-reversed.true) (sym w.if-not-same_row.false ∙ w.same_row.ensures)
-      | else-erased-reversed-via-else-erased-reversed w ↦ passed h (rw c.reversed.ensures at w.if-erased-reversed.false)
-    ])
+-- row j of either half ends inside
+room : (l w : ℕ) {n m j : ℕ} → n ≡ 2 ^ l → m ≡ 2 ^ suc l * w → j < n → n * w + j * w + w ≤ m
+room l w s e b = omega (arith, e, ap (λ (n : ℕ). n * w) s, row_in w b, two_halves l w)
+
+pub all-requires-clause-callable : goal.all-requires-clause-callable
+all-requires-clause-callable c =
+    let st = c.args.st.stripe in
+    serves_from_Range (λ j q k. search rules) (λ j a b. omega (arith, room st.level st.width c.block_count-rows.ensures c.requires b))
+
+pub returns : goal.returns
+returns c =
+    let st = c.args.st.stripe in
+    let n = c.block_count-rows.result in
+    let f = tested st.level c.args.erased st.width (n * st.width) c.args.part.now in
+    low_told st.level c.args.erased st.width c.args.part.now c.block_count-rows.ensures
+    (all_told n f (cases_from_all _ _ _ (λ j. f j ≡ true) (λ j. f j ≡ false) c.all.ensures.ran (YieldsList-from_range 0 n n refl (omega arith))
+    (λ j q k. search (rules, tests)) (λ j q k. search (rules, tests))))

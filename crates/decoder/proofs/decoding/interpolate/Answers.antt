@@ -63,8 +63,8 @@ select_values-requires-clause-words c =
     let D = derive_holds a.st.stripe a.marks.now a.factors.now a.part.now c.requires.part_len c.derive.ensures in
     holds_words (evaluate_holds a.st.stripe a.marks.now a.factors.now a.part.now c.requires.part_len D c.evaluate.ensures) (lit< tt) c.requires.words
 
-pub unmix_all-requires-clause-words : goal.unmix_all-requires-clause-words
-unmix_all-requires-clause-words c =
+pub cross_half-requires-clause-words : goal.cross_half-requires-clause-words
+cross_half-requires-clause-words c =
     let a = c.args in
     let D = derive_holds a.st.stripe a.marks.now a.factors.now a.part.now c.requires.part_len c.derive.ensures in
     let V = evaluate_holds a.st.stripe a.marks.now a.factors.now a.part.now c.requires.part_len D c.evaluate.ensures in
@@ -78,5 +78,5 @@ returns c =
     let V = evaluate_holds a.st.stripe a.marks.now a.factors.now a.part.now c.requires.part_len D c.evaluate.ensures in
     let O = select_holds a.st.stripe a.marks.now a.factors.now a.part.now c.requires.part_len V
     (ap (λ (n : ℕ). n * a.st.stripe.width) c.block_count.ensures) c.select_values.ensures in
-    let U = unmix_holds a.st.stripe a.marks.now a.factors.now a.part.now c.requires.part_len O c.unmix_all.ensures in
-    take_at c.unmix_all.new.half _ (block_words a.st.stripe) (holds_length U) ∙ U.is
+    let U = unmix_holds a.st.stripe a.marks.now a.factors.now a.part.now c.requires.part_len O c.cross_half.ensures in
+    take_at c.cross_half.new.half _ (block_words a.st.stripe) (holds_length U) ∙ U.is

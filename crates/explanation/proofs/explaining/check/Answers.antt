@@ -14,11 +14,11 @@ unfolding refusal
 size_refused e h true others {x} {x'} {s} es d rest = rw (sym e ∙ h, ← es, ne_eqb x s d)
 size_refused e h false others es d rest = rw (sym e ∙ h)
 
-pub returns-in_err-try_from-clause-number : goal.returns-in_err-try_from-clause-number
-returns-in_err-try_from-clause-number c = header_passed_on c.args.header _ c.from_residual.result _ c.from_residual.ensures.1 c.in_err-try_from.ensures
+pub returns-in_err-valid-clause-number : goal.returns-in_err-valid-clause-number
+returns-in_err-valid-clause-number c = header_passed_on c.args.header _ c.from_residual.result _ c.from_residual.ensures.1 c.in_err-valid.ensures
 
 pub returns-then-counts-header-clause-number : goal.returns-then-counts-header-clause-number
 returns-then-counts-header-clause-number c =
     let h = c.args.header in
     let e : (h.k + 1) * 2 ≡ counts_size h = omega arith in
-    size_refused (header_taken _ _ c.in_ok-try_from.ensures c.in_ok-try_from.field-0.fits) refl _ _ e c.if-counts-header.true _
+    size_refused (header_taken _ _ c.in_ok-valid.ensures c.in_ok-valid.valid.fits) refl _ _ e c.if-counts-header.true _

@@ -8,7 +8,6 @@ use Rattle.layout.proofs.Bounds.{fits}
 use Rattle.image.specs.Erasures.{erasures_in, marks_of}
 use Rattle.explanation.specs.Counts.{positions_left}
 use Rattle.explanation.proofs.ExplainCall.{left_needed, left_none, short_needed, short_none}
-use Rattle.explanation.proofs.explaining.count_stripe.Goals.{then-left-needed, else-left-needed}
 use Rattle.explanation.proofs.explaining.count_stripe.Goals as goal
 
 pub returns-then-not-has_stripe : goal.returns-then-not-has_stripe
@@ -45,10 +44,6 @@ returns c =
     let e = sym c.has_stripe.ensures ∙ c.if-not-has_stripe.false in
     let left = c.positions_left-left.ensures in
     let needed = c.two_to-needed.ensures in
-    let lacks : c.if-left-needed.short ≡ 2 ^ a.level - positions_left h gs a.level =
-    elim c.if-left-needed.branch [
-      | then-left-needed w ↦ omega (arith, w.short-is, left, needed)
-      | else-left-needed w ↦ omega (arith, w.short-is, w.if-left-needed.false, left, needed)
-    ] in
+    let lacks : c.saturating_sub-short.result ≡ 2 ^ a.level - positions_left h gs a.level = omega (arith, c.saturating_sub-short.ensures, left, needed) in
     c.put_pair-2.ensures ∙ ap₂ (λ (x y : ℕ). replaced 2 a.counts.now a.level (x ∷ y ∷ []))
     (left ∙ sym (left_needed h gs a.level e)) (lacks ∙ sym (short_needed h gs a.level e))

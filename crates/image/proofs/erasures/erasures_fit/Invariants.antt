@@ -2,5 +2,5 @@
 use Rattle.image.proofs.ErasureLists.{RiseLoop}
 use Rattle.image.proofs.erasures.erasures_fit.Given as goal
 
-abbrev pub invariant-loop-i : goal.invariant-loop-i
-invariant-loop-i l = RiseLoop l.erasures l.size l.least l.i
+abbrev pub invariant-loop-pair : goal.invariant-loop-pair
+invariant-loop-pair l = RiseLoop l.erasures l.size l.least l.pair-index

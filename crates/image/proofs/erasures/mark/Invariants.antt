@@ -2,5 +2,5 @@
 use Rattle.image.proofs.Marking.{MarkLoop}
 use Rattle.image.proofs.erasures.mark.Given as goal
 
-abbrev pub invariant-loop-i : goal.invariant-loop-i
-invariant-loop-i l = MarkLoop l.base l.step l.positions l.erasures 2048 l.marks l.i
+abbrev pub invariant-loop-pair : goal.invariant-loop-pair
+invariant-loop-pair l = MarkLoop l.base l.step l.positions l.erasures 2048 l.marks l.pair-index

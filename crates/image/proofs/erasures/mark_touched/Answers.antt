@@ -25,7 +25,7 @@ highest c =
     let z = c.requires.step_nonzero.0 in
     let end = a.lost.offset + a.lost.size in
     elim c.if-end-last.branch [
-      | then-end-last w ↦ rw w.high-is (highest_at a.base a.step z a.positions end c.if-end-base.false w.if-end-last.true)
+      | then-end-last w ↦ rw (w.high-is, w.div_ceil-high.ensures) (highest_at a.base a.step z a.positions end c.if-end-base.false w.if-end-last.true)
       | else-end-last w ↦ rw w.high-is (highest_all a.base a.step z a.positions end w.if-end-last.false)
     ]
 
@@ -37,6 +37,9 @@ ends c = omega (arith, (highest c).within, c.requires.positions_in_bounds)
 
 pub slice_bounds-fill-count : goal.slice_bounds-fill-count
 slice_bounds-fill-count c = rises (goal.at.slice_bounds-fill-count c).Joined-end-last
+
+pub slice_bounds-fill-end : goal.slice_bounds-fill-end
+slice_bounds-fill-end c = ends (goal.at.slice_bounds-fill-end c).Joined-end-last
 
 pub slice_bounds-fill-start : goal.slice_bounds-fill-start
 slice_bounds-fill-start c =

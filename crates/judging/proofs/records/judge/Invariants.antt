@@ -3,4 +3,4 @@ use Rattle.judging.proofs.Judging.{JudgeLoop}
 use Rattle.judging.proofs.records.judge.Given as goal
 
 abbrev pub invariant-loop-j : goal.invariant-loop-j
-invariant-loop-j l = JudgeLoop l.st l.range.from l.cols l.words l.fn.fits l.fits l.all l.j
+invariant-loop-j l = JudgeLoop l.st l.range.from l.cols l.words l.initial.marks l.marks l.all l.j

@@ -17,11 +17,11 @@ pub loop-j-init : goal.loop-j-init
 loop-j-init c = storing_start _ _ _ _
 
 pub loop-j-preserved : goal.loop-j-preserved
-loop-j-preserved c = turn c.args.words.now c.loop-j.invariant c.loop-j-test.true
+loop-j-preserved c = turn c.args.words.now c.loop-j.invariant (rw c.requires at c.loop-j-test.true)
 
 pub returns : goal.returns
 unfolding word_from
 returns c =
-    storing_done c.loop-j.invariant c.loop-j-test.false
+    storing_done c.loop-j.invariant (rw c.requires at c.loop-j-test.false)
     ∙ stored_all (word_from c.args.words.now 0) c.args.words.now c.args.out.now c.requires
     (λ i b. ap (λ (k : ℕ). get_or c.args.words.now k 0) (sym (zero-add i)))

@@ -1,28 +1,25 @@
 -- `layout::words::records_fit` meets its contract. Assumes nothing.
-use Rattle.std.proofs.Common.{◌≡◌, ◌+◌, ◌-◌, ◌*◌, ℕ, List, take, drop, sym, ap, ◌∙◌, add-one, arith}
-use Rattle.layout.specs.Records.{are_data, record_in, records_fit}
-use Rattle.layout.proofs.RecordWords.{fit_none, fit_one, unfit_one, fit_all}
+use Rattle.std.proofs.Common.{rules, refl, ◌≡◌, ◌+◌, ◌-◌, ◌*◌, ℕ, List, true, false, take, drop, sym, ap, ◌∙◌, arith}
+use Rattle.std.proofs.lemmas.Iterator.{cases_from_all, YieldsList-from_range}
+use borrow.Author.Tests.{tests}
+use Rattle.layout.specs.Records.{are_data, record_in}
+use Rattle.layout.proofs.RecordWords.{fit_told, fit_all}
 use Rattle.layout.proofs.words.records_fit.Goals as goal
 
--- record i is what is lent
-lent : (s i : ℕ) (r : List ℕ) → are_data (take (i * s + s - i * s) (drop (i * s) r)) ≡ are_data (record_in s r i)
-lent s i r = let q : i * s + s - i * s ≡ s = omega arith in ap (λ (n : ℕ). are_data (take n (drop (i * s) r))) q
+-- what is lent, and that it is record i
+abbrev lent : (s : ℕ) → (r : List ℕ) → (i : ℕ) → List ℕ
+lent s r i = take (i * s + s - i * s) (drop (i * s) r)
+
+lent_is : (s : ℕ) (r : List ℕ) (i : ℕ) → are_data (lent s r i) ≡ are_data (record_in s r i)
+lent_is s r i = let q : i * s + s - i * s ≡ s = omega arith in ap (λ (n : ℕ). are_data (take n (drop (i * s) r))) q
 
 pub returns-then-all_data : goal.returns-then-all_data
-returns-then-all_data c = sym (fit_all c.args.s c.args.raw.now c.args.n (sym c.all_data.ensures ∙ c.if-all_data.true))
+returns-then-all_data c = c.if-all_data.true ∙ sym (fit_all c.args.s c.args.raw.now c.args.n (sym c.all_data.ensures ∙ c.if-all_data.true))
 
-pub loop-i-init : goal.loop-i-init
-loop-i-init c = fit_none c.args.s c.args.raw.now
-
-pub returns-then-not-all_data : goal.returns-then-not-all_data
-returns-then-not-all_data c =
-    let a = c.args in
-    let i = c.loop-i.i in
-    sym (unfit_one a.s a.raw.now a.n i c.loop-i-test.true (sym (lent a.s i a.raw.now) ∙ sym c.all_data-in-loop-i.ensures ∙ c.if-not-all_data.true))
-
-pub loop-i-preserved : goal.loop-i-preserved
-loop-i-preserved c =
-    let a = c.args in
-    let i = c.loop-i.i in
-    ap (records_fit a.s a.raw.now) (add-one i)
-    ∙ fit_one a.s a.raw.now i c.loop-i.invariant (sym (lent a.s i a.raw.now) ∙ sym c.all_data-in-loop-i.ensures ∙ c.if-not-all_data.false)
+pub returns-else-all_data : goal.returns-else-all_data
+returns-else-all_data c =
+    let s = c.args.s in
+    let r = c.args.raw.now in
+    fit_told s r c.args.n (lent_is s r)
+    (cases_from_all _ _ _ (λ i. are_data (lent s r i) ≡ true) (λ i. are_data (lent s r i) ≡ false) c.all.ensures.ran
+    (YieldsList-from_range 0 c.args.n c.args.n refl (omega arith)) (λ i q k. search (rules, tests)) (λ i q k. search (rules, tests)))

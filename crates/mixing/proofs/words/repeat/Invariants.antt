@@ -5,4 +5,4 @@ use Rattle.code.proofs.RowLaws.{StoringRows}
 use Rattle.mixing.proofs.words.repeat.Given as goal
 
 abbrev pub invariant-loop-i : goal.invariant-loop-i
-invariant-loop-i l = StoringRows 0 (repeated_at l.powers l.width l.step) l.m l.width l.initial.factors l.factors (l.i * l.width) l.i
+invariant-loop-i l = StoringRows 0 (repeated_at l.powers.table.now l.width l.powers.step) l.rows l.width l.initial.factors l.factors (l.i * l.width) l.i

@@ -4,4 +4,4 @@ use Rattle.mixing_twice.proofs.QuadRows.{QuadsLoop}
 use Rattle.mixing_twice.proofs.rows.cross.Given as goal
 
 abbrev pub invariant-loop-i : goal.invariant-loop-i
-invariant-loop-i g l = QuadsLoop (four_of g.D.Direction.unmixing) l.initial.part l.m l.width l.powers l.step l.part l.i
+invariant-loop-i g l = QuadsLoop (four_of g.D.Direction.unmixing) l.initial.part l.m l.width l.powers.table.now l.powers.step l.part l.i

@@ -8,5 +8,5 @@ use Rattle.mixing_twice.proofs.rows.cross_each.Given as goal
 abbrev pub invariant-loop-b : goal.invariant-loop-b
 invariant-loop-b g l =
     BlockLoop l.initial.half l.blocks l.size
-    (lifted l.width (l.m + l.m + (l.m + l.m)) (l.m + l.m + (l.m + l.m)) (twice g.D.Direction.unmixing 65537 (get_or l.powers l.step 0) l.m)) l.half
-    (l.b * l.size) l.b
+    (lifted l.width (l.m + l.m + (l.m + l.m)) (l.m + l.m + (l.m + l.m)) (twice g.D.Direction.unmixing 65537 (get_or l.powers.table.now l.powers.step 0) l.m))
+    l.half (l.b * l.size) l.b

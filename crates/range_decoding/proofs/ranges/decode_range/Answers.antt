@@ -28,37 +28,37 @@ pub decode-requires-clause-words : goal.decode-requires-clause-words
 decode-requires-clause-words g c =
     let a = c.args in
     let found = tested_once c.args.range.from c.load.ensures.first c.load.ensures.later c.requires.all_in_field in
-    rw (columns_alone a.ready.vault.stripe a.range _ _ c.requires.part_len c.load.ensures.part_after)
-    (columns_words 65537 a.ready.vault.stripe.width a.range.from a.range.cols (position_count a.ready.vault.stripe) _
+    rw (columns_alone a.ready.vault.valid.stripe a.range _ _ c.requires.part_len c.load.ensures.part_after)
+    (columns_words 65537 a.ready.vault.valid.stripe.width a.range.from a.range.cols (position_count a.ready.vault.valid.stripe) _
     (lit< tt) (sym found ∙ c.if-not-load.false))
 
 pub returns-clause-value : goal.returns-clause-value
 returns-clause-value g c =
     let a = c.args in
     let found = tested_once c.args.range.from c.load.ensures.first c.load.ensures.later c.requires.all_in_field in
-    let e = columns_alone a.ready.vault.stripe a.range _ _ c.requires.part_len c.load.ensures.part_after in
+    let e = columns_alone a.ready.vault.valid.stripe a.range _ _ c.requires.part_len c.load.ensures.part_after in
     sym (number_zero _ _ (sym found ∙ c.if-not-load.false)
-    (sym (c.decode.ensures.value ∙ ap (is_consistent (with_width a.ready.vault.stripe a.range.cols) a.ready.marks.now) e) ∙ c.if-not-decode.false))
+    (sym (c.decode.ensures.value ∙ ap (is_consistent (with_width a.ready.vault.valid.stripe a.range.cols) a.ready.marks.now) e) ∙ c.if-not-decode.false))
 
 pub returns-clause-part_after : goal.returns-clause-part_after
 returns-clause-part_after g c z =
     let a = c.args in
-    let e = columns_alone a.ready.vault.stripe a.range _ _ c.requires.part_len c.load.ensures.part_after in
-    c.decode.ensures.part_after ∙ ap (left_of (with_width a.ready.vault.stripe a.range.cols) a.ready.marks.now) e
-    ∙ range_blocks a.ready.vault.stripe a.ready.marks.now _ a.range c.requires.inside
-    (sym (c.decode.ensures.value ∙ ap (is_consistent (with_width a.ready.vault.stripe a.range.cols) a.ready.marks.now) e) ∙ c.if-not-decode.false)
+    let e = columns_alone a.ready.vault.valid.stripe a.range _ _ c.requires.part_len c.load.ensures.part_after in
+    c.decode.ensures.part_after ∙ ap (left_of (with_width a.ready.vault.valid.stripe a.range.cols) a.ready.marks.now) e
+    ∙ range_blocks a.ready.vault.valid.stripe a.ready.marks.now _ a.range c.requires.inside
+    (sym (c.decode.ensures.value ∙ ap (is_consistent (with_width a.ready.vault.valid.stripe a.range.cols) a.ready.marks.now) e) ∙ c.if-not-decode.false)
 
 pub returns-then-not-decode-clause-value : goal.returns-then-not-decode-clause-value
 returns-then-not-decode-clause-value g c =
     let a = c.args in
     let found = tested_once c.args.range.from c.load.ensures.first c.load.ensures.later c.requires.all_in_field in
-    let e = columns_alone a.ready.vault.stripe a.range _ _ c.requires.part_len c.load.ensures.part_after in
+    let e = columns_alone a.ready.vault.valid.stripe a.range _ _ c.requires.part_len c.load.ensures.part_after in
     sym (number_nine _ _ (sym found ∙ c.if-not-load.false)
-    (sym (c.decode.ensures.value ∙ ap (is_consistent (with_width a.ready.vault.stripe a.range.cols) a.ready.marks.now) e) ∙ c.if-not-decode.true))
+    (sym (c.decode.ensures.value ∙ ap (is_consistent (with_width a.ready.vault.valid.stripe a.range.cols) a.ready.marks.now) e) ∙ c.if-not-decode.true))
 
 pub returns-then-not-decode-clause-part_after_9 : goal.returns-then-not-decode-clause-part_after_9
 returns-then-not-decode-clause-part_after_9 g c _ =
     let a = c.args in
-    let st = a.ready.vault.stripe in
+    let st = a.ready.vault.valid.stripe in
     c.decode.ensures.part_after
     ∙ leaves_zeros (modulus_of st) (root_in st) st.k st.level st.first a.range.cols a.ready.marks.now _ (sym c.decode.ensures.value ∙ c.if-not-decode.true)

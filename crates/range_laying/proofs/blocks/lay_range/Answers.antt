@@ -13,13 +13,13 @@ returns-then-whole c = rw c.in-Records.is (c.copy_columns-then-whole.ensures ∙
 pub returns-else-whole : goal.returns-else-whole
 returns-else-whole c =
     let a = c.args in
-    let s : pred c.args.vault.stripe.width ≡ c.args.vault.stripe.width - 1 = omega arith in
-    rw (c.in-Records.is, lays_records a.vault.stripe a.range a.words.now a.out.now c.if-whole.false, s, ← c.block_count-rows.ensures) c.lay_data.ensures
+    let s : pred c.args.vault.valid.stripe.width ≡ c.args.vault.valid.stripe.width - 1 = omega arith in
+    rw (c.in-Records.is, lays_records a.vault.valid.stripe a.range a.words.now a.out.now c.if-whole.false, s, ← c.block_count-rows.ensures) c.lay_data.ensures
 
 pub returns-then-whole-2 : goal.returns-then-whole-2
 returns-then-whole-2 c =
     let a = c.args in
-    rw (c.in-Origins.is, names_none a.vault.stripe a.range a.words.now a.out.now c.if-whole-2.true, ← c.block_count-rows.ensures) c.fill_pairs.ensures
+    rw (c.in-Origins.is, names_none a.vault.valid.stripe a.range a.words.now a.out.now c.if-whole-2.true, ← c.block_count-rows.ensures) c.fill_pairs.ensures
 
 pub returns-else-whole-2 : goal.returns-else-whole-2
 returns-else-whole-2 c = rw c.in-Origins.is (c.lay_origins.ensures ∙ sym (names_writes _ _ _ _ c.if-whole-2.false))

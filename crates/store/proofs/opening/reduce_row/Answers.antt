@@ -8,7 +8,7 @@ pub loop-j-init : goal.loop-j-init
 loop-j-init c = storing_start _ _ _ _
 
 pub loop-j-preserved : goal.loop-j-preserved
-loop-j-preserved c = rw zero-add at (storing_turn c.loop-j.invariant c.loop-j-test.true c.reduce.ensures)
+loop-j-preserved c = rw zero-add at (storing_turn c.loop-j.invariant (rw c.requires at c.loop-j-test.true) c.reduce.ensures)
 
 pub returns : goal.returns
-returns c = storing_done c.loop-j.invariant c.loop-j-test.false ∙ residues c.args.words.now c.args.out.now c.requires
+returns c = storing_done c.loop-j.invariant (rw c.requires at c.loop-j-test.false) ∙ residues c.args.words.now c.args.out.now c.requires

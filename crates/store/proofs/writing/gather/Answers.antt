@@ -11,7 +11,7 @@ use Rattle.code.proofs.Shapes.{length_scaled}
 use Rattle.store.specs.Buffers.{reduced}
 use Rattle.store.specs.steps.Writing.{half_start, gathered}
 use Rattle.store.proofs.Stores.{put_over}
-use Rattle.store.proofs.Gathering.{GatherLoop, gather_turn, gather_done, gather_high, gather_room, rows_double, half_end}
+use Rattle.store.proofs.Gathering.{GatherLoop, gather_turn, gather_done, gather_high, gather_room, rows_double}
 use Rattle.store.proofs.writing.gather.Goals as goal
 
 -- the halves end at `end`, and what is left of them stands before it
@@ -64,35 +64,29 @@ module _ {width : ℕ} {log₀ : List ℕ} {level half : ℕ} {log : List ℕ} {
       ∙ ap (λ (i : ℕ). sets log (end - i) row) (sym one) ∙ gather_done h b row
       ∙ ap (λ (w : ℕ). sets log₀ (half_start w level half) (gathered 65537 w log₀ half row level)) ew
 
-pub overflow_add-end : goal.overflow_add-end
-overflow_add-end c =
-    let w = length c.args.block.words.now + 1 in
-    let n = ap (λ (m : ℕ). m * w) c.two_to.ensures in
-    omega (arith, half_end w c.args.level c.requires.level_bound.1, rw (← add-one (length c.args.block.words.now)) at c.requires.level_in_bounds, n)
-
 pub overflow_sub-end : goal.overflow_sub-end
-overflow_sub-end c = enough c.loop-l.invariant c.half_at.ensures c.two_to.ensures refl c.loop-l-test.true c.two_to-in-loop-l.ensures
+overflow_sub-end g c = enough c.loop-l.invariant c.half_at.ensures c.two_to.ensures refl c.loop-l-test.true c.two_to-in-loop-l.ensures
 
 pub copy_reduced-requires-clause-count_bound : goal.copy_reduced-requires-clause-count_bound
-copy_reduced-requires-clause-count_bound c =
+copy_reduced-requires-clause-count_bound g c =
     (room c.loop-l.invariant c.half_at.ensures c.two_to.ensures refl c.loop-l-test.true c.two_to-in-loop-l.ensures c.half_at-in-loop-l.ensures).0
 
 pub copy_reduced-requires-clause-count_in_bounds : goal.copy_reduced-requires-clause-count_in_bounds
-copy_reduced-requires-clause-count_in_bounds c =
+copy_reduced-requires-clause-count_in_bounds g c =
     (room c.loop-l.invariant c.half_at.ensures c.two_to.ensures refl c.loop-l-test.true c.two_to-in-loop-l.ensures c.half_at-in-loop-l.ensures).1
 
 pub loop-l-preserved : goal.loop-l-preserved
-loop-l-preserved c =
+loop-l-preserved g c =
     turn c.loop-l.invariant c.half_at.ensures c.two_to.ensures refl c.loop-l-test.true c.two_to-in-loop-l.ensures c.half_at-in-loop-l.ensures
     c.copy_reduced.ensures
 
 pub offset_bounds-log-end : goal.offset_bounds-log-end
-offset_bounds-log-end c = omega (arith, inside c.loop-l.invariant c.half_at.ensures c.two_to.ensures refl)
+offset_bounds-log-end g c = omega (arith, inside c.loop-l.invariant c.half_at.ensures c.two_to.ensures refl)
 
 pub slice_bounds-put_row-end : goal.slice_bounds-put_row-end
-slice_bounds-put_row-end c = omega (arith, inside c.loop-l.invariant c.half_at.ensures c.two_to.ensures refl)
+slice_bounds-put_row-end g c = omega (arith, inside c.loop-l.invariant c.half_at.ensures c.two_to.ensures refl)
 
 pub returns : goal.returns
-returns c =
+returns g c =
     last_row c.loop-l.invariant c.half_at.ensures c.two_to.ensures refl c.loop-l-test.false (add-one (length c.args.block.words.now))
-    (length_scaled 65537 c.args.g (c.args.block.number ∷ c.args.block.words.now)) c.put_row.ensures
+    (length_scaled 65537 (g.F.Factor.value c.args.factor) (c.args.block.number ∷ c.args.block.words.now)) c.put_row.ensures

@@ -4,4 +4,4 @@ use Rattle.store.proofs.Gathering.{GatherLoop}
 use Rattle.store.proofs.writing.gather.Given as goal
 
 abbrev pub invariant-loop-l : goal.invariant-loop-l
-invariant-loop-l l = GatherLoop l.width l.initial.log l.level l.half l.log (l.end - 2 ^ l.l * l.width) l.l
+invariant-loop-l g l = GatherLoop l.width l.initial.log l.level l.half l.log (l.end - 2 ^ l.l * l.width) l.l

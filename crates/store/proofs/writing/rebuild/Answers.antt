@@ -94,8 +94,8 @@ module _ (h : Header) (log : List ℕ) (level i : ℕ) (b : List ℕ) (valid : h
           (ap (λ (g : ℕ). scaled 65537 g (i ∷ b)) e₁ ∙ scaled_one 65537 (lit< tt) (i ∷ b) w)
           (ap (λ (g : ℕ). scaled 65537 g (i ∷ b)) e) folded_level)
 
-pub entry-turn-requires : goal.entry-turn-requires
-entry-turn-requires c = rw c.reversed-e.ensures (omega (arith, reversed_lt))
+pub entry-requires : goal.entry-requires
+entry-requires c = rw c.reversed-e.ensures (omega (arith, reversed_lt))
 
 pub gather-requires-clause-level_in_bounds : goal.gather-requires-clause-level_in_bounds
 gather-requires-clause-level_in_bounds c =
@@ -108,14 +108,13 @@ gather-requires-2-clause-level_in_bounds c =
     let l = room a.header.header a.log.now a.level a.block.number a.block.words.now a.header.fits c.requires.level_bound c.requires.lengths in
     omega (arith, c.gather.auto.log)
 
-pub gather-requires-2-clause-g_bound : goal.gather-requires-2-clause-g_bound
-gather-requires-2-clause-g_bound c =
+pub invariant_of-turn : goal.invariant_of-turn
+invariant_of-turn c =
     let a = c.args in
-    let l =
-    turn_low a.header.header a.log.now a.level a.block.number a.block.words.now a.header.fits c.requires.level_bound c.requires.lengths
-    c.reversed-e.ensures c.entry-turn.ensures (omega arith)
-    in
-    omega arith
+    record {
+      short = turn_low a.header.header a.log.now a.level a.block.number a.block.words.now a.header.fits c.requires.level_bound c.requires.lengths
+          c.reversed-e.ensures c.entry.ensures (omega arith);
+    }
 
 pub slice_bounds-fold_level-end : goal.slice_bounds-fold_level-end
 slice_bounds-fold_level-end c =
@@ -163,4 +162,4 @@ returns c =
     c.width-width.ensures c.gather.ensures c.gather-2.ensures c.half_at-start.ensures c.half_at-end.ensures c.fold_level.ensures c.fold_level.auto.part
     a.block.in_field refl
     (turn_is a.header.header a.log.now a.level a.block.number a.block.words.now a.header.fits c.requires.level_bound c.requires.lengths
-    c.reversed-e.ensures c.entry-turn.ensures) (c.fill.ensures.after (λ y e. e))
+    c.reversed-e.ensures c.entry.ensures) (c.fill.ensures.after (λ y e. e))

@@ -1,5 +1,5 @@
 -- `stripe_decoding::decoding::check` meets its contract. Assumes nothing.
-use mathlib.Core.Path.{◌≡◌, refl, sym, ◌∙◌}
+use mathlib.Core.Path.{◌≡◌, refl, sym, ap, ◌∙◌}
 use mathlib.Core.Bool.{Bool, true, false}
 use Rattle.std.proofs.Common.{ℕ, List, ◌+◌, ◌<◌, length, add-one, arith}
 use Rattle.layout.specs.declared.Header.{Header}
@@ -34,10 +34,12 @@ pub returns-then-not-has_stripe-clause-number : goal.returns-then-not-has_stripe
 returns-then-not-has_stripe-clause-number c =
     let a = c.args in
     rw c.if-not-has_stripe.true at
-    (last a.header a.image.now a.erasures.now a.stripe a.out.now a.scratch.now c.in_ok-reading.ensures.number refl c.has_stripe.ensures)
+    (last a.header a.image.now a.erasures.now a.stripe a.out.now a.scratch.now c.in_ok-reading.ensures.number refl
+    (c.has_stripe.ensures ∙ ap (λ (h : Header). has_stripe h a.stripe) c.in_ok-reading.ensures.same.0))
 
 pub returns-clause-number : goal.returns-clause-number
 returns-clause-number c =
     let a = c.args in
     rw c.if-not-has_stripe.false at
-    (last a.header a.image.now a.erasures.now a.stripe a.out.now a.scratch.now c.in_ok-reading.ensures.number refl c.has_stripe.ensures)
+    (last a.header a.image.now a.erasures.now a.stripe a.out.now a.scratch.now c.in_ok-reading.ensures.number refl
+    (c.has_stripe.ensures ∙ ap (λ (h : Header). has_stripe h a.stripe) c.in_ok-reading.ensures.same.0))

@@ -10,14 +10,14 @@ use Rattle.stripe_decoding.proofs.ranges.decode_and_lay.Goals as goal
 
 pub loop-from-init : goal.loop-from-init
 loop-from-init g c =
-    let st = c.args.ready.vault.stripe in
+    let st = c.args.ready.vault.valid.stripe in
     let ms = c.args.ready.marks.now in
     rw (← c.store_factors.auto.scratch)
     (ranging_start c.args.content st ms (g.S.Source.words c.args.source) c.args.out.now c.store_factors.new.scratch c.args.ready.vault.fits)
 
 pub returns-in_err-decode_range-clause-value : goal.returns-in_err-decode_range-clause-value
 returns-in_err-decode_range-clause-value g c =
-    let st = c.args.ready.vault.stripe in
+    let st = c.args.ready.vault.valid.stripe in
     let ms = c.args.ready.marks.now in
     let R = c.loop-from.invariant in
     let f = rw R.sized at c.range_at-range.ensures in
@@ -27,7 +27,7 @@ returns-in_err-decode_range-clause-value g c =
 
 pub returns-in_err-decode_range-clause-level_after : goal.returns-in_err-decode_range-clause-level_after
 returns-in_err-decode_range-clause-level_after g c w =
-    let st = c.args.ready.vault.stripe in
+    let st = c.args.ready.vault.valid.stripe in
     let ms = c.args.ready.marks.now in
     let R = c.loop-from.invariant in
     let f = rw R.sized at c.range_at-range.ensures in
@@ -36,7 +36,7 @@ returns-in_err-decode_range-clause-level_after g c w =
 
 pub lay_range-requires-clause-placed : goal.lay_range-requires-clause-placed
 lay_range-requires-clause-placed g c =
-    let st = c.args.ready.vault.stripe in
+    let st = c.args.ready.vault.valid.stripe in
     let ms = c.args.ready.marks.now in
     let a = c.args in
     let ws = g.S.Source.words a.source in
@@ -51,7 +51,7 @@ lay_range-requires-clause-placed g c =
 
 pub loop-from-preserved : goal.loop-from-preserved
 loop-from-preserved g c =
-    let st = c.args.ready.vault.stripe in
+    let st = c.args.ready.vault.valid.stripe in
     let ms = c.args.ready.marks.now in
     let a = c.args in
     let ws = g.S.Source.words a.source in
@@ -71,35 +71,35 @@ loop-from-preserved g c =
 
 pub returns-then-fit-2-clause-value : goal.returns-then-fit-2-clause-value
 returns-then-fit-2-clause-value g c =
-    let st = c.args.ready.vault.stripe in
+    let st = c.args.ready.vault.valid.stripe in
     let ms = c.args.ready.marks.now in
     ranges_zero c.args.content st ms (g.S.Source.words c.args.source) c.loop-from.invariant c.loop-from-test.false c.args.ready.ready
     c.if-fit-2.true
 
 pub returns-then-fit-2-clause-out_after : goal.returns-then-fit-2-clause-out_after
 returns-then-fit-2-clause-out_after g c _ =
-    let st = c.args.ready.vault.stripe in
+    let st = c.args.ready.vault.valid.stripe in
     let ms = c.args.ready.marks.now in
     ranges_laid c.args.content st ms (g.S.Source.words c.args.source) c.loop-from.invariant c.loop-from-test.false c.args.ready.ready
     c.if-fit-2.true c.requires.out_len
 
 pub returns-else-fit-2-clause-value : goal.returns-else-fit-2-clause-value
 returns-else-fit-2-clause-value g c =
-    let st = c.args.ready.vault.stripe in
+    let st = c.args.ready.vault.valid.stripe in
     let ms = c.args.ready.marks.now in
     ranges_ten c.args.content st ms (g.S.Source.words c.args.source) c.loop-from.invariant c.loop-from-test.false c.args.ready.ready
     c.if-fit-2.false
 
 pub returns-then-fit-2-clause-level_after : goal.returns-then-fit-2-clause-level_after
 returns-then-fit-2-clause-level_after g c _ =
-    let st = c.args.ready.vault.stripe in
+    let st = c.args.ready.vault.valid.stripe in
     let ms = c.args.ready.marks.now in
     ranges_laid c.args.content st ms (g.S.Source.words c.args.source) c.loop-from.invariant c.loop-from-test.false c.args.ready.ready
     c.if-fit-2.true c.requires.out_len
 
 pub returns-else-fit-2-clause-level_after : goal.returns-else-fit-2-clause-level_after
 returns-else-fit-2-clause-level_after g c w =
-    let st = c.args.ready.vault.stripe in
+    let st = c.args.ready.vault.valid.stripe in
     let ms = c.args.ready.marks.now in
     ranges_left c.args.content st ms (g.S.Source.words c.args.source) c.loop-from.invariant c.loop-from-test.false c.args.ready.ready
     c.if-fit-2.false w

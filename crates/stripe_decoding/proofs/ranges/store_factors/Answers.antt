@@ -18,19 +18,20 @@ zeros : (n : ℕ) → Words 65536 (drop n (replicate 2048 0))
 zeros n = words_drop 65536 (lit< tt) n (words_replicate 65536 (lit< tt) 2048 0 (lit< tt))
 
 pub store_logs-requires-clause-level_bound_2 : goal.store_logs-requires-clause-level_bound_2
-store_logs-requires-clause-level_bound_2 c = erased_half c.args.ready.vault.stripe.level c.args.ready.marks.now c.args.ready.ready.enough
+store_logs-requires-clause-level_bound_2 c = erased_half c.args.ready.vault.valid.stripe.level c.args.ready.marks.now c.args.ready.ready.enough
 
 pub store_logs-requires-clause-logs_len : goal.store_logs-requires-clause-logs_len
-store_logs-requires-clause-logs_len c = rw (c.requires.factors_are, length-replicate) (few c.args.ready.vault.stripe c.args.ready.vault.fits.numbers)
+store_logs-requires-clause-logs_len c = rw (c.requires.factors_are, length-replicate) (few c.args.ready.vault.valid.stripe c.args.ready.vault.fits.numbers)
 
 pub returns-then-count_erased-gt0 : goal.returns-then-count_erased-gt0
 returns-then-count_erased-gt0 c =
     let a = c.args in
-    let n = 2 ^ suc a.ready.vault.stripe.level in
+    let n = 2 ^ suc a.ready.vault.valid.stripe.level in
     rw (c.store_logs.ensures, c.requires.factors_are)
-    (logs_factors a.ready.vault.stripe a.ready.marks.now (drop n (replicate 2048 0)) c.args.ready.vault.fits.numbers (zeros n))
+    (logs_factors a.ready.vault.valid.stripe a.ready.marks.now (drop n (replicate 2048 0)) c.args.ready.vault.fits.numbers (zeros n))
 
 pub returns-else-count_erased-gt0 : goal.returns-else-count_erased-gt0
 returns-else-count_erased-gt0 c =
     let a = c.args in
-    rw c.requires.factors_are (no_factors a.ready.vault.stripe a.ready.marks.now c.args.ready.vault.fits.numbers (sym c.count_erased.ensures ∙ omega arith))
+    rw c.requires.factors_are
+    (no_factors a.ready.vault.valid.stripe a.ready.marks.now c.args.ready.vault.fits.numbers (sym c.count_erased.ensures ∙ omega arith))

@@ -2,11 +2,12 @@
 use Rattle.std.proofs.Common.{suc, ◌^◌, ◌<◌, ◌∙◌, arith}
 use Rattle.code.proofs.Shapes.{reversed_lt}
 use Rattle.weights.proofs.ExponentLaws.{position_lt, flag_is}
-use Rattle.weights.proofs.ColumnLaws.{load_start, load_turn, load_done, flag_loaded}
+use Rattle.weights.specs.steps.Digits.{flags}
+use Rattle.weights.proofs.ColumnLaws.{each_start, each_turn, load_done, flag_loaded}
 use Rattle.weights.proofs.columns.load_flags.Goals as goal
 
 pub loop-j-init : goal.loop-j-init
-loop-j-init c = load_start _ _ _ _
+loop-j-init c = each_start _ _
 
 pub position-i-requires : goal.position-i-requires
 position-i-requires c = omega (arith, c.reversed.ensures, reversed_lt (suc c.args.at.level) c.loop-j.j)
@@ -18,8 +19,8 @@ bounds-marks-i c =
 
 pub loop-j-preserved : goal.loop-j-preserved
 loop-j-preserved c =
-    load_turn c.loop-j.invariant c.loop-j-test.true
+    each_turn c.loop-j.invariant c.loop-j-test.true
     (flag_loaded c.args.at.level c.args.marks.now c.loop-j.j c.reversed.ensures c.position-i.ensures (c.from.ensures ∙ flag_is _))
 
 pub returns : goal.returns
-returns c = load_done c.loop-j.invariant c.loop-j-test.false c.count-count.ensures c.requires.column_len
+returns c = load_done c.args.at.level (flags c.args.at.level c.args.marks.now) c.loop-j.invariant c.loop-j-test.false c.requires.column_len
