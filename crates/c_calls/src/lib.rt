@@ -5,7 +5,6 @@
 
 ghost use Rattle.std.specs.Prelude.{◌≡◌};
 ghost use Rattle.vault.specs.Header.{header_of};
-ghost use Rattle.vault.specs.Refusals.{answer_number};
 ghost use Rattle.vault.specs.PowersCall.{powers_number, powers_leaves};
 ghost use Rattle.vault.specs.Buffers.{buffers};
 ghost use Rattle.vault.specs.StoreCalls.{open_number, open_leaves, write_number, write_answer, write_leaves, read_number};
@@ -16,17 +15,7 @@ ghost use Rattle.vault.specs.ExplainCall.{explain_answer, explain_counts, explai
 ghost use Rattle.vault.specs.ImageCall.{image_number, image_leaves};
 ghost use Rattle.vault.specs.Boundary.{read_start, read_count, shelf_of};
 
-use vault::{Fault, Header, Refusal, calls};
-
-// The number of an answer, 0 if the call was taken.
-fn number_of<T: Drop>(answer: Result<T, Refusal>) -> u32
-    ensures { result ≡ answer_number answer }
-{
-    match answer {
-        Ok(_) => 0,
-        Err(refusal) => refusal.number(),
-    }
-}
+use vault::{Fault, Header, calls, number_of};
 
 // The number of an answer that may name a stripe.
 fn fault_number(answer: Result<(), Fault>) -> u32

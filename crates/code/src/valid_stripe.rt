@@ -1,6 +1,6 @@
 // Stripes whose numbers a vault can have. What asks for such a stripe takes it by this type.
-ghost use Rattle.std.specs.Prelude.{◌≡◌};
-ghost use Rattle.code.specs.Stripe.{Numbers, block_count, position_count};
+ghost use Rattle.std.specs.Prelude.{◌≡◌, ◌<◌};
+ghost use Rattle.code.specs.Stripe.{Numbers, block_count, position_count, block_words};
 
 use crate::Stripe;
 
@@ -24,5 +24,13 @@ impl ValidStripe {
         ensures { result ≡ position_count self.stripe }
     {
         crate::number::two_to(self.stripe.level + 1)
+    }
+
+    // How many words half of the stripe has. That the number fits is a clause: rows may have any width, and who is lent the words knows it.
+    pub fn half_size(self) -> usize
+        requires { block_words self.stripe < 18446744073709551616 }
+        ensures { result ≡ block_words self.stripe }
+    {
+        self.block_count() * self.stripe.width
     }
 }

@@ -170,53 +170,53 @@ abbrev put_behind : (n : ℕ) → (v y : List ℕ) → List ℕ
 put_behind n v y = put_mid n (length v - n) v y
 
 -- t stands behind a first half x that is made of rows r
-module _ (l width b : ℕ) (r x t : List ℕ) (f : List ℕ → List ℕ) (e : b ≡ 2 ^ l) (ex : x ≡ lifted width (2 ^ l) (2 ^ l) f r) where
-  once : Parts (b * width) (x ++ t) x t
-  once = record { is = refl; long = ap length ex ∙ length_lifted _ _ _ _ _ ∙ ap (λ (n : ℕ). n * width) (sym e) }
+module _ (l width half : ℕ) (r x t : List ℕ) (f : List ℕ → List ℕ) (e : half ≡ 2 ^ l * width) (ex : x ≡ lifted width (2 ^ l) (2 ^ l) f r) where
+  once : Parts half (x ++ t) x t
+  once = record { is = refl; long = ap length ex ∙ length_lifted _ _ _ _ _ ∙ sym e }
 
 -- x and y are the halves transformed, or unmixed, and z is y turned
-module _ (w k l width b : ℕ) (rows x y : List ℕ) (e : b ≡ 2 ^ l) where
-  pub evaluated_rows : length rows ≡ 2 ^ suc l * width → x ≡ lifted width (2 ^ l) (2 ^ l) (transform 65537 w k l) (take (b * width) rows)
-      → y ≡ lifted width (2 ^ l) (2 ^ l) (transform 65537 w k l) (behind (b * width) (x ++ drop (b * width) rows))
-      → put_behind (b * width) (x ++ drop (b * width) rows) y ≡ lifted width (2 ^ suc l) (2 ^ suc l) (evaluated 65537 w k l) rows
+module _ (w k l width half : ℕ) (rows x y : List ℕ) (e : half ≡ 2 ^ l * width) where
+  pub evaluated_rows : length rows ≡ 2 ^ suc l * width → x ≡ lifted width (2 ^ l) (2 ^ l) (transform 65537 w k l) (take half rows)
+      → y ≡ lifted width (2 ^ l) (2 ^ l) (transform 65537 w k l) (behind half (x ++ drop half rows))
+      → put_behind half (x ++ drop half rows) y ≡ lifted width (2 ^ suc l) (2 ^ suc l) (evaluated 65537 w k l) rows
   unfolding evaluated
   evaluated_rows long ex ey =
       let T = transform 65537 w k l in
-      let p = once l width b (take (b * width) rows) x (drop (b * width) rows) T e ex in
+      let p = once l width half (take half rows) x (drop half rows) T e ex in
       (put_rest p y).is ∙ ap₂ ◌++◌ ex (ey ∙ ap (lifted _ _ _ _) (lent_rest p)) ∙ rw e (lifted_halves width l T T rows long (length_transform 65537 w k l))
 
-  module _ (ex : x ≡ lifted width (2 ^ l) (2 ^ l) (untransform 65537 w k l) (take (b * width) rows))
-      (ey : y ≡ lifted width (2 ^ l) (2 ^ l) (untransform 65537 w k l) (behind (b * width) (x ++ drop (b * width) rows))) where
+  module _ (ex : x ≡ lifted width (2 ^ l) (2 ^ l) (untransform 65537 w k l) (take half rows))
+      (ey : y ≡ lifted width (2 ^ l) (2 ^ l) (untransform 65537 w k l) (behind half (x ++ drop half rows))) where
     -- what is turned is the second half unmixed
-    lent_again : behind (b * width) (put_behind (b * width) (x ++ drop (b * width) rows) y)
-        ≡ lifted width (2 ^ l) (2 ^ l) (untransform 65537 w k l) (drop (b * width) rows)
+    lent_again : behind half (put_behind half (x ++ drop half rows) y)
+        ≡ lifted width (2 ^ l) (2 ^ l) (untransform 65537 w k l) (drop half rows)
     lent_again =
-        let p = once l width b (take (b * width) rows) x (drop (b * width) rows) (untransform 65537 w k l) e ex in
+        let p = once l width half (take half rows) x (drop half rows) (untransform 65537 w k l) e ex in
         lent_rest (put_rest p y) ∙ ey ∙ ap (lifted _ _ _ _) (lent_rest p)
 
-    pub long_again : length (behind (b * width) (put_behind (b * width) (x ++ drop (b * width) rows) y)) ≡ 2 ^ l * width
-    long_again = ap length lent_again ∙ length_lifted width (2 ^ l) (2 ^ l) (untransform 65537 w k l) (drop (b * width) rows)
+    pub long_again : length (behind half (put_behind half (x ++ drop half rows) y)) ≡ 2 ^ l * width
+    long_again = ap length lent_again ∙ length_lifted width (2 ^ l) (2 ^ l) (untransform 65537 w k l) (drop half rows)
 
     pub again_words : Words 65537 rows
-        → Words 65537 (take (2 ^ l * width) (behind (b * width) (put_behind (b * width) (x ++ drop (b * width) rows) y)))
+        → Words 65537 (take (2 ^ l * width) (behind half (put_behind half (x ++ drop half rows) y)))
     again_words u =
         words_take 65537 (omega arith) (2 ^ l * width)
-        (rw lent_again (words_lifted 65537 width (2 ^ l) (2 ^ l) (untransform 65537 w k l) (drop (b * width) rows) (omega arith)
-        (λ j _. words_untransform 65537 (omega arith) w k l (words_column 65537 width (2 ^ l) j (words_drop 65537 (omega arith) (b * width) u)))))
+        (rw lent_again (words_lifted 65537 width (2 ^ l) (2 ^ l) (untransform 65537 w k l) (drop half rows) (omega arith)
+        (λ j _. words_untransform 65537 (omega arith) w k l (words_column 65537 width (2 ^ l) j (words_drop 65537 (omega arith) half u)))))
 
     pub split_rows : (first : ℕ) (z : List ℕ) → length rows ≡ 2 ^ suc l * width
-        → z ≡ sets (behind (b * width) (put_behind (b * width) (x ++ drop (b * width) rows) y)) 0 (lifted width (2 ^ l) (2 ^ l) (turned 65537 w k first)
-        (take (2 ^ l * width) (behind (b * width) (put_behind (b * width) (x ++ drop (b * width) rows) y))))
-        → put_behind (b * width) (put_behind (b * width) (x ++ drop (b * width) rows) y) z
+        → z ≡ sets (behind half (put_behind half (x ++ drop half rows) y)) 0 (lifted width (2 ^ l) (2 ^ l) (turned 65537 w k first)
+        (take (2 ^ l * width) (behind half (put_behind half (x ++ drop half rows) y))))
+        → put_behind half (put_behind half (x ++ drop half rows) y) z
         ≡ lifted width (2 ^ suc l) (2 ^ suc l) (halves_unmixed 65537 w k l first) rows
     unfolding halves_unmixed
     split_rows first z long ez =
         let n = 2 ^ l in
         let U = untransform 65537 w k l in
         let T = turned 65537 w k first in
-        let p = once l width b (take (b * width) rows) x (drop (b * width) rows) U e ex in
+        let p = once l width half (take half rows) x (drop half rows) U e ex in
         (put_rest (put_rest p y) z).is
         ∙ ap₂ ◌++◌ ex (ez ∙ sets_over _ _ (long_again ∙ sym (length_lifted width n n T _))
         ∙ ap (lifted width n n T) (take_all (2 ^ l * width) _ (omega (arith, long_again)) ∙ lent_again)
-        ∙ lifted_then width n n n U T (drop (b * width) rows) (length_untransform 65537 w k l))
+        ∙ lifted_then width n n n U T (drop half rows) (length_untransform 65537 w k l))
         ∙ rw e (lifted_halves width l U (λ c. T (U c)) rows long (length_untransform 65537 w k l))

@@ -17,28 +17,38 @@ use code::ValidStripe;
 use encoder::factors::Word;
 use mixing::direction::{Mixing, Unmixing};
 
-// Step 1: multiplies each row by its position's factor, and clears the rows of erased positions. Here and below part, marks and factors stay slices beside the
-// stripe: of a struct with references in it, part's a `&mut`, a contract would have to say at each place which of its values it means, entry's or return's.
-fn weigh(part: &mut [u32], marks: &[bool], factors: &[u32], st: ValidStripe)
-    requires marks_len { position_count st.stripe ≤ length marks.now }
-    requires factors_len { position_count st.stripe ≤ length factors.now }
-    requires factors_small { Words (modulus_of st.stripe - 1) factors.now }
-    requires part_len { length part.old ≡ stripe_words st.stripe }
-    requires words { Words (modulus_of st.stripe) part.old }
-    ensures { part.new ≡
-        lifted st.stripe.width (position_count st.stripe) (position_count st.stripe)
-        (Decoder.weighed (modulus_of st.stripe) st.stripe.level marks.now
-        (raised (modulus_of st.stripe) (generator_of st.stripe) st.stripe.level factors.now)) part.old }
+// A stripe, the marks of its positions and the words that stand for their factors. The rows stay beside it: of a struct with a `&mut` in it a contract would
+// have to say at each place which of its values it means, entry's or return's.
+#[derive(Clone, Copy)]
+struct MarkedStripe<'a> {
+    st: ValidStripe,
+    marks: &'a [bool],
+    factors: &'a [u32],
+    ghost marks_len: { position_count st.stripe ≤ length marks.now },
+    ghost factors_len: { position_count st.stripe ≤ length factors.now },
+    ghost factors_small: { Words (modulus_of st.stripe - 1) factors.now },
+}
+
+// Step 1: multiplies each row by its position's factor, and clears the rows of erased positions.
+fn weigh(part: &mut [u32], marked: MarkedStripe)
+    requires part_len { length part.old ≡ stripe_words marked.st.stripe }
+    requires words { Words (modulus_of marked.st.stripe) part.old }
+    ensures { let st = marked.entry.st.stripe in
+        part.new ≡
+        lifted st.width (position_count st) (position_count st)
+        (Decoder.weighed (modulus_of st) st.level marked.entry.marks.now
+        (raised (modulus_of st) (generator_of st) st.level marked.entry.factors.now)) part.old }
 {
+    let st = marked.st;
     let width = st.stripe.width;
     let rows = st.position_count();
     // By index: a position's row, mark and factor side by side.
     for i in 0..rows {
         let at = i * width;
-        let g = if marks[i] {
+        let g = if marked.marks[i] {
             0
         } else {
-            crate::factors_65537::factor(factors[i], st.stripe)
+            crate::factors_65537::factor(marked.factors[i], st.stripe)
         };
         encoder::scale_row(part, at, width, Word { value: g });
     }
@@ -53,7 +63,7 @@ fn unmix_halves(part: &mut [u32], st: ValidStripe)
         (Decoder.halves_unmixed (modulus_of st.stripe) (inverse (modulus_of st.stripe) (root_in st.stripe)) st.stripe.k st.stripe.level st.stripe.first)
         part.old }
 {
-    let half = st.block_count() * st.stripe.width;
+    let half = st.half_size();
     encoder::cross_half::<Unmixing>(&mut part[..half], st);
     encoder::cross_half::<Unmixing>(&mut part[half..], st);
     encoder::turn::<Unmixing>(&mut part[half..], st, 0);
@@ -74,7 +84,7 @@ fn has_low_degree(part: &[u32], st: ValidStripe, erased: usize) -> bool
 {
     let width = st.stripe.width;
     let rows = st.block_count();
-    let half = rows * width;
+    let half = st.half_size();
     (0..rows).all(|j| {
         let low = j * width;
         (code::number::reversed(st.stripe.level, j) as usize) < erased
@@ -89,7 +99,7 @@ fn derive_row(part: &mut [u32], low: usize, high: usize, width: usize, a: u32, b
     requires words { Words fermat.modulus part.old }
     ensures { part.new ≡ stored high (derive_at fermat.modulus low high a b part.old) width part.old }
 {
-    // By index: both rows stand in one slice, of which `split_at_mut` and two ranges would make four names in the place of two.
+    // By index: of what is written through `iter_mut().zip(..)`, as two rows of one slice ask for, a proof knows the length alone.
     for j in 0..width {
         let x = low + j;
         let y = high + j;
@@ -108,7 +118,7 @@ fn derive(part: &mut [u32], st: ValidStripe)
 {
     let width = st.stripe.width;
     let rows = st.block_count();
-    let half = rows * width;
+    let half = st.half_size();
     let b = field::mul(32769, rows as u32);
     // By index: row j of either half, and both halves stand in one slice.
     for j in 0..rows {
@@ -126,36 +136,35 @@ fn evaluate(part: &mut [u32], st: ValidStripe)
         lifted st.stripe.width (position_count st.stripe) (position_count st.stripe)
         (Decoder.evaluated (modulus_of st.stripe) (root_in st.stripe) st.stripe.k st.stripe.level) part.old }
 {
-    let half = st.block_count() * st.stripe.width;
+    let half = st.half_size();
     encoder::cross_half::<Mixing>(&mut part[..half], st);
     encoder::cross_half::<Mixing>(&mut part[half..], st);
 }
 
 // Step 5: the first half becomes the polynomial's values at the points of X, from the second half where the position is erased.
-fn select_values(part: &mut [u32], marks: &[bool], factors: &[u32], st: ValidStripe)
-    requires marks_len { position_count st.stripe ≤ length marks.now }
-    requires factors_len { position_count st.stripe ≤ length factors.now }
-    requires factors_small { Words (modulus_of st.stripe - 1) factors.now }
-    requires part_len { length part.old ≡ stripe_words st.stripe }
-    requires words { Words (modulus_of st.stripe) part.old }
-    ensures { part.new ≡
-        lifted st.stripe.width (position_count st.stripe) (block_count st.stripe)
-        (Decoder.selected (modulus_of st.stripe) st.stripe.level marks.now
-        (raised (modulus_of st.stripe) (generator_of st.stripe) st.stripe.level factors.now)) part.old ++
-        drop (block_words st.stripe) part.old }
+fn select_values(part: &mut [u32], marked: MarkedStripe)
+    requires part_len { length part.old ≡ stripe_words marked.st.stripe }
+    requires words { Words (modulus_of marked.st.stripe) part.old }
+    ensures { let st = marked.entry.st.stripe in
+        part.new ≡
+        lifted st.width (position_count st) (block_count st)
+        (Decoder.selected (modulus_of st) st.level marked.entry.marks.now
+        (raised (modulus_of st) (generator_of st) st.level marked.entry.factors.now)) part.old ++
+        drop (block_words st) part.old }
 {
+    let st = marked.st;
     let width = st.stripe.width;
     let rows = st.block_count();
-    let half = rows * width;
+    let half = st.half_size();
     let over = crate::factors_65537::inverse_of_square(st);
     // By index, as in `weigh`.
     for i in 0..rows {
         let at = i * width;
-        let d = crate::factors_65537::reciprocal(factors[i], st.stripe);
+        let d = crate::factors_65537::reciprocal(marked.factors[i], st.stripe);
         let g = Word {
             value: field::mul(over, d),
         };
-        if marks[i] {
+        if marked.marks[i] {
             encoder::scale_row_over(part, half + at, at, width, g);
         } else {
             encoder::scale_row(part, at, width, g);
@@ -174,21 +183,20 @@ pub fn count_erased(marks: &[bool], level: usize) -> usize
 }
 
 // Steps 3 to 5, and the inverse transform of what they give: the blocks in the first half. What is left in the second half is open.
-fn interpolate(part: &mut [u32], marks: &[bool], factors: &[u32], st: ValidStripe)
-    requires marks_len { position_count st.stripe ≤ length marks.now }
-    requires factors_len { position_count st.stripe ≤ length factors.now }
-    requires factors_small { Words (modulus_of st.stripe - 1) factors.now }
-    requires part_len { length part.old ≡ stripe_words st.stripe }
-    requires words { Words (modulus_of st.stripe) part.old }
-    ensures { take (block_words st.stripe) part.new ≡
-        lifted st.stripe.width (position_count st.stripe) (block_count st.stripe)
-        (Decoder.interpolated (modulus_of st.stripe) (root_in st.stripe) st.stripe.k st.stripe.level marks.now
-        (raised (modulus_of st.stripe) (generator_of st.stripe) st.stripe.level factors.now)) part.old }
+fn interpolate(part: &mut [u32], marked: MarkedStripe)
+    requires part_len { length part.old ≡ stripe_words marked.st.stripe }
+    requires words { Words (modulus_of marked.st.stripe) part.old }
+    ensures { let st = marked.entry.st.stripe in
+        take (block_words st) part.new ≡
+        lifted st.width (position_count st) (block_count st)
+        (Decoder.interpolated (modulus_of st) (root_in st) st.k st.level marked.entry.marks.now
+        (raised (modulus_of st) (generator_of st) st.level marked.entry.factors.now)) part.old }
 {
-    let half = st.block_count() * st.stripe.width;
+    let st = marked.st;
+    let half = st.half_size();
     derive(part, st);
     evaluate(part, st);
-    select_values(part, marks, factors, st);
+    select_values(part, marked);
     encoder::cross_half::<Unmixing>(&mut part[..half], st);
 }
 
@@ -202,7 +210,7 @@ fn unscale(part: &mut [u32], st: ValidStripe)
 {
     let rows = st.block_count();
     let over = field::inverse(rows as u32);
-    encoder::scale_row(part, 0, rows * st.stripe.width, Word { value: over });
+    encoder::scale_row(part, 0, st.half_size(), Word { value: over });
 }
 
 // Decodes the rows of a stripe, of which at least half survive, in place: whether some blocks code to all surviving words, and then the blocks in
@@ -216,11 +224,11 @@ pub fn decode(part: &mut [u32], marks: &[bool], factors: &[u32], st: ValidStripe
     ensures value { result ≡ is_consistent st.stripe marks.now part.old }
     ensures part_after { part.new ≡ left_of st.stripe marks.now part.old }
 {
-    let rows = st.block_count();
-    let half = rows * st.stripe.width;
+    let half = st.half_size();
     let erased = count_erased(marks, st.stripe.level);
+    let marked = MarkedStripe { st, marks, factors };
     if 0 < erased {
-        weigh(part, marks, factors, st);
+        weigh(part, marked);
     }
     unmix_halves(part, st);
     if !has_low_degree(part, st, erased) {
@@ -228,7 +236,7 @@ pub fn decode(part: &mut [u32], marks: &[bool], factors: &[u32], st: ValidStripe
         return false;
     }
     if 0 < erased {
-        interpolate(part, marks, factors, st);
+        interpolate(part, marked);
     } else {
         unscale(part, st);
     }

@@ -1,11 +1,10 @@
 // A row is multiplied by a factor (crate mixing): by one that is not -1, or by any word, whose products need a case for -1 times -1.
-ghost use Rattle.std.specs.Prelude.{◌≡◌, ℕ, ◌-◌, ◌<◌};
-ghost use Rattle.field.specs.Residue.{times};
+ghost use Rattle.std.specs.Prelude.{◌<◌};
 ghost use Rattle.field.specs.Field.{fermat};
 
 use mixing::direction::Factor;
 
-/// Any word of the field, as a factor.
+// Any word of the field, as a factor.
 #[derive(Clone, Copy)]
 pub struct Word {
     pub value: u32,

@@ -79,14 +79,14 @@ pub fn turn<D: Direction>(part: &mut [u32], st: ValidStripe, to: usize)
 }
 
 // Codes the blocks in the first half of the rows: X where they stand, and Y behind it. Y is turned first, while the blocks stand. What stands in the second
-// half does not matter. To mix both halves is two lines, in decoding too (`evaluate` and `unmix_halves` of the
-// crate decoder).
+// half does not matter. To cross both halves is two lines, in decoding too (`evaluate` and `unmix_halves` of
+// the crate decoder): a function of them would have the contracts of both, and each caller its own law of what they come to.
 pub fn code(part: &mut [u32], st: ValidStripe)
     requires part_len { length part.old ≡ block_words st.stripe + block_words st.stripe }
     requires words { Words (modulus_of st.stripe) (take (block_words st.stripe) part.old) }
     ensures { part.new ≡ coded_stripe st.stripe (take (block_words st.stripe) part.old) }
 {
-    let half = st.block_count() * st.stripe.width;
+    let half = st.half_size();
     turn::<Mixing>(part, st, half);
     cross_half::<Mixing>(&mut part[..half], st);
     cross_half::<Mixing>(&mut part[half..], st);

@@ -1,22 +1,18 @@
--- The call `explain`: the counts of a stripe, and what holds and is left of the origins and of the scratch where the call is taken. Assumes nothing.
-use mathlib.Core.Path.{◌≡◌, sym, ◌∙◌}
+-- The call `explain`: the counts of a stripe, and what holds of the sizes where the call is taken. Assumes nothing.
+use mathlib.Core.Path.{◌≡◌}
 use mathlib.Core.Bool.{true, false, ◌&&◌}
 use mathlib.Core.List.{List}
 use Prim.Native.Nat.{ℕ, ◌-◌, ◌^◌}
 use borrow.Author.Tests.{eqb-true}
 use lib.Dec.{eqb}
-use lib.ListN.{length, replicate}
+use lib.ListN.{length}
 use Rattle.layout.specs.declared.Header.{Header}
 use Rattle.layout.specs.Header.{header_fits, image_size, scratch_size, has_stripe}
-use Rattle.image.specs.Erasures.{Erasure, erasures_in}
-use Rattle.stripe_decoding.specs.Decoding.{decode_stripe}
-use Rattle.recovery.specs.Recovery.{Recovered}
-use Rattle.recovery.specs.Origins.{origins_size, explain}
-use Rattle.recovery.specs.RecoveryCall.{recovered_words}
+use Rattle.image.specs.Erasures.{Erasure}
+use Rattle.recovery.specs.Origins.{origins_size}
 use Rattle.explanation.specs.Counts.{counts_size, positions_left, left, shortfall}
-use Rattle.explanation.specs.ExplainCall.{explain_early, explain_origins, explain_scratch}
+use Rattle.explanation.specs.ExplainCall.{explain_early}
 use Rattle.field.proofs.Booleans.{first_true, second_true}
-use Rattle.layout.proofs.Refusals.{if_taken_lem}
 use Rattle.image.proofs.ImageRefusals.{whole}
 
 -- THE COUNTS of a stripe, which recovery needs or does not need
@@ -61,9 +57,3 @@ module _ (h : Header) (m e n o s : List ℕ) where
         named = eqb-true (length o) (origins_size h) (first_true named room t);
         room = eqb-true (length s) (scratch_size h) (second_true named room t);
       }
-
-  abbrev pub found : Recovered
-  found = explain h (decode_stripe h m (erasures_in e))
-
-  pub origins_taken : explain_early h m e n o s ≡ 0 → {o' : List ℕ} → o' ≡ recovered_words found (origins_size h) → o' ≡ explain_origins h m e n o s
-  origins_taken z p = p ∙ sym (if_taken_lem (recovered_words found (origins_size h)) o z)

@@ -18,9 +18,7 @@ fn positions_left(reading: Reading, level: usize) -> usize
     requires { level ≤ reading.header.header.k }
     ensures { result ≡ positions_left reading.entry.header.header (erasures_in reading.entry.erasures.now) level }
 {
-    // as many as the largest stripe has positions: the library has no heap
-    let mut marks = [false; 2048];
-    image::erasures::mark_stripe(reading.header, reading.erasures, level, &mut marks);
+    let marks = reading.marks(level);
     let all = code::number::two_to(level + 1);
     let erased = decoder::decoding::count_erased(&marks, level);
     all - erased
@@ -98,10 +96,5 @@ pub fn explain(
 {
     let reading = check(header, image, erasures, counts, origins, scratch)?;
     count_stripes(reading, counts);
-    // `recovery::recovering::recover` has these lines too: a function of them would take the answer and a buffer, and have the longer contract.
-    let answer = recovery::stripes::lay_stripes(reading, Content::Origins, origins, scratch);
-    if answer.is_err() {
-        origins.fill(0);
-    }
-    answer
+    recovery::stripes::lay_stripes(reading, Content::Origins, origins, scratch)
 }

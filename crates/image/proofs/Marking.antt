@@ -3,7 +3,7 @@ use mathlib.Core.Path.{◌≡◌, refl, sym, ap, ◌∙◌}
 use mathlib.Core.Bool.{Bool, true, false, ◌&&◌, ◌||◌, and-false, or-true, or-false, or_assoc}
 use mathlib.Core.List.{List, [], ◌∷◌, ◌++◌}
 use Prim.Native.Nat.{ℕ, zero, suc, min, ◌+◌, ◌*◌, ◌-◌, ◌/◌, ◌%◌, ◌^◌, ◌≤◌, ◌<◌}
-use native.Mathlib.Nat.{le-div_iff_mul-le, div-lt_iff_lt-mul, mul-le-mul_right, lt_of_mul-lt-mul_right, suc-mul}
+use native.Mathlib.Nat.{le-div_iff_mul-le, div-lt_iff_lt-mul, mul-le-mul_right, suc-mul}
 use native.Mathlib.Decide.{dec_lt}
 use native.Mathlib.Numerals.{add-one}
 use native.Mathlib.Omega.{arith}
@@ -169,19 +169,25 @@ module _ (base step : ℕ) (pos : 0 < step) where
   position_end : {i n : ℕ} → i < n → i * step + step ≤ n * step
   position_end {i} {n} h = omega (arith, suc-mul i step, mul-le-mul_right {m = suc i} {n = n} step (omega arith))
 
-  pub highest_all : (n end : ℕ) → base + n * step ≤ end → Highest base step n end n
-  highest_all n end h = record { within = omega arith; inside = λ i a. omega (arith, position_end a); behind = λ i a b. absurd (omega arith) }
+  -- by the bytes up to `end` over those of a position, rounded up
+  module _ (n end : ℕ) {count high : ℕ} (ec : count ≡ (end - base) / step + min 1 ((end - base) % step)) (eh : high ≡ min count n) where
+    bounds : (end - base ≤ count * step) × (count * step < end - base + step)
+    bounds = rw (← ec) at (div_ceil_times (end - base) step pos)
 
-  pub highest_at : (n end : ℕ) → base < end → end < base + n * step → Highest base step n end ((end - base) / step + min 1 ((end - base) % step))
-  highest_at n end a b =
-      let h = div_ceil_times (end - base) step pos in
-      record {
-        within =
-            let e : (end - base) / step + min 1 ((end - base) % step) < suc n = lt_of_mul-lt-mul_right step (omega (arith, h.1, suc-mul n step)) in
-            omega arith;
-        inside = λ i t. omega (arith, h.1, suc-mul i step, mul-le-mul_right {m = suc i} step t);
-        behind = λ i t l. omega (arith, h.0, mul-le-mul_right {n = i} step t);
-      }
+    pub highest_at : base ≤ end → Highest base step n end high
+    highest_at a =
+        record {
+          within = omega arith;
+          inside = λ i t. omega (arith, bounds.1, suc-mul i step, mul-le-mul_right {m = suc i} {n = count} step (omega arith));
+          behind = λ i t l. omega (arith, bounds.0, mul-le-mul_right {m = count} {n = i} step (omega arith));
+        }
+
+    -- the first position that is touched is not behind the last one
+    pub lowest_below : {o : ℕ} → o ≤ end → o < base + n * step → (o - base) / step ≤ high
+    lowest_below {o} b c =
+        let below : (m : ℕ) → o - base < suc m * step → (o - base) / step < suc m =
+        λ m. (div-lt_iff_lt-mul {k = step} {x = o - base} {y = suc m} pos).1 in
+        omega (arith, below count (omega (arith, bounds.0, suc-mul count step)), below n (omega (arith, suc-mul n step)))
 
   -- an erasure before the stripe, and one behind it
   pub erased_before : (n o s : ℕ) (marks : List Bool) → o + s ≤ base → Marked (mark_for base step n (erasure o s ∷ [])) marks marks
@@ -189,16 +195,6 @@ module _ (base step : ℕ) (pos : 0 < step) where
 
   pub erased_behind : (n o s : ℕ) (marks : List Bool) → base + n * step ≤ o → Marked (mark_for base step n (erasure o s ∷ [])) marks marks
   erased_behind n o s marks h = marked_none marks (λ i. mark_before base step n o s i (λ b. omega (arith, position_end b)))
-
--- the first position that is touched is not behind the last one
-pub lowest_below : {base step n o end low high : ℕ} → 0 < step → Lowest base step o low → Highest base step n end high → o ≤ end → o < base + n * step
-    → low ≤ high
-lowest_below {base} {step} {n} {o} {end} {low} {high} z l h b c = by (dec_lt high low) (dec_lt high n)
-  where
-    by : Dec (high < low) → Dec (high < n) → low ≤ high
-    by (no x) y = omega arith
-    by (yes x) (yes y) = absurd (omega (arith, l.before high x, h.behind high (omega arith) y))
-    by (yes x) (no y) = let e : high ≡ n = omega (arith, h.within) in absurd (omega (arith, rw e at (l.before high x)))
 
 -- FLAGS
 flag_at_lem : (i n : ℕ) (f : ℕ → Bool) (k : ℕ) → k < n → get_or (flags_from i n f) k false ≡ f (i + k)

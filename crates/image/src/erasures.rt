@@ -1,6 +1,7 @@
 // Erasure lists (docs/FORMAT.md, section 6), the marks of a stripe's positions, and the tests of the calls that are lent an image. Header, image, erasure list
-// and buffers are parameters, as the C interface lends them, until tests 1 to 3 have made a `Reading`; of a buffer that changes a test takes the length alone.
-// Marks are an array of 2,048, which their definition gives in whole: so the number of positions stands beside it.
+// and buffers are parameters, as the C interface lends them, until tests 1 to 3 have made a `Reading`; of a buffer that changes the tests
+// here take the length alone. Marks are an array of 2,048, which their definition gives in whole: so the number of positions
+// stands beside it.
 ghost use Rattle.std.specs.Prelude.{◌≡◌, false, ◌&&◌, true, [], ◌∷◌, ◌+◌, ◌*◌, ◌%◌, ◌≤◌, ◌<◌, ◌-◌, suc, eqb, length, replicate};
 ghost use Rattle.image.specs.Image.{number_at};
 ghost use Rattle.image.specs.Erasures.{erasures_in, erasures_rise, marks_of};
@@ -18,6 +19,15 @@ use layout::{Header, Refusal, ValidHeader};
 struct Erasure {
     offset: u32,
     size: u32,
+}
+
+impl Erasure {
+    // The offset behind its last byte.
+    fn end(self) -> usize
+        ensures { result ≡ self.offset + self.size }
+    {
+        self.offset as usize + self.size as usize
+    }
 }
 
 // A pair of an erasure list: two numbers of four bytes.
@@ -45,7 +55,7 @@ fn erasures_fit(erasures: &[u8], size: usize) -> bool
     for pair in pairs {
         let lost = Erasure::from(*pair);
         let offset = lost.offset as usize;
-        let end = offset + lost.size as usize;
+        let end = lost.end();
         if offset < least || end <= offset || size < end {
             return false;
         }
@@ -54,36 +64,45 @@ fn erasures_fit(erasures: &[u8], size: usize) -> bool
     true
 }
 
+// The positions of a stripe in an image: position i is the `step` bytes from `base + i * step` on.
+#[derive(Clone, Copy)]
+struct Places {
+    base: usize,
+    step: usize,
+    positions: usize,
+    ghost some: { 0 < step },
+    ghost inside: { base + positions * step < 4294967296 },
+}
+
 // Marks the positions that the bytes of an erasure touch.
-fn mark_touched(marks: &mut [bool], lost: Erasure, base: usize, step: usize, positions: usize)
-    requires positions_in_bounds { positions ≤ length marks.old }
-    requires step_nonzero { (0 < step) × (base + positions * step < 4294967296) }
-    ensures { Marked (mark_for base step positions (erasure lost.offset lost.size ∷ [])) marks.old marks.new }
+fn mark_touched(marks: &mut [bool], lost: Erasure, places: Places)
+    requires { places.positions ≤ length marks.old }
+    ensures { Marked (mark_for places.base places.step places.positions (erasure lost.offset lost.size ∷ [])) marks.old marks.new }
 {
+    let Places {
+        base,
+        step,
+        positions,
+    } = places;
     let offset = lost.offset as usize;
-    let end = offset + lost.size as usize;
+    let end = lost.end();
     let last = base + positions * step;
     if end <= base || last <= offset {
         return;
     }
     let low = offset.saturating_sub(base) / step;
-    let high = if end < last {
-        (end - base).div_ceil(step)
-    } else {
-        positions
-    };
+    let high = (end - base).div_ceil(step).min(positions);
     marks[low..high].fill(true);
 }
 
-// Marks the positions of a stripe that an erasure touches: position i is the `step` bytes from `base + i * step` on.
-fn mark(marks: &mut [bool], erasures: &[u8], base: usize, step: usize, positions: usize)
-    requires marks_value { (marks.old ≡ replicate 2048 false) × (positions ≤ 2048) }
-    requires step_nonzero { (0 < step) × (base + positions * step < 4294967296) }
-    ensures { marks.new ≡ marks_for base step positions (erasures_in erasures.now) }
+// Marks the positions that the erasures of a list touch.
+fn mark(marks: &mut [bool], erasures: &[u8], places: Places)
+    requires { (marks.old ≡ replicate 2048 false) × (places.positions ≤ 2048) }
+    ensures { marks.new ≡ marks_for places.base places.step places.positions (erasures_in erasures.now) }
 {
     let (pairs, _) = erasures.as_chunks::<8>();
     for pair in pairs {
-        mark_touched(marks, Erasure::from(*pair), base, step, positions);
+        mark_touched(marks, Erasure::from(*pair), places);
     }
 }
 
@@ -140,7 +159,13 @@ pub fn mark_stripe(header: ValidHeader, erasures: &[u8], level: usize, marks: &m
     requires marks_value { marks.old ≡ replicate 2048 false }
     ensures { marks.new ≡ marks_of header.header (erasures_in erasures.now) level }
 {
-    let at = 4 * header.stripe_at(level);
+    let base = 4 * header.stripe_at(level);
+    let step = 4 * header.width();
     let positions = code::number::two_to(level + 1);
-    mark(marks, erasures, at, 4 * header.width(), positions);
+    let places = Places {
+        base,
+        step,
+        positions,
+    };
+    mark(marks, erasures, places);
 }

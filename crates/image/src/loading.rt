@@ -1,8 +1,9 @@
-// A stripe's words: its bytes in an image, and the rows that are loaded from any source of words. A row is the words of one position.
+// A stripe of an image: its bytes, the marks of its positions, and the rows that are loaded from any source of words. A row is the words of one position.
 ghost use Rattle.std.specs.Prelude.{◌≡◌, true, ◌++◌, ◌+◌, ◌*◌, ◌≤◌, ◌<◌, length, drop};
 ghost use Rattle.field.specs.Words.{table};
 ghost use Rattle.code.specs.Stripe.{modulus_of, position_count, stripe_words};
 ghost use Rattle.code.specs.steps.Storing.{word_from};
+ghost use Rattle.image.specs.Erasures.{erasures_in, marks_of};
 ghost use Rattle.image.specs.Loading.{stripe_in, are_below, rows_in};
 ghost use Rattle.image.specs.steps.Loading.{columns_of};
 
@@ -20,6 +21,17 @@ impl<'a> Reading<'a> {
         let size = code::number::two_to(level + 1) * self.header.width();
         let end = start + 4 * size;
         &self.image[start..end]
+    }
+
+    // The marks of a stripe's positions.
+    pub fn marks(self, level: usize) -> [bool; 2048]
+        requires { level ≤ self.header.header.k }
+        ensures { result ≡ marks_of self.entry.header.header (erasures_in self.entry.erasures.now) level }
+    {
+        // as many as the largest stripe has positions: the library has no heap
+        let mut marks = [false; 2048];
+        crate::erasures::mark_stripe(self.header, self.erasures, level, &mut marks);
+        marks
     }
 }
 

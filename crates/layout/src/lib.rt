@@ -12,7 +12,7 @@ pub use refusal::Refusal;
 pub use valid_header::ValidHeader;
 
 // The header (docs/FORMAT.md, section 1).
-#[derive(Clone, Copy, Debug, PartialEq, Eq)]
+#[derive(Clone, Copy, Debug, Default, PartialEq, Eq)]
 pub struct Header {
     pub k: u32,
     pub s: u32,

@@ -1,5 +1,6 @@
-// Where stripes stand, their numbers, which there are, and the first empty level. That a level is at most k stays a clause: a type for it would hold the
-// header, which each of these methods has already. The full stripe is the one with the number k, here and in what stands above: so the calls name it.
+// Where stripes stand, their numbers, which there are, and the first empty level. That a level is at most k stays a clause: a type for it would be made
+// of the header that each of these methods has, and of the level, for the one call. The full stripe is the one with the number k, here and in what stands
+// above: so the calls name it.
 ghost use Rattle.std.specs.Prelude.{◌≡◌, ◌^◌, ◌≤◌, ◌<◌, suc, ℕ};
 ghost use Rattle.layout.specs.Header.{first_of, stripe_at, stripe_of, is_filled, has_stripe, first_empty};
 
@@ -68,8 +69,8 @@ pub fn is_filled(header: Header, level: usize) -> bool
     header.c as usize / code::number::two_to(level) % 2 == 1
 }
 
-// The first empty level, counted from 0: the lowest bit of c that is 0. It is a rule of the project (document 01) that a loop over
-// the bits of c yields it by a break.
+// The first empty level, counted from 0: the lowest bit of c that is 0. It is a rule of the project that a loop yields it by a break (docs/DECISIONS.md, the
+// forms of the language).
 pub fn first_empty(c: u32) -> usize
     ensures { (k : ℕ) → suc c < 2 ^ k → (result ≡ first_empty k 0 c) × (result < k) }
 {

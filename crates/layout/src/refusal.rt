@@ -1,5 +1,6 @@
-// The table of refusals (docs/FORMAT.md, section 10) as a type.
+// The table of refusals (docs/FORMAT.md, section 10) as a type, and the number of an answer.
 ghost use Rattle.std.specs.Prelude.{◌≡◌};
+ghost use Rattle.layout.specs.Refusals.{answer_number};
 
 use std::error::Error;
 use std::fmt;
@@ -50,3 +51,10 @@ impl fmt::Display for Refusal {
 }
 
 impl Error for Refusal {}
+
+// The number of an answer, 0 if the call was taken.
+pub fn number_of<T: Drop>(answer: Result<T, Refusal>) -> u32
+    ensures { result ≡ answer_number answer }
+{
+    answer.map_or_else(|refusal| refusal.number(), |_| 0)
+}

@@ -37,11 +37,11 @@ impl fmt::Display for Rack {
         let width = self.header.s as usize + 1;
         let full = Stripe {
             name: 'C',
-            words: &self.full,
+            words: self.full(),
             width,
         };
         write!(f, "{full}")?;
-        let mut rest = self.log.as_slice();
+        let mut rest = self.log();
         for level in 0..5u8 {
             let Some((words, above)) = rest.split_at_checked(width << (level + 1)) else {
                 break;

@@ -1,73 +1,75 @@
-// The rack that a listing is of: a vault in memory of its own.
+// The rack that a listing is of: a vault in memory of its own, which has room for k = 5 and s = 16.
 use layout::{Header, Refusal, ValidHeader};
-use std::alloc::{AllocError, Global};
 
-// Why there is no rack to list: the first refusal, or memory that ran out.
-#[derive(Debug, Drop)]
-pub(crate) enum Failure {
-    Refused(Refusal),
-    OutOfMemory,
+// The first so many words, or all where there are fewer: the memory is fixed, and a rack's size is not.
+fn first(words: &[u32], count: usize) -> &[u32] {
+    &words[..count.min(words.len())]
 }
 
-impl From<AllocError> for Failure {
-    fn from(_error: AllocError) -> Failure {
-        Failure::OutOfMemory
-    }
-}
-
-impl From<Refusal> for Failure {
-    fn from(refusal: Refusal) -> Failure {
-        Failure::Refused(refusal)
-    }
-}
-
-// The words of bytes, two bytes each, low byte first. A byte that is left over is none.
-fn words(alloc: Global, bytes: &[u8]) -> Result<Vec<u32>, AllocError> {
-    let (pairs, _) = bytes.as_chunks::<2>();
-    pairs
-        .iter()
-        .map(|pair| u32::from(u16::from_le_bytes(*pair)))
-        .collect(alloc)
+fn first_mut(words: &mut [u32], count: usize) -> &mut [u32] {
+    let count = count.min(words.len());
+    &mut words[..count]
 }
 
 #[derive(Drop)]
 pub(crate) struct Rack {
     pub(crate) header: Header,
-    raw: Vec<u32>,
-    pub(crate) full: Vec<u32>,
-    pub(crate) log: Vec<u32>,
+    // the header of the rack's opening, which has its sizes
+    opened: ValidHeader,
+    raw: [u32; 512],
+    full: [u32; 1088],
+    log: [u32; 1054],
 }
 
 impl Rack {
     // A rack of zero records, for k and s in racklist's ranges.
-    pub(crate) fn open(alloc: Global, k: u32, s: u32) -> Result<Rack, Failure> {
+    pub(crate) fn open(k: u32, s: u32) -> Result<Rack, Refusal> {
         if 5 < k || 16 < s {
-            return Err(Failure::Refused(Refusal::HeaderRange));
+            return Err(Refusal::HeaderRange);
         }
-        let valid = ValidHeader::try_from(Header { k, s, c: 0 })?;
-        let raw = vec![in alloc; 0; valid.raw_size()]?;
-        let mut full = vec![in alloc; 0; valid.full_size()]?;
-        let mut log = vec![in alloc; 0; valid.log_size()]?;
-        let header = store::opening::open(k, s, &raw, &mut full, &mut log)?;
+        let opened = ValidHeader::try_from(Header { k, s, c: 0 })?;
+        let mut full = [0; 1088];
+        let mut log = [0; 1054];
+        let raw = [0; 512];
+        let header = store::opening::open(
+            k,
+            s,
+            first(&raw, opened.raw_size()),
+            first_mut(&mut full, opened.full_size()),
+            first_mut(&mut log, opened.log_size()),
+        )?;
         Ok(Rack {
             header,
+            opened,
             raw,
             full,
             log,
         })
     }
 
+    pub(crate) fn full(&self) -> &[u32] {
+        first(&self.full, self.opened.full_size())
+    }
+
+    pub(crate) fn log(&self) -> &[u32] {
+        first(&self.log, self.opened.log_size())
+    }
+
     // The write that these bytes are: the record's number, then its words. A write that the input ends inside lacks words, which the call refuses.
-    pub(crate) fn write(&mut self, alloc: Global, bytes: &[u8]) -> Result<(), Failure> {
-        let words = words(alloc, bytes)?;
-        let Some((number, block)) = words.split_first() else {
-            return Err(Failure::Refused(Refusal::Length));
+    pub(crate) fn write(&mut self, bytes: &[u8]) -> Result<(), Refusal> {
+        let (pairs, _) = bytes.as_chunks::<2>();
+        let mut words = [0; 17];
+        for (word, pair) in words.iter_mut().zip(pairs) {
+            *word = u32::from(u16::from_le_bytes(*pair));
+        }
+        let Some((number, block)) = first(&words, pairs.len()).split_first() else {
+            return Err(Refusal::Length);
         };
         self.header = store::writing::write(
             self.header,
-            &mut self.raw,
-            &mut self.full,
-            &mut self.log,
+            first_mut(&mut self.raw, self.opened.raw_size()),
+            first_mut(&mut self.full, self.opened.full_size()),
+            first_mut(&mut self.log, self.opened.log_size()),
             *number,
             block,
         )?;

@@ -105,7 +105,8 @@ pub trait Direction {
         requires { turn < all }
         ensures { result ≡ pass_of unmixing turn all };
 
-    // The factors of 2^level rows that are crossed with as many, out of the table of powers. The level's bound is the table's.
+    // The factors of 2^level rows that are crossed with as many, out of the table of powers. The level's bound is the table's. Each direction has its own step,
+    // and its own law that powers so far apart are factors.
     fn powers(level: usize) -> RowPowers<'static>
         requires { level ≤ 10 }
         ensures { (result.rows ≡ 2 ^ level) × (result.step ≡ step_of unmixing level) × (result.table.now ≡ power_table) };

@@ -1,4 +1,4 @@
-// The factors of rows, out of a table of powers that is lent.
+// The factors of rows, out of a table of powers. It is a field and no constant here, since what crosses rows takes any table of which they are powers.
 ghost use Rattle.std.specs.Prelude.{◌≡◌, ◌*◌, ◌/◌, ◌%◌, ◌<◌, get_or};
 ghost use Rattle.field.specs.Field.{fermat};
 ghost use Rattle.code.specs.steps.Mixing.{RowFactors};

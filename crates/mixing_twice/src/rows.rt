@@ -36,7 +36,8 @@ fn cross_rows<D: TwoLevels, F: UnreducedFactor>(
     }
 }
 
-// Crosses four rows under the entries 2e, e and 3e of a table of powers, around it; no product where these are entry 0.
+// Crosses four rows under the entries 2e, e and 3e of a table of powers, around it; no product where these are entry 0. It takes table and entry, since a row's
+// `RowPowers` has but one of the three.
 fn cross_by<D: TwoLevels>(
     part: &mut [u32],
     at: usize,

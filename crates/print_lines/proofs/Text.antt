@@ -1,10 +1,14 @@
--- Laws of `decimal` and `lines` of specs/Text: of what std prints of a number, of one list after the other, and of one number more. Assumes nothing.
-use mathlib.Core.Path.{◌≡◌, refl, sym, ap, ◌∙◌}
+-- Laws of `decimal` and `lines` of specs/Text: of what std prints of a number, of one list after the other, of one number more, and of a line that is put
+-- behind others in a buffer. Assumes nothing.
+use mathlib.Core.Path.{◌≡◌, refl, sym, ap, ap₂, ◌∙◌}
 use mathlib.Core.List.{List, [], ◌∷◌, ◌++◌, append_assoc}
 use Prim.Native.Nat.{ℕ, zero, suc, ◌+◌, ◌/◌, ◌%◌, ◌^◌, ◌≤◌, ◌<◌}
+use native.Mathlib.Numerals.{add-one}
 use native.Mathlib.Omega.{arith}
 use borrow.Author.Tests.{lt-ltb, le-ltb}
-use lib.ListN.{length, take, get_or}
+use borrow.Rule.Slice.PartMut.{put_mid}
+use lib.ListN.{length, take, drop, set, get_or, length-append}
+use lib.Seq.{take_at, take-suc-set, length-take-le}
 use Rattle.std.specs.Fmt as Fmt
 use Rattle.std.proofs.lemmas.Fmt.{decimal_by_steps}
 use Rattle.std.proofs.lemmas.List.{take_more}
@@ -46,10 +50,21 @@ lines_append [] ys = refl
 lines_append (x ∷ xs) ys =
     ap (λ (l : List ℕ). decimal x ++ (10 ∷ l)) (lines_append xs ys) ∙ sym (append_assoc (decimal x) (10 ∷ lines xs) (lines ys))
 
--- ONE LINE MORE: what std prints of the next number, and a line feed
-pub lines_more : (l : List ℕ) (i : ℕ) → i < length l → get_or l i 0 < 2 ^ 64
-    → lines (take i l) ++ (Fmt.decimal (get_or l i 0) ++ (10 ∷ [])) ≡ lines (take (i + 1) l)
-unfolding lines
-lines_more l i b s =
-    ap (λ (t : List ℕ). lines (take i l) ++ (t ++ (10 ∷ []))) (digits_are _ s)
-    ∙ sym (ap lines (take_more l i 0 b) ∙ lines_append (take i l) (get_or l i 0 ∷ []))
+-- ONE NUMBER MORE
+pub lines_more : (l : List ℕ) (i : ℕ) → i < length l → lines (take (i + 1) l) ≡ lines (take i l) ++ lines (get_or l i 0 ∷ [])
+lines_more l i b = ap lines (take_more l i 0 b) ∙ lines_append (take i l) (get_or l i 0 ∷ [])
+
+-- A LINE THAT IS PUT into l at index i: the k digits of n, and the line feed
+module _ (l digits : List ℕ) (i k n m : ℕ) (room : i + k ≤ length l) (long : length digits ≡ k) where
+  digits_put : take (i + k) (put_mid i m l digits) ≡ take i l ++ digits
+  digits_put =
+      let behind = drop m (drop i l) in
+      ap (take (i + k)) (sym (append_assoc (take i l) digits behind))
+      ∙ take_at (take i l ++ digits) behind (i + k) (length-append (take i l) digits ∙ ap₂ ◌+◌ (length-take-le i l (omega arith)) long)
+
+  pub line_put : digits ≡ decimal n → i + k < length (put_mid i m l digits)
+      → take (i + k + 1) (set (put_mid i m l digits) (i + k) 10) ≡ take i l ++ lines (n ∷ [])
+  unfolding lines
+  line_put e b =
+      ap (λ (j : ℕ). take j (set (put_mid i m l digits) (i + k) 10)) (add-one (i + k)) ∙ take-suc-set (put_mid i m l digits) (i + k) 10 b
+      ∙ ap (λ (t : List ℕ). t ++ (10 ∷ [])) digits_put ∙ append_assoc (take i l) digits (10 ∷ []) ∙ ap (λ (t : List ℕ). take i l ++ (t ++ (10 ∷ []))) e

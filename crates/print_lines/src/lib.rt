@@ -1,69 +1,80 @@
-// What the programs that print tables share: the powers of a number, numbers as text, one to a line (`lines`, specs/Text), and the printing of a table.
+// What the programs that print tables share: the powers of a power of 3, numbers as text, one to a line (`lines`, specs/Text), and the printing of a table.
 #![tactic(auto)]
 
-ghost use Rattle.std.specs.Prelude.{◌≡◌, ◌<◌, Some, List, ℕ, IfOk, string_bytes};
+ghost use Rattle.std.specs.Prelude.{◌≡◌, ◌∷◌, [], ◌++◌, ◌+◌, ◌*◌, ◌≤◌, ◌<◌, List, ℕ, All, length, take};
+ghost use Rattle.field.specs.Power.{power};
 ghost use Rattle.field.specs.Field.{fermat, powers_of};
 ghost use Rattle.print_lines.specs.Text.{lines};
 
-use std::alloc::{AllocError, Global};
-use std::{fmt, io};
+use itoa::Buffer;
+use std::io;
 
-// The first powers of x, from that at 0 on; each is the one before times x.
-pub fn powers(alloc: Global, x: u32, count: usize) -> Result<Vec<u32>, AllocError>
-    requires { x < fermat.modulus }
-    ensures { IfOk result (λ v. v.items ≡ powers_of fermat.modulus x count) }
+// The powers of 3^step, from that at 0 on; each is the one before times 3^step.
+pub fn powers_of_three(step: u32) -> [u32; 2048]
+    ensures powers { result ≡ powers_of fermat.modulus (power fermat.modulus fermat.generator step) 2048 }
+    ensures words { All (λ y. y < fermat.modulus) result }
 {
-    let mut powers = Vec::new(alloc);
+    let x = field::power(3, step);
+    let mut powers = [0; 2048];
     let mut power = 1;
-    // `successors` would carry the power in an Option that is never None
-    for _i in 0..count {
-        powers.push(power)?;
+    for entry in powers.iter_mut() {
+        *entry = power;
         power = field::mul(x, power);
     }
-    Ok(powers)
+    powers
 }
 
-// Numbers that are displayed in lines.
-#[derive(Clone, Copy)]
-pub struct Lines<'a>(pub &'a [u32]);
+// Puts the line of a number of at most five digits into the buffer from index `at` on, and gives the index after it. In a buffer that is lent, since a String
+// could fail for want of memory.
+pub fn put_line(out: &mut [u8], at: usize, n: u32) -> usize
+    requires { (n < 100000) × (at + 6 ≤ length out.old) }
+    ensures upper_bound { result ≤ at + 6 }
+    ensures out_after { take result out.new ≡ take at out.old ++ lines (n ∷ []) }
+{
+    // `itoa` writes what `{n}` does, and cannot fail. No clause says that an `InlineText` leaves a text uncut for which it has room.
+    let mut buffer = Buffer::new();
+    let digits = buffer.format(n);
+    let end = at + digits.len();
+    out[at..end].copy_from_slice(digits.as_bytes());
+    out[end] = b'\n';
+    end + 1
+}
 
-impl fmt::Display for Lines<'_> {
-    ghost output = { λ l. Some (lines l.0.now) };
-
-    fn fmt<W: fmt::Write>(&self, f: &mut fmt::Formatter<W>) -> fmt::Result {
-        for &n in self.0 {
-            writeln!(f, "{n}")?;
-        }
-        Ok(())
+// Puts the lines of numbers of at most five digits into the buffer, from its first byte on, and gives their length.
+fn put_lines(out: &mut [u8], numbers: &[u32]) -> usize
+    requires five_digits { All (λ n. n < 100000) numbers.now }
+    requires room { 6 * length numbers.now ≤ length out.old }
+    ensures prefix_len { result ≤ length out.new }
+    ensures out_after { take result out.new ≡ lines numbers.now }
+{
+    let mut to = 0;
+    for &n in numbers {
+        to = put_line(out, to, n);
     }
+    to
 }
 
-// A table that a program prints.
+// A table that a program prints, of numbers of at most five digits.
 pub trait Table {
     ghost numbers: { List ℕ };
 
     // Computes its numbers.
-    fn compute(alloc: Global) -> Result<Vec<u32>, AllocError>
-        ensures { IfOk result (λ v. v.items ≡ numbers) };
-}
-
-// The text of a table.
-fn table_text<T: Table>(alloc: Global) -> Result<String, AllocError>
-    ensures { IfOk result (λ text. string_bytes text ≡ lines T.numbers) }
-{
-    let table = T::compute(alloc)?;
-    Lines(&table).to_string(alloc)
+    fn compute() -> [u32; 2048]
+        ensures entries { result ≡ numbers }
+        ensures five_digits { All (λ n. n < 100000) result };
 }
 
 // Writes a table's text to standard output. No contract can say what a call writes: this one says what is handed to the call.
-fn print_text<T: Table>(rt: &impl Print, text: &str) -> io::Result<()>
+fn print_text<T: Table>(rt: &impl Print, text: &[u8]) -> io::Result<()>
     requires { text.now ≡ lines T.numbers }
 {
-    rt.print(text)
+    Print::write_all(rt, text)
 }
 
 // Prints a table, computed anew.
-pub fn print<T: Table>(alloc: Global, rt: &impl Print) -> io::Result<()> {
-    let text = table_text::<T>(alloc)?;
-    print_text::<T>(rt, &text)
+pub fn print<T: Table>(rt: &impl Print) -> io::Result<()> {
+    let numbers = T::compute();
+    let mut text = [0u8; 12288];
+    let length = put_lines(&mut text, &numbers);
+    print_text::<T>(rt, &text[..length])
 }

@@ -1,14 +1,12 @@
 // The program that prints the table of logarithms (`log_table`, logarithms/specs/Logarithms), one number to a line, computed from 3 and 3^32 alone.
 #![tactic(auto)]
 
-ghost use Rattle.std.specs.Prelude.{◌≡◌, ◌<◌, All, IfOk, map};
-ghost use Rattle.field.specs.Residue.{minus};
+ghost use Rattle.std.specs.Prelude.{◌≡◌};
 ghost use Rattle.field.specs.Field.{fermat};
 ghost use Rattle.logarithms.specs.Logarithms.{log_table};
 ghost use Rattle.logarithms.specs.Logarithms;
 
 use print_lines::Table;
-use std::alloc::{AllocError, Global};
 use std::io;
 
 // Looks for the exponent from 0 up, one product a turn.
@@ -16,6 +14,7 @@ fn logarithm(x: u32) -> u32
     ensures { result ≡ Logarithms.logarithm fermat.modulus fermat.generator x }
 {
     let mut power = 1;
+    // By number: the exponent is what is looked for. `successors` and `position` would carry each power in an Option that is never None.
     for e in 0..65536u32 {
         if power == x {
             return e;
@@ -26,30 +25,17 @@ fn logarithm(x: u32) -> u32
     0
 }
 
-// The logarithm of each power less 1.
-fn logarithms(alloc: Global, powers: &[u32]) -> Result<Vec<u32>, AllocError>
-    requires { All (λ y. y < fermat.modulus) powers.now }
-    ensures { IfOk result (λ v. v.items ≡ map (λ y. Logarithms.logarithm fermat.modulus fermat.generator (minus fermat.modulus y 1)) powers.now) }
-{
-    powers
-        .iter()
-        .map(|&power| logarithm(field::sub(power, 1)))
-        .collect(alloc)
-}
-
-// The table of logarithms.
+// The table of logarithms, each that of a power less 1.
 struct Logs;
 
 impl Table for Logs {
     ghost numbers = { log_table };
 
-    fn compute(alloc: Global) -> Result<Vec<u32>, AllocError> {
-        let u = field::power(3, 32);
-        let powers = print_lines::powers(alloc, u, 2048)?;
-        logarithms(alloc, &powers)
+    fn compute() -> [u32; 2048] {
+        print_lines::powers_of_three(32).map(|power| logarithm(field::sub(power, 1)))
     }
 }
 
 fn main(rt: HostRuntime) -> io::Result<()> {
-    print_lines::print::<Logs>(rt.alloc(), &rt)
+    print_lines::print::<Logs>(&rt)
 }

@@ -5,7 +5,6 @@ ghost use Rattle.std.specs.Prelude.{◌≡◌};
 ghost use Rattle.field.specs.Field.{power_table};
 
 use print_lines::Table;
-use std::alloc::{AllocError, Global};
 use std::io;
 
 // The table of powers.
@@ -14,12 +13,11 @@ struct Powers;
 impl Table for Powers {
     ghost numbers = { power_table };
 
-    fn compute(alloc: Global) -> Result<Vec<u32>, AllocError> {
-        let x = field::power(3, 32);
-        print_lines::powers(alloc, x, 2048)
+    fn compute() -> [u32; 2048] {
+        print_lines::powers_of_three(32)
     }
 }
 
 fn main(rt: HostRuntime) -> io::Result<()> {
-    print_lines::print::<Powers>(rt.alloc(), &rt)
+    print_lines::print::<Powers>(&rt)
 }

@@ -3,7 +3,7 @@ ghost use Rattle.std.specs.Prelude.{◌≡◌, [], ◌∷◌, ◌++◌, suc, ◌
 ghost use Rattle.layout.specs.Records.{replaced};
 ghost use Rattle.range_laying.specs.Laid.{pairs_to};
 
-// Stores the pair i.
+// Stores the pair i, by its number, as the definition names it.
 pub fn put_pair(out: &mut [u32], i: usize, one: u32, other: u32)
     requires { suc i * 2 ≤ length out.old }
     ensures { out.new ≡ replaced 2 out.old i (one ∷ other ∷ []) }

@@ -22,9 +22,5 @@ pub fn recover(
 {
     let row = header.s as usize;
     let reading = image::erasures::check(header, image, erasures, row, out.len(), scratch.len())?;
-    let answer = crate::stripes::lay_stripes(reading, Content::Records, out, scratch);
-    if answer.is_err() {
-        out.fill(0);
-    }
-    answer
+    crate::stripes::lay_stripes(reading, Content::Records, out, scratch)
 }

@@ -43,7 +43,7 @@ fn lay_each(
     Ok(())
 }
 
-// What all stripes come to: the refusal and the stripe at which they stop, or the words. Where they stop the output may hold anything. The scratch is zeros.
+// What all stripes come to: the refusal and the stripe at which they stop, or the words. Where they stop the output is zeros. The scratch is zeros.
 pub fn lay_stripes(
     reading: Reading,
     content: Content,
@@ -52,12 +52,15 @@ pub fn lay_stripes(
 ) -> Result<(), Fault>
     requires { LayingFits reading.header.header content out.old scratch.old }
     ensures value { verdict_of result ≡ answer_of (stripes_laid reading.entry.header.header content reading.entry.image.now reading.entry.erasures.now) }
-    ensures out_after { (verdict_of result).number ≡ 0 →
-        out.new ≡ recovered_words (stripes_laid reading.entry.header.header content reading.entry.image.now reading.entry.erasures.now)
+    ensures out_after { out.new ≡
+        recovered_words (stripes_laid reading.entry.header.header content reading.entry.image.now reading.entry.erasures.now)
         (laid_size reading.entry.header.header content) }
     ensures scratch_after { scratch.new ≡ replicate (scratch_size reading.entry.header.header) 0 }
 {
     let answer = lay_each(reading, content, out, scratch);
+    if answer.is_err() {
+        out.fill(0);
+    }
     scratch.fill(0);
     answer
 }

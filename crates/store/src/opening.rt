@@ -7,7 +7,7 @@ ghost use Rattle.store.specs.Buffers.{reduced, full_stripe};
 ghost use Rattle.store.specs.steps.Opening.{WholeWords};
 ghost use Rattle.store.specs.StoreCalls.{open_number, opened_as, open_answer, open_leaves};
 
-use code::{Stripe, ValidStripe};
+use code::ValidStripe;
 use layout::{Header, Refusal, ValidHeader};
 
 // Stores as many words, each modulo p.

@@ -121,6 +121,7 @@ fn rebuild(header: ValidHeader, log: &mut [u32], level: usize, block: Block)
 {
     let width = header.width();
     let e = code::number::reversed(10, header.header.c as usize);
+    // one entry, by its number: `RowPowers` is of rows, each of which has a factor of its own
     let turn = Power {
         g: code::table_65537::entry(e as usize),
     };
@@ -148,7 +149,7 @@ fn check_writing(
     if block.len() != header.s as usize {
         return Err(Refusal::Length);
     }
-    // What the last tests ask, before any of them is gone by: so their order stands alone, and a wrong one is refused for a fact.
+    // what the last tests ask, before any of them is gone by: so their order stands alone
     let outside = valid.record_count() <= number as usize;
     let fit = layout::words::all_data(block);
     let blank = layout::words::is_blank(block);

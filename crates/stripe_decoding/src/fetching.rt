@@ -36,9 +36,7 @@ pub fn lay_stripe(
         out.new ≡ laid_from (lay_blocks content (stripe_of reading.entry.header.header level))
         (decode_stripe reading.entry.header.header reading.entry.image.now (erasures_in reading.entry.erasures.now) level) out.old }
 {
-    // as many as the largest stripe has positions: the library has no heap
-    let mut marks = [false; 2048];
-    image::erasures::mark_stripe(reading.header, reading.erasures, level, &mut marks);
+    let marks = reading.marks(level);
     let vault = VaultStripe::new(reading.header, level);
     let Some(ready) = ReadyStripe::new(vault, &marks) else {
         return Err(Refusal::TooFew);

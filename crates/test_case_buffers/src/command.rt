@@ -1,7 +1,4 @@
 // Commands, as they stand in standard input (reference/src/script.rs describes the format).
-use std::alloc::Global;
-use std::io;
-use std::io::Read;
 
 // A number that names nothing.
 #[derive(Debug, Drop)]
@@ -78,7 +75,7 @@ impl TryFrom<u32> for Number {
 }
 
 // A change between calls.
-#[derive(Drop)]
+#[derive(Clone, Copy)]
 pub enum Change {
     Set(Number, u32),
     // All that is lent of a buffer becomes words below a bound (0: any words), drawn from a seed.
@@ -89,8 +86,12 @@ pub enum Change {
     },
     // One word of a buffer.
     Put(Words, u32, u32),
-    // Bytes that are put into a buffer from an index on.
-    Load(Bytes, u32, Vec<u8>),
+    // So many bytes, which follow in standard input, are put into a buffer from an index on.
+    Load {
+        buffer: Bytes,
+        at: u32,
+        count: u32,
+    },
     // Bytes of the image become any bytes, drawn from a seed.
     Garble {
         from: u32,
@@ -114,46 +115,17 @@ pub enum Call {
 }
 
 // What a test does.
-#[derive(Drop)]
+#[derive(Clone, Copy)]
 pub enum Command {
     Change(Change),
     Call(Call),
 }
 
-// A number of four bytes, low byte first.
-pub fn read_number(input: &mut impl Read) -> io::Result<u32> {
-    let mut bytes = [0; 4];
-    input.read_exact(&mut bytes)?;
-    Ok(u32::from_le_bytes(bytes))
-}
+// A kind and three numbers, where they name something.
+impl TryFrom<(u8, [u32; 3])> for Command {
+    type Error = Unknown;
 
-fn read_bytes(alloc: Global, input: &mut impl Read, count: u32) -> io::Result<Vec<u8>> {
-    let mut bytes = vec![in alloc; 0; count as usize]?;
-    input.read_exact(&mut bytes)?;
-    Ok(bytes)
-}
-
-impl Command {
-    // The next command: a byte for its kind, three numbers, and the bytes that it loads. None where its numbers name nothing.
-    pub fn read(alloc: Global, input: &mut impl Read) -> io::Result<Option<Command>> {
-        let mut kind = [0];
-        input.read_exact(&mut kind)?;
-        let numbers = [
-            read_number(input)?,
-            read_number(input)?,
-            read_number(input)?,
-        ];
-        match (kind, numbers) {
-            ([3], [buffer, at, count]) => {
-                let bytes = read_bytes(alloc, input, count)?;
-                Ok(Some(Command::Change(Change::Load(Bytes::from(buffer), at, bytes))))
-            }
-            ([kind], numbers) => Ok(Command::of(kind, numbers).ok()),
-        }
-    }
-
-    // The command of a kind but loading, from its numbers.
-    fn of(kind: u8, [a, b, d]: [u32; 3]) -> Result<Command, Unknown> {
+    fn try_from((kind, [a, b, d]): (u8, [u32; 3])) -> Result<Command, Unknown> {
         Ok(match kind {
             0 => Command::Change(Change::Set(Number::try_from(a)?, b)),
             1 => Command::Change(Change::Fill {
@@ -162,6 +134,11 @@ impl Command {
                 seed: d,
             }),
             2 => Command::Change(Change::Put(Words::try_from(a)?, b, d)),
+            3 => Command::Change(Change::Load {
+                buffer: Bytes::from(a),
+                at: b,
+                count: d,
+            }),
             4 => Command::Change(Change::Garble {
                 from: a,
                 count: b,

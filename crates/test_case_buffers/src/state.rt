@@ -1,40 +1,89 @@
 // What a test's commands fill and change, and what its calls are lent.
+ghost use Rattle.std.specs.Prelude.{◌≡◌, ◌*◌, replicate};
+
 use crate::buffer::Buffer;
 use crate::command::{Bytes, Change, Number, Words};
 use layout::Header;
-use std::alloc::{AllocError, Global};
+use std::io::Read;
+
+// The memory of the buffers.
+#[derive(Drop)]
+pub struct Memory {
+    raw: [u32; 4096],
+    full: [u32; 8192],
+    log: [u32; 8192],
+    block: [u32; 256],
+    out: [u32; 4096],
+    scratch: [u32; 8192],
+    image: [u8; 65536],
+    list: [u8; 16384],
+}
+
+impl Memory {
+    pub fn zeros() -> Memory
+        ensures vault { (result.raw ≡ replicate 4096 0) × (result.full ≡ replicate 8192 0) × (result.log ≡ replicate 8192 0) }
+        ensures lent { (result.block ≡ replicate 256 0) × (result.out ≡ replicate 4096 0) × (result.scratch ≡ replicate 8192 0) }
+        ensures bytes { (result.image ≡ replicate 65536 0) × (result.list ≡ replicate 16384 0) }
+    {
+        Memory {
+            raw: [0; 4096],
+            full: [0; 8192],
+            log: [0; 8192],
+            block: [0; 256],
+            out: [0; 4096],
+            scratch: [0; 8192],
+            image: [0; 65536],
+            list: [0; 16384],
+        }
+    }
+}
 
 // A header, and the buffers of which each call is lent a part.
 #[derive(Drop)]
-pub struct State {
+pub struct State<'a> {
     pub header: Header,
-    pub raw: Buffer<u32>,
-    pub full: Buffer<u32>,
-    pub log: Buffer<u32>,
-    pub block: Buffer<u32>,
-    pub out: Buffer<u32>,
-    pub scratch: Buffer<u32>,
-    pub image: Buffer<u8>,
-    pub list: Buffer<u8>,
+    pub raw: Buffer<'a, u32>,
+    pub full: Buffer<'a, u32>,
+    pub log: Buffer<'a, u32>,
+    pub block: Buffer<'a, u32>,
+    pub out: Buffer<'a, u32>,
+    pub scratch: Buffer<'a, u32>,
+    pub image: Buffer<'a, u8>,
+    pub list: Buffer<'a, u8>,
 }
 
-impl State {
-    // Zeros, of which nothing is lent.
-    pub fn new(alloc: Global) -> Result<State, AllocError> {
-        Ok(State {
-            header: Header { k: 0, s: 0, c: 0 },
-            raw: Buffer::new(alloc, 0, 4096)?,
-            full: Buffer::new(alloc, 0, 8192)?,
-            log: Buffer::new(alloc, 0, 8192)?,
-            block: Buffer::new(alloc, 0, 256)?,
-            out: Buffer::new(alloc, 0, 4096)?,
-            scratch: Buffer::new(alloc, 0, 8192)?,
-            image: Buffer::new(alloc, 0, 65536)?,
-            list: Buffer::new(alloc, 0, 16384)?,
-        })
+impl<'a> State<'a> {
+    // A header of zeros, and buffers of which nothing is lent.
+    pub fn new(memory: &'a mut Memory) -> State<'a>
+        ensures header { (result.header.k ≡ 0) × (result.header.s ≡ 0) × (result.header.c ≡ 0) }
+        ensures vault { (result.raw.lent ≡ 0) × (result.full.lent ≡ 0) × (result.log.lent ≡ 0) }
+        ensures lent { (result.block.lent ≡ 0) × (result.out.lent ≡ 0) × (result.scratch.lent ≡ 0) }
+        ensures bytes { (result.image.lent ≡ 0) × (result.list.lent ≡ 0) }
+    {
+        let Memory {
+            raw,
+            full,
+            log,
+            block,
+            out,
+            scratch,
+            image,
+            list,
+        } = memory;
+        State {
+            header: Header::default(),
+            raw: Buffer::new(raw),
+            full: Buffer::new(full),
+            log: Buffer::new(log),
+            block: Buffer::new(block),
+            out: Buffer::new(out),
+            scratch: Buffer::new(scratch),
+            image: Buffer::new(image),
+            list: Buffer::new(list),
+        }
     }
 
-    fn words(&mut self, buffer: Words) -> &mut Buffer<u32> {
+    fn words(&mut self, buffer: Words) -> &mut Buffer<'a, u32> {
         match buffer {
             Words::Raw => &mut self.raw,
             Words::Full => &mut self.full,
@@ -45,29 +94,32 @@ impl State {
         }
     }
 
-    fn bytes(&mut self, buffer: Bytes) -> &mut Buffer<u8> {
+    fn bytes(&mut self, buffer: Bytes) -> &mut Buffer<'a, u8> {
         match buffer {
             Bytes::Image => &mut self.image,
             Bytes::List => &mut self.list,
         }
     }
 
-    pub fn change(&mut self, change: &Change) {
+    // Makes a change; what it loads is read from the input.
+    pub fn change(&mut self, change: Change, input: &mut impl Read) {
         match change {
-            Change::Set(Number::K, k) => self.header.k = *k,
-            Change::Set(Number::S, s) => self.header.s = *s,
-            Change::Set(Number::C, c) => self.header.c = *c,
-            Change::Set(Number::Words(buffer), count) => self.words(*buffer).lend(*count as usize),
-            Change::Set(Number::Bytes(buffer), count) => self.bytes(*buffer).lend(*count as usize),
+            Change::Set(Number::K, k) => self.header.k = k,
+            Change::Set(Number::S, s) => self.header.s = s,
+            Change::Set(Number::C, c) => self.header.c = c,
+            Change::Set(Number::Words(buffer), count) => self.words(buffer).lend(count as usize),
+            Change::Set(Number::Bytes(buffer), count) => self.bytes(buffer).lend(count as usize),
             Change::Fill {
                 buffer,
                 bound,
                 seed,
-            } => self.words(*buffer).fill(*bound, *seed),
-            Change::Put(buffer, at, word) => self.words(*buffer).put(*at as usize, &[*word]),
-            Change::Load(buffer, at, bytes) => self.bytes(*buffer).put(*at as usize, bytes),
+            } => self.words(buffer).fill(bound, seed),
+            Change::Put(buffer, at, word) => self.words(buffer).put(at as usize, word),
+            Change::Load { buffer, at, count } => {
+                self.bytes(buffer).load(input, at as usize, count as usize);
+            }
             Change::Garble { from, count, seed } => {
-                self.image.garble(*from as usize, *count as usize, *seed);
+                self.image.garble(from as usize, count as usize, seed);
             }
         }
     }

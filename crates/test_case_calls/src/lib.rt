@@ -4,23 +4,30 @@
 
 mod calls;
 
-use std::alloc::Global;
-use std::io;
-use std::io::Write;
+use std::io::Print;
 use test_case_buffers::command::Call;
 use test_case_buffers::state::State;
 
-// Makes a call, and prints what it answers and leaves.
-pub fn make(alloc: Global, state: &mut State, call: Call, out: &mut impl Write) -> io::Result<()> {
-    match call {
-        Call::Open => calls::open(state, out),
-        Call::Write { record } => calls::write(state, record, out),
-        Call::Read { record } => calls::read(state, record, out),
-        Call::Image => calls::image(state, out),
-        Call::Decode { stripe } => calls::decode(state, stripe, out),
-        Call::Recover => calls::recover(state, out),
-        Call::List => calls::list(alloc, state, out),
-        Call::Explain { counts } => calls::explain(state, counts as usize, out),
-        Call::Powers => calls::powers(state, out),
+// What the calls of a test are lent, and where they print.
+#[derive(Drop)]
+pub struct Test<'a, P> {
+    pub state: State<'a>,
+    pub out: &'a P,
+}
+
+impl<P: Print> Test<'_, P> {
+    // Makes a call, and prints what it answers and leaves.
+    pub fn make(&mut self, call: Call) {
+        match call {
+            Call::Open => self.open(),
+            Call::Write { record } => self.write(record),
+            Call::Read { record } => self.read(record),
+            Call::Image => self.image(),
+            Call::Decode { stripe } => self.decode(stripe),
+            Call::Recover => self.recover(),
+            Call::List => self.list(),
+            Call::Explain { counts } => self.explain(counts as usize),
+            Call::Powers => self.powers(),
+        }
     }
 }

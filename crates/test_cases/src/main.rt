@@ -2,23 +2,24 @@
 // by `cases` of reference/, whose modules script and machine describe both formats. What is printed is compared, not proved.
 #![tactic(auto)]
 
-use std::io;
-use std::io::{BufReader, BufWriter, Read, Write};
-use test_case_buffers::command::{self, Command};
-use test_case_buffers::state::State;
+use test_case_buffers::command::Command;
+use test_case_buffers::input;
+use test_case_buffers::state::{Memory, State};
+use test_case_calls::Test;
 
-// All commands: their count, and then each, but for those whose numbers name nothing. Where the input has ended, zeros are read.
-fn main(rt: HostRuntime) -> io::Result<()> {
-    let alloc = rt.alloc();
-    let mut input = BufReader::new(alloc, rt.reader())?.chain(io::repeat(0));
-    let mut out = BufWriter::new(alloc, io::writer(&rt))?;
-    let mut state = State::new(alloc)?;
-    for _ in 0..command::read_number(&mut input)? {
-        match Command::read(alloc, &mut input)? {
-            Some(Command::Change(change)) => state.change(&change),
-            Some(Command::Call(call)) => test_case_calls::make(alloc, &mut state, call, &mut out)?,
-            None => {}
+// All commands: their count, and then each, but for those whose numbers name nothing.
+fn main(rt: HostRuntime) {
+    let mut input = rt.reader();
+    let mut memory = Memory::zeros();
+    let mut test = Test {
+        state: State::new(&mut memory),
+        out: &rt,
+    };
+    for _ in 0..input::number(&mut input) {
+        match Command::try_from(input::command(&mut input)) {
+            Ok(Command::Change(change)) => test.state.change(change, &mut input),
+            Ok(Command::Call(call)) => test.make(call),
+            Err(_) => {}
         }
     }
-    out.flush()
 }

@@ -8,19 +8,12 @@ ghost use Rattle.code.specs.Stripe.{modulus_of, position_count, stripe_words};
 
 use code::{Stripe, ValidStripe};
 use layout::Refusal;
-use std::alloc::Global;
-use std::io;
-use std::io::{BufReader, BufWriter, Read, Write};
+use layout::refusal::number_of;
+use std::io::{Print, Read};
+use test_case_buffers::input::bytes;
+use test_case_buffers::output;
 
 mod input;
-
-// Codes the blocks that stand in the first half of a stripe.
-fn code(part: &mut [u32], st: ValidStripe)
-    requires part_len { length part.old ≡ stripe_words st.stripe }
-    requires words { Words (modulus_of st.stripe) part.old }
-{
-    encoder::code(part, st);
-}
 
 // Decodes a stripe in place, where at least half of its positions survive. Test 7 stands here, since that of judging is for a stripe of a vault.
 fn decode(part: &mut [u32], marks: &[bool], st: ValidStripe) -> Result<(), Refusal>
@@ -44,7 +37,7 @@ fn decode(part: &mut [u32], marks: &[bool], st: ValidStripe) -> Result<(), Refus
 
 // The numbers of a stripe, where there is one that has them and its positions have at most 8,192 words, with two more each: cases of more are skipped.
 fn stripe(level: u8, k: u8, width: u8, first: u16) -> Option<ValidStripe>
-    ensures { IfSome result (λ st. (0 < st.stripe.width) × (st.stripe.width < 256)) }
+    ensures { IfSome result (λ st. (0 < st.stripe.width) × (stripe_words st.stripe ≤ 8192)) }
 {
     let (level, k) = (usize::from(level), usize::from(k));
     let (width, first) = (usize::from(width), usize::from(first));
@@ -67,47 +60,58 @@ fn stripe(level: u8, k: u8, width: u8, first: u16) -> Option<ValidStripe>
     Some(ValidStripe { stripe })
 }
 
-fn print(out: &mut impl Write, words: &[u32]) -> io::Result<()> {
-    let mut space = "";
-    for x in words {
-        write!(out, "{space}{x}")?;
-        space = " ";
+// Reads the words of a stripe, codes the blocks in its first half, and prints all of it.
+fn code_case(input: &mut impl Read, out: &impl Print, part: &mut [u32], st: ValidStripe)
+    requires { length part.old ≡ stripe_words st.stripe }
+{
+    input::words(input, part);
+    encoder::code(part, st);
+    if let [word, words @ ..] = &part[..] {
+        output::all(out, *word, words);
     }
-    writeln!(out)
+}
+
+// Reads the marks and the words of a stripe, decodes it, and prints the number of its answer and what is left; that alone where too few positions survive.
+fn decode_case(input: &mut impl Read, out: &impl Print, part: &mut [u32], st: ValidStripe)
+    requires width_nonzero { 0 < st.stripe.width }
+    requires part_len { length part.old ≡ stripe_words st.stripe }
+{
+    let positions = st.position_count();
+    let mut all = [false; 2048];
+    let marks = &mut all[..positions];
+    input::marks(input, marks);
+    input::words(input, part);
+    let answer = decode(part, marks, st);
+    let left = if answer == Err(Refusal::TooFew) {
+        &[]
+    } else {
+        &part[..]
+    };
+    output::all(out, number_of(answer), left);
 }
 
 // One case; nothing where there is no stripe of its numbers.
-fn run_case(alloc: Global, input: &mut impl Read, out: &mut impl Write) -> io::Result<()> {
-    let [kind, level, k, width, low, high] = input::bytes::<6>(input)?;
+fn run_case(input: &mut impl Read, out: &impl Print) {
+    let [kind, level, k, width, low, high] = bytes::<6>(input);
     let first = u16::from_le_bytes([low, high]);
     let Some(st) = stripe(level, k, width, first) else {
-        return Ok(());
+        return;
     };
-    let positions = st.position_count();
-    let mut part = vec![in alloc; 0; positions * st.stripe.width]?;
+    let size = st.position_count() * st.stripe.width;
+    let mut all = [0; 8192];
+    let part = &mut all[..size];
     // the cases' format: kind 1 is decoded, any other is coded
     if kind == 1 {
-        let marks = input::marks(alloc, input, positions)?;
-        input::words(input, &mut part)?;
-        match decode(&mut part, &marks, st) {
-            Ok(()) => write!(out, "0 ")?,
-            Err(Refusal::TooFew) => return writeln!(out, "{}", Refusal::TooFew.number()),
-            Err(refusal) => write!(out, "{} ", refusal.number())?,
-        }
+        decode_case(input, out, part, st);
     } else {
-        input::words(input, &mut part)?;
-        code(&mut part, st);
+        code_case(input, out, part, st);
     }
-    print(out, &part)
 }
 
-// All cases: their count, and then each. Where the input has ended, zeros are read.
-fn main(rt: HostRuntime) -> io::Result<()> {
-    let alloc = rt.alloc();
-    let mut input = BufReader::new(alloc, rt.reader())?.chain(io::repeat(0));
-    let mut out = BufWriter::new(alloc, io::writer(&rt))?;
-    for _ in 0..u16::from_le_bytes(input::bytes(&mut input)?) {
-        run_case(alloc, &mut input, &mut out)?;
+// All cases: their count, and then each.
+fn main(rt: HostRuntime) {
+    let mut input = rt.reader();
+    for _ in 0..u16::from_le_bytes(bytes(&mut input)) {
+        run_case(&mut input, &rt);
     }
-    out.flush()
 }

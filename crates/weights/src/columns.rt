@@ -1,12 +1,12 @@
 // Columns of a word for each position, by the exponents of the positions' points in bit-reversed order: the marks, a digit of the logarithms, and their mixing.
-ghost use Rattle.std.specs.Prelude.{◌≡◌, ◌++◌, suc, ◌+◌, ◌^◌, ◌≤◌, ◌<◌, length, take, drop};
+ghost use Rattle.std.specs.Prelude.{◌≡◌, ◌++◌, suc, ◌+◌, ◌^◌, ◌<◌, length, take};
 ghost use Rattle.field.specs.Field.{fermat};
 ghost use Rattle.field.specs.Words.{Words};
 ghost use Rattle.code.specs.Transform.{bit_reversed};
 ghost use Rattle.code.specs.Convolution.{products};
 ghost use Rattle.weights.specs.steps.Digits.{flags, digits, crossed_column, sum_rows};
 
-use crate::exponents::Positions;
+use crate::exponents::{Marks, Positions};
 use mixing::direction::{Direction, Mixing, Unmixing};
 
 // A digit of the logarithms: six of their sixteen bits, those from `unit` on.
@@ -17,15 +17,13 @@ pub struct Digit {
 }
 
 // The marks, 1 where a position is erased.
-pub fn load_flags(column: &mut [u32], marks: &[bool], at: Positions)
-    requires marks_len { 2 ^ suc at.level ≤ length marks.now }
-    requires column_len { length column.old ≡ 2 ^ suc at.level }
-    ensures { column.new ≡
-        bit_reversed (suc at.level) (flags at.level marks.now) }
+pub fn load_flags(column: &mut [u32], marks: Marks)
+    requires { length column.old ≡ 2 ^ suc marks.at.level }
+    ensures { column.new ≡ bit_reversed (suc marks.entry.at.level) (flags marks.entry.at.level marks.entry.erased.now) }
 {
     for (j, word) in column.iter_mut().enumerate() {
-        let i = at.position(at.reversed(j));
-        *word = u32::from(marks[i]);
+        let i = marks.at.position(marks.at.reversed(j));
+        *word = u32::from(marks.erased[i]);
     }
 }
 

@@ -7,7 +7,7 @@ ghost use Rattle.logarithms.specs.Weights.{log_of_less};
 ghost use Rattle.logarithms.specs.Weights as Weights;
 ghost use Rattle.weights.specs.steps.Direct.{Sums, direct_at};
 
-use crate::exponents::Positions;
+use crate::exponents::{Marks, Positions};
 use crate::sums;
 
 // The logarithms of u^d - 1 for all exponents d, behind the first words.
@@ -33,17 +33,16 @@ fn add_row(sums: &mut [u32], terms: &[u32])
 }
 
 // Adds the rows of all erased positions. What stands behind the terms is open.
-fn add_rows(part: &mut [u32], marks: &[bool], at: Positions)
-    requires marks_len { 2 ^ suc at.level ≤ length marks.now }
-    requires room { 3 * 2 ^ suc at.level ≤ length part.old }
-    requires sums { Sums at.level marks.now 0 part.old }
-    ensures { Sums at.level marks.now (2 ^ suc at.level) part.new }
+fn add_rows(part: &mut [u32], marks: Marks)
+    requires room { 3 * 2 ^ suc marks.at.level ≤ length part.old }
+    requires sums { Sums marks.at.level marks.erased.now 0 part.old }
+    ensures { Sums marks.entry.at.level marks.entry.erased.now (2 ^ suc marks.entry.at.level) part.new }
 {
-    let count = at.count();
+    let count = marks.at.count();
     let (sums, terms) = part.split_at_mut(count);
-    for (j, mark) in marks[..count].iter().enumerate() {
+    for (j, mark) in marks.erased[..count].iter().enumerate() {
         if *mark {
-            let f = at.exponent(j);
+            let f = marks.at.exponent(j);
             let ahead = count - f;
             add_row(sums, &terms[ahead..ahead + count]);
         }
@@ -65,17 +64,16 @@ fn store_words(logs: &mut [u32], part: &[u32], at: Positions, shared: u32)
 }
 
 // Stores the logarithms of all positions at the beginning of their array. What is left in the part is open.
-pub fn store_direct(logs: &mut [u32], part: &mut [u32], marks: &[bool], at: Positions)
-    requires marks_len { 2 ^ suc at.level ≤ length marks.now }
-    requires logs_len { 2 ^ suc at.level ≤ length logs.old }
-    requires room { 3 * 2 ^ suc at.level ≤ length part.old }
-    ensures { logs.new ≡
-        Weights.logs at.level marks.now ++ drop (2 ^ suc at.level) logs.old }
+pub fn store_direct(logs: &mut [u32], part: &mut [u32], marks: Marks)
+    requires logs_len { 2 ^ suc marks.at.level ≤ length logs.old }
+    requires room { 3 * 2 ^ suc marks.at.level ≤ length part.old }
+    ensures { logs.new ≡ Weights.logs marks.entry.at.level marks.entry.erased.now ++ drop (2 ^ suc marks.entry.at.level) logs.old }
 {
+    let at = marks.at;
     let count = at.count();
     part[..count].fill(0);
     load_terms(part, at);
     part.copy_within(count..2 * count, 2 * count);
-    add_rows(part, marks, at);
-    store_words(logs, part, at, sums::powers_sum(marks, at));
+    add_rows(part, marks);
+    store_words(logs, part, at, sums::powers_sum(marks));
 }

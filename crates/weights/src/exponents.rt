@@ -1,15 +1,22 @@
-// Positions, the exponents of their points, and the logarithms that an exponent gives.
-ghost use Rattle.std.specs.Prelude.{◌≡◌, suc, ◌^◌, ◌≤◌, ◌<◌};
+// Positions and their marks, the exponents of their points, and the logarithms that an exponent gives.
+ghost use Rattle.std.specs.Prelude.{◌≡◌, suc, ◌^◌, ◌≤◌, ◌<◌, length};
 ghost use Rattle.code.specs.Transform as Transform;
 ghost use Rattle.logarithms.specs.Weights.{exponent_at, log_of_power, log_of_less};
 ghost use Rattle.weights.specs.steps.Digits.{position_at};
 
-// The positions of a stripe of 2^level blocks. Their marks stay a slice beside them: of a struct with a reference in it a contract would have to say at each
-// place that it means the value at entry.
+// The positions of a stripe of 2^level blocks.
 #[derive(Clone, Copy)]
 pub struct Positions {
     pub level: usize,
     ghost few: { level ≤ 10 },
+}
+
+// The marks of the positions, true where one is erased. What follows them is not read: an image's marks have room for the largest stripe.
+#[derive(Clone, Copy)]
+pub struct Marks<'a> {
+    pub at: Positions,
+    pub erased: &'a [bool],
+    ghost enough: { 2 ^ suc at.level ≤ length erased.now },
 }
 
 impl Positions {

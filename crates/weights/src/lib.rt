@@ -16,13 +16,13 @@ ghost use Rattle.std.specs.Prelude.{◌≡◌, suc, ◌++◌, ◌*◌, ◌^◌, 
 ghost use Rattle.logarithms.specs.Weights.{erased_to};
 ghost use Rattle.logarithms.specs.Weights as Weights;
 
-use exponents::Positions;
+use exponents::{Marks, Positions};
 
 // From this level on the convolution takes no longer than the sums made directly, or hardly longer, where half of the positions are erased; and it grows less.
 const CONVOLVED_FROM: usize = 9;
 
 // Stores the logarithms of all positions at the beginning of an array. The words of the part serve to compute these: what is left there is open.
-// The level comes as a number, and is made `Positions` here.
+// The level comes as a number beside the marks, and both are made `Marks` here.
 pub fn store_logs(logs: &mut [u32], part: &mut [u32], marks: &[bool], level: usize)
     requires level_bound { level ≤ 10 }
     requires level_in_bounds { 2 ^ suc level ≤ length marks.now }
@@ -31,10 +31,13 @@ pub fn store_logs(logs: &mut [u32], part: &mut [u32], marks: &[bool], level: usi
     requires room { 3 * 2 ^ suc level ≤ length part.old }
     ensures { logs.new ≡ Weights.logs level marks.now ++ drop (2 ^ suc level) logs.old }
 {
-    let at = Positions { level };
+    let marks = Marks {
+        at: Positions { level },
+        erased: marks,
+    };
     if level < CONVOLVED_FROM {
-        direct::store_direct(logs, part, marks, at);
+        direct::store_direct(logs, part, marks);
     } else {
-        convolved::store_convolved(logs, part, marks, at);
+        convolved::store_convolved(logs, part, marks);
     }
 }

@@ -1,5 +1,5 @@
 -- `encoder::code` meets its contract: the blocks are turned over the second half, and each half is mixed in its place. Assumes nothing.
-use Rattle.std.proofs.Common.{◌≡◌, List, ◌++◌, ℕ, suc, ◌+◌, ◌*◌, ◌-◌, ◌^◌, length, take, drop, sym, ap, ap₂, subst, ◌∙◌, arith}
+use Rattle.std.proofs.Common.{◌≡◌, List, ◌++◌, ℕ, suc, ◌+◌, ◌-◌, ◌^◌, length, take, drop, sym, ap, ap₂, subst, ◌∙◌, arith}
 use borrow.Rule.Slice.PartMut.{put_mid}
 use lib.Dec.{lit<}
 use lib.Seq.{sets, take_at, length-take-le}
@@ -75,20 +75,18 @@ module _ (st : Stripe) (n : ℕ) (u v x : List ℕ) (half_is : n ≡ block_words
 pub cross_half-requires-clause-words : goal.cross_half-requires-clause-words
 cross_half-requires-clause-words c =
     let st = c.args.st.stripe in
-    let half_is = ap (λ (n : ℕ). n * st.width) c.block_count.ensures in
-    front_words _ _ (turned_behind st c.args.part.now c.requires.part_len half_is c.turn.ensures)
-    (length-take-le (block_words st) c.args.part.now (omega (arith, c.requires.part_len)) ∙ sym half_is) c.requires.words
+    front_words _ _ (turned_behind st c.args.part.now c.requires.part_len c.half_size-half.ensures c.turn.ensures)
+    (length-take-le (block_words st) c.args.part.now (omega (arith, c.requires.part_len)) ∙ sym c.half_size-half.ensures) c.requires.words
 
 pub cross_half-requires-2-clause-words : goal.cross_half-requires-2-clause-words
 cross_half-requires-2-clause-words c =
     let st = c.args.st.stripe in
-    let half_is = ap (λ (n : ℕ). n * st.width) c.block_count.ensures in
-    mix_words st (c.block_count.result * st.width) c.args.part.now c.turn.new.part c.cross_half.new.half half_is c.requires.part_len
-    (turned_behind st c.args.part.now c.requires.part_len half_is c.turn.ensures) c.cross_half.ensures
+    mix_words st c.half_size-half.result c.args.part.now c.turn.new.part c.cross_half.new.half c.half_size-half.ensures c.requires.part_len
+    (turned_behind st c.args.part.now c.requires.part_len c.half_size-half.ensures c.turn.ensures) c.cross_half.ensures
 
 pub returns : goal.returns
 returns c =
     let st = c.args.st.stripe in
-    let half_is = ap (λ (n : ℕ). n * st.width) c.block_count.ensures in
-    all_coded st (c.block_count.result * st.width) c.args.part.now c.turn.new.part c.cross_half.new.half half_is c.requires.part_len
-    (turned_behind st c.args.part.now c.requires.part_len half_is c.turn.ensures) c.cross_half.ensures c.cross_half-2.new.half c.cross_half-2.ensures
+    all_coded st c.half_size-half.result c.args.part.now c.turn.new.part c.cross_half.new.half c.half_size-half.ensures c.requires.part_len
+    (turned_behind st c.args.part.now c.requires.part_len c.half_size-half.ensures c.turn.ensures) c.cross_half.ensures
+    c.cross_half-2.new.half c.cross_half-2.ensures

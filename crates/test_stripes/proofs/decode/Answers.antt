@@ -1,18 +1,15 @@
 -- `test_stripes::decode` is safe and ends: it decodes only where its count of erased positions shows that half survive, and its factors are the logarithms of
 -- the weights with zeros behind them. Assumes nothing.
-use Rattle.std.proofs.Common.{◌≤◌, ℕ, List, suc, drop, replicate, arith}
+use Rattle.std.proofs.Common.{ℕ, List, drop, replicate, arith}
 use lib.Dec.{lit<}
-use lib.Pow.{pow_mono}
 use Rattle.field.specs.Words.{Words}
 use Rattle.field.proofs.WordLists.{words_replicate, words_drop}
 use Rattle.code.specs.declared.Stripe.{Stripe}
-use Rattle.code.specs.Stripe.{Numbers, position_count}
+use Rattle.code.specs.Stripe.{position_count}
 use Rattle.decoder.proofs.Survivors.{enough, erased_half}
 use Rattle.decoder.proofs.FactorWords.{logs_factors}
+use Rattle.test_stripes.proofs.Room.{room}
 use Rattle.test_stripes.proofs.decode.Goals as goal
-
-room : (st : Stripe) → Numbers st → position_count st ≤ 2048
-room st n = pow_mono {i = suc st.level} {j = 11} (omega (arith, n.within, n.small))
 
 -- what stands behind the logarithms
 abbrev behind : Stripe → List ℕ

@@ -1,6 +1,6 @@
 -- `decoder::decoding::decode` meets its contract: the rows are weighed, or stand as they are where nothing is erased, the check on S and D is `consistent`, and
 -- the blocks are those decoded, either way. Assumes nothing.
-use Rattle.std.proofs.Common.{arith, ◌≡◌, ◌≤◌, ◌∙◌, sym, ap, ap₂, Bool, true, false, List, ◌++◌, ℕ, ◌+◌, ◌*◌, ◌-◌, length, take, drop, replicate}
+use Rattle.std.proofs.Common.{arith, ◌≡◌, ◌≤◌, ◌∙◌, sym, ap, ap₂, Bool, true, false, List, ◌++◌, ℕ, ◌+◌, ◌-◌, length, take, drop, replicate}
 use lib.Dec.{lit<}
 use borrow.Rule.Slice.PartMut.{put_mid}
 use lib.ListN.{take-append-drop, length-drop}
@@ -97,10 +97,7 @@ module _ {st : Stripe} {ms : List Bool} {ws rows : List ℕ} {e : ℕ} (g : Give
         ∙ ap (λ (b : List ℕ). b ++ replicate (block_words st) 0) eb
         ∙ sym (leaves_blocks 65537 (root_in st) st.k st.level st.first st.width ms rows (sym c))
 
--- WHERE THE TWO WAYS JOIN, the part weighed or as it is: the words of a half, what is asked, and the part
-half_at : (c : Joined-erased-gt0) → c.block_count-rows.result * c.args.st.stripe.width ≡ block_words c.args.st.stripe
-half_at c = ap (λ (n : ℕ). n * c.args.st.stripe.width) c.block_count-rows.ensures
-
+-- WHERE THE TWO WAYS JOIN, the part weighed or as it is: what is asked, and the part
 given_at : (c : Joined-erased-gt0) → let a = c.args in Given a.st.stripe a.marks.now a.factors.now a.part.now c.count_erased-erased.result
 given_at c =
     let r = c.requires in
@@ -132,7 +129,7 @@ returns-then-not-has_low_degree c =
     (sym c.if-not-has_low_degree.true ∙ c.has_low_degree.ensures) in
     record {
       value = e;
-      part_after = refused (given_at j) c.unmix_halves.new.part (half_at j) (omega arith) e (c.fill.ensures.after (λ y q. q));
+      part_after = refused (given_at j) c.unmix_halves.new.part c.half_size-half.ensures (omega arith) e (c.fill.ensures.after (λ y q. q));
     }
 
 pub interpolate-requires-clause-words : goal.interpolate-requires-clause-words
@@ -158,5 +155,5 @@ returns c =
     ] in
     record {
       value = e;
-      part_after = decoded (given_at j) c.if-erased-gt0-2.part (half_at j) (omega arith) e b (c.fill-2.ensures.after (λ y q. q));
+      part_after = decoded (given_at j) c.if-erased-gt0-2.part c.half_size-half.ensures (omega arith) e b (c.fill-2.ensures.after (λ y q. q));
     }

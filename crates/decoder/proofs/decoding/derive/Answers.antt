@@ -1,5 +1,5 @@
 -- `decoder::decoding::derive` meets its contract. Assumes nothing.
-use Rattle.std.proofs.Common.{arith, ◌≡◌, ◌*◌, ◌^◌, ◌≤◌, ◌∙◌, ℕ, ap}
+use Rattle.std.proofs.Common.{arith, ◌≡◌, ◌^◌, ◌≤◌, ◌∙◌, ℕ, ap}
 use native.Mathlib.Nat.{add-zero, zero-mul}
 use lib.Dec.{lit<}
 use lib.Pow.{pow_mono}
@@ -21,13 +21,14 @@ half level en eb = eb ∙ ap (times 65537 32769) en
 pub loop-j-init : goal.loop-j-init
 loop-j-init c =
     let a = c.args in
-    let n = c.block_count-rows.result in
+    let h = c.half_size-half.result in
     let w = a.st.stripe.width in
     record {
       rows_is = c.block_count-rows.ensures;
-      long = c.requires.part_len ∙ rw c.block_count-rows.ensures (two_halves a.st.stripe.level a.st.stripe.width);
+      half_is = c.half_size-half.ensures;
+      long = omega (arith, two_halves a.st.stripe.level a.st.stripe.width);
       b_is = half a.st.stripe.level c.block_count-rows.ensures c.mul-b.ensures;
-      storing = rw (zero-mul w, add-zero (n * w)) (storing_rows_start (n * w) (derive_word 65537 a.st.stripe.level w a.part.now) n w a.part.now);
+      storing = rw (zero-mul w, add-zero h) (storing_rows_start h (derive_word 65537 a.st.stripe.level w a.part.now) c.block_count-rows.result w a.part.now);
     }
 
 pub add-a-requires : goal.add-a-requires
@@ -53,4 +54,4 @@ pub returns : goal.returns
 returns c =
     let h = c.loop-j.invariant in
     storing_rows_done h.storing c.loop-j-test.false
-    ∙ rw h.rows_is (derive_rows 65537 c.args.st.stripe.level c.args.st.stripe.width c.args.part.now c.requires.part_len)
+    ∙ rw (h.rows_is, h.half_is) (derive_rows 65537 c.args.st.stripe.level c.args.st.stripe.width c.args.part.now c.requires.part_len)

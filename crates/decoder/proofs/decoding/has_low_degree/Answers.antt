@@ -1,5 +1,5 @@
 -- `decoder::decoding::has_low_degree` meets its contract. Assumes nothing.
-use Rattle.std.proofs.Common.{rules, refl, ◌≡◌, ◌+◌, ◌*◌, ◌^◌, ◌≤◌, ◌<◌, ◌||◌, ltb, suc, ℕ, List, Bool, true, false, ap, arith}
+use Rattle.std.proofs.Common.{rules, refl, ◌≡◌, ◌+◌, ◌*◌, ◌^◌, ◌≤◌, ◌<◌, ◌||◌, ltb, suc, ℕ, List, Bool, true, false, arith}
 use Rattle.std.proofs.lemmas.Iterator.{cases_from_all, YieldsList-from_range, serves_from_Range}
 use borrow.Author.Tests.{tests}
 use Rattle.code.specs.Transform.{reversed}
@@ -12,24 +12,24 @@ use Rattle.decoder.proofs.decoding.has_low_degree.Goals as goal
 abbrev tested : (level erased width half : ℕ) → (part : List ℕ) → (j : ℕ) → Bool
 tested l e w h r j = ltb (reversed l j) e || all_to w (same_at (j * w) (h + j * w) r)
 
-low_told : (l e w : ℕ) (r : List ℕ) {n : ℕ} {b : Bool} → n ≡ 2 ^ l → b ≡ all_to n (tested l e w (n * w) r) → b ≡ low_rows l e w r
+low_told : (l e w : ℕ) (r : List ℕ) {n h : ℕ} {b : Bool} → n ≡ 2 ^ l → h ≡ 2 ^ l * w → b ≡ all_to n (tested l e w h r) → b ≡ low_rows l e w r
 unfolding low_row_at
-low_told l e w r s h = rw s at h
+low_told l e w r s t b = rw (s, t) at b
 
 -- row j of either half ends inside
-room : (l w : ℕ) {n m j : ℕ} → n ≡ 2 ^ l → m ≡ 2 ^ suc l * w → j < n → n * w + j * w + w ≤ m
-room l w s e b = omega (arith, e, ap (λ (n : ℕ). n * w) s, row_in w b, two_halves l w)
+room : (l w : ℕ) {n h m j : ℕ} → n ≡ 2 ^ l → h ≡ 2 ^ l * w → m ≡ 2 ^ suc l * w → j < n → h + j * w + w ≤ m
+room l w s t e b = omega (arith, row_in w (rw s at b), two_halves l w)
 
 pub all-requires-clause-callable : goal.all-requires-clause-callable
 all-requires-clause-callable c =
     let st = c.args.st.stripe in
-    serves_from_Range (λ j q k. search rules) (λ j a b. omega (arith, room st.level st.width c.block_count-rows.ensures c.requires b))
+    serves_from_Range (λ j q k. search rules) (λ j a b. omega (arith, room st.level st.width c.block_count-rows.ensures c.half_size-half.ensures c.requires b))
 
 pub returns : goal.returns
 returns c =
     let st = c.args.st.stripe in
     let n = c.block_count-rows.result in
-    let f = tested st.level c.args.erased st.width (n * st.width) c.args.part.now in
-    low_told st.level c.args.erased st.width c.args.part.now c.block_count-rows.ensures
+    let f = tested st.level c.args.erased st.width c.half_size-half.result c.args.part.now in
+    low_told st.level c.args.erased st.width c.args.part.now c.block_count-rows.ensures c.half_size-half.ensures
     (all_told n f (cases_from_all _ _ _ (λ j. f j ≡ true) (λ j. f j ≡ false) c.all.ensures.ran (YieldsList-from_range 0 n n refl (omega arith))
     (λ j q k. search (rules, tests)) (λ j q k. search (rules, tests))))

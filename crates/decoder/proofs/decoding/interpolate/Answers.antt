@@ -1,5 +1,5 @@
 -- `decoder::decoding::interpolate` meets its contract: each step is done to the columns that the one before it left. Assumes nothing.
-use Rattle.std.proofs.Common.{◌≡◌, ◌*◌, ◌++◌, ◌∙◌, List, Bool, ℕ, ap, length, take, drop}
+use Rattle.std.proofs.Common.{◌≡◌, ◌++◌, ◌∙◌, List, Bool, ℕ, length, take, drop}
 use lib.Dec.{lit<}
 use lib.Seq.{take_at}
 use Rattle.field.specs.Power.{inverse}
@@ -54,29 +54,28 @@ module _ (st : Stripe) (ms : List Bool) (ws rows : List ℕ) (long : length rows
 
 pub evaluate-requires-clause-words : goal.evaluate-requires-clause-words
 evaluate-requires-clause-words c =
-    let a = c.args in
-    holds_words (derive_holds a.st.stripe a.marks.now a.factors.now a.part.now c.requires.part_len c.derive.ensures) (lit< tt) c.requires.words
+    let m = c.args.marked in
+    holds_words (derive_holds m.st.stripe m.marks.now m.factors.now c.args.part.now c.requires.part_len c.derive.ensures) (lit< tt) c.requires.words
 
 pub select_values-requires-clause-words : goal.select_values-requires-clause-words
 select_values-requires-clause-words c =
-    let a = c.args in
-    let D = derive_holds a.st.stripe a.marks.now a.factors.now a.part.now c.requires.part_len c.derive.ensures in
-    holds_words (evaluate_holds a.st.stripe a.marks.now a.factors.now a.part.now c.requires.part_len D c.evaluate.ensures) (lit< tt) c.requires.words
+    let m = c.args.marked in
+    let D = derive_holds m.st.stripe m.marks.now m.factors.now c.args.part.now c.requires.part_len c.derive.ensures in
+    holds_words (evaluate_holds m.st.stripe m.marks.now m.factors.now c.args.part.now c.requires.part_len D c.evaluate.ensures) (lit< tt) c.requires.words
 
 pub cross_half-requires-clause-words : goal.cross_half-requires-clause-words
 cross_half-requires-clause-words c =
-    let a = c.args in
-    let D = derive_holds a.st.stripe a.marks.now a.factors.now a.part.now c.requires.part_len c.derive.ensures in
-    let V = evaluate_holds a.st.stripe a.marks.now a.factors.now a.part.now c.requires.part_len D c.evaluate.ensures in
-    let h = ap (λ (n : ℕ). n * a.st.stripe.width) c.block_count.ensures in
-    holds_words (select_holds a.st.stripe a.marks.now a.factors.now a.part.now c.requires.part_len V h c.select_values.ensures) (lit< tt) c.requires.words
+    let m = c.args.marked in
+    let D = derive_holds m.st.stripe m.marks.now m.factors.now c.args.part.now c.requires.part_len c.derive.ensures in
+    let V = evaluate_holds m.st.stripe m.marks.now m.factors.now c.args.part.now c.requires.part_len D c.evaluate.ensures in
+    let O = select_holds m.st.stripe m.marks.now m.factors.now c.args.part.now c.requires.part_len V c.half_size-half.ensures c.select_values.ensures in
+    holds_words O (lit< tt) c.requires.words
 
 pub returns : goal.returns
 returns c =
-    let a = c.args in
-    let D = derive_holds a.st.stripe a.marks.now a.factors.now a.part.now c.requires.part_len c.derive.ensures in
-    let V = evaluate_holds a.st.stripe a.marks.now a.factors.now a.part.now c.requires.part_len D c.evaluate.ensures in
-    let O = select_holds a.st.stripe a.marks.now a.factors.now a.part.now c.requires.part_len V
-    (ap (λ (n : ℕ). n * a.st.stripe.width) c.block_count.ensures) c.select_values.ensures in
-    let U = unmix_holds a.st.stripe a.marks.now a.factors.now a.part.now c.requires.part_len O c.cross_half.ensures in
-    take_at c.cross_half.new.half _ (block_words a.st.stripe) (holds_length U) ∙ U.is
+    let m = c.args.marked in
+    let D = derive_holds m.st.stripe m.marks.now m.factors.now c.args.part.now c.requires.part_len c.derive.ensures in
+    let V = evaluate_holds m.st.stripe m.marks.now m.factors.now c.args.part.now c.requires.part_len D c.evaluate.ensures in
+    let O = select_holds m.st.stripe m.marks.now m.factors.now c.args.part.now c.requires.part_len V c.half_size-half.ensures c.select_values.ensures in
+    let U = unmix_holds m.st.stripe m.marks.now m.factors.now c.args.part.now c.requires.part_len O c.cross_half.ensures in
+    take_at c.cross_half.new.half _ (block_words m.st.stripe) (holds_length U) ∙ U.is

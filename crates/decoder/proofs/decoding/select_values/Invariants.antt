@@ -81,4 +81,4 @@ module _ {st : Stripe} {ms : List Bool} {ws part₀ part : List ℕ} {over i : �
     survives m = turn (i * st.width) (λ c t. rw (picked, m) (storing_rows_rest h.storing (i * st.width + c) (omega arith)))
 
 abbrev pub invariant-loop-i : goal.invariant-loop-i
-invariant-loop-i l = Inv l.st.stripe l.marks l.factors l.fn.part l.part l.over l.i
+invariant-loop-i l = Inv l.st.stripe l.marked.marks.now l.marked.factors.now l.fn.part l.part l.over l.i

@@ -22,4 +22,4 @@ returns c =
     let e : c.inverse-over.result ≡ inverse 65537 (2 ^ l % 65537) =
     c.inverse-over.ensures ∙ ap (inverse 65537) (c.block_count-rows.ensures ∙ sym (mod-eq_of_lt (omega arith))) in
     c.scale_row.ensures
-    ∙ rw (c.block_count-rows.ensures, e) (unscale_rows 65537 l c.args.st.stripe.width (inverse 65537 (2 ^ l % 65537)) c.args.part.now c.requires.part_len)
+    ∙ rw (c.half_size.ensures, e) (unscale_rows 65537 l c.args.st.stripe.width (inverse 65537 (2 ^ l % 65537)) c.args.part.now c.requires.part_len)

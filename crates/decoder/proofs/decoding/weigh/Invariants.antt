@@ -27,5 +27,6 @@ module _ (st : Stripe) (ms : List Bool) (ws : List ℕ) (i : ℕ) {g : ℕ} wher
 
 abbrev pub invariant-loop-i : goal.invariant-loop-i
 invariant-loop-i l =
-    StoringRows 0 (scaled_rows_word (modulus_of l.st.stripe) l.width (multipliers l.st.stripe l.marks l.factors) l.fn.part) l.rows l.width l.fn.part l.part
-    (l.i * l.width) l.i
+    let m = l.marked in
+    StoringRows 0 (scaled_rows_word (modulus_of l.st.stripe) l.width (multipliers l.st.stripe m.marks.now m.factors.now) l.fn.part) l.rows l.width l.fn.part
+    l.part (l.i * l.width) l.i

@@ -13,7 +13,7 @@ pub count_erased-erased-requires-clause-level_in_bounds :
 count_erased-erased-requires-clause-level_in_bounds c =
     let a = c.args in
     let h = a.reading.header in
-    marks_fit h.header a.level {st = stripe_of h.header a.level} refl (erasures_in a.reading.erasures.now) h.fits c.requires c.mark_stripe.ensures
+    marks_fit h.header a.level {st = stripe_of h.header a.level} refl (erasures_in a.reading.erasures.now) h.fits c.requires c.marks-marks.ensures
 
 -- the positions, and those of them that are erased
 pub returns : goal.returns
@@ -21,5 +21,5 @@ returns c =
     let a = c.args in
     let all : c.two_to-all.result ≡ 2 ^ suc a.level = c.two_to-all.ensures ∙ rw add-one in
     let erased : c.count_erased-erased.result ≡ erased_count a.level (marks_of a.reading.header.header (erasures_in a.reading.erasures.now) a.level) =
-    c.count_erased-erased.ensures ∙ ap (erased_count a.level) c.mark_stripe.ensures in
+    c.count_erased-erased.ensures ∙ ap (erased_count a.level) c.marks-marks.ensures in
     omega (arith, all, erased, no_more (marks_of a.reading.header.header (erasures_in a.reading.erasures.now) a.level) a.level)

@@ -12,14 +12,14 @@ returns-then-offset-least c =
     let p = is_pair c.args.erasures.now c.as_chunks.ensures.front (omega arith) c.from-lost.ensures in
     refused c.args.erasures.now (elim c.then-offset-least.branch [
       | then-offset-least-via-then-offset-least w ↦ rise_low r p w.if-offset-least.true
-      | then-offset-least-via-else-offset-least+then-end-offset w ↦ rise_empty r p w.if-end-offset.true
-      | then-offset-least-via-else-offset-least+else-end-offset+then-size-end w ↦ rise_over r p w.if-size-end.true
+      | then-offset-least-via-else-offset-least+then-end-offset w ↦ rise_empty r p (rw c.end-end.ensures at w.if-end-offset.true)
+      | then-offset-least-via-else-offset-least+else-end-offset+then-size-end w ↦ rise_over r p (rw c.end-end.ensures at w.if-size-end.true)
     ])
 
 pub loop-pair-preserved : goal.loop-pair-preserved
 loop-pair-preserved c =
     let p = is_pair c.args.erasures.now c.as_chunks.ensures.front (omega arith) c.from-lost.ensures in
-    rise_turn c.loop-pair.invariant p c.if-offset-least.false c.if-end-offset.false c.if-size-end.false
+    rw c.end-end.ensures (rise_turn c.loop-pair.invariant p c.if-offset-least.false (omega arith) (omega arith))
 
 pub returns : goal.returns
 returns c =

@@ -5,7 +5,7 @@ use Rattle.image.proofs.Marking.{mark_start, mark_turn, mark_end}
 use Rattle.image.proofs.erasures.mark.Goals as goal
 
 pub loop-pair-init : goal.loop-pair-init
-loop-pair-init c = mark_start c.requires.marks_value.0
+loop-pair-init c = mark_start c.requires.0
 
 pub loop-pair-preserved : goal.loop-pair-preserved
 loop-pair-preserved c =

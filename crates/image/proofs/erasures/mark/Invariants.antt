@@ -3,4 +3,4 @@ use Rattle.image.proofs.Marking.{MarkLoop}
 use Rattle.image.proofs.erasures.mark.Given as goal
 
 abbrev pub invariant-loop-pair : goal.invariant-loop-pair
-invariant-loop-pair l = MarkLoop l.base l.step l.positions l.erasures 2048 l.marks l.pair-index
+invariant-loop-pair l = MarkLoop l.places.base l.places.step l.places.positions l.erasures 2048 l.marks l.pair-index

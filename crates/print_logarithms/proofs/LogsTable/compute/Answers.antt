@@ -1,36 +1,37 @@
--- `print_logarithms::Logs` is the table of logarithms: the powers are words, and their logarithms are the table's. Assumes nothing.
-use Rattle.std.proofs.Common.{rules, ◌≡◌, refl, ap, ◌∙◌, ℕ, List, ◌∷◌, map, zero, suc, arith}
+-- `print_logarithms::Logs` is the table of logarithms: each power is a word, and what a call gives of it is its entry. Assumes nothing.
+use Rattle.std.proofs.Common.{◌≡◌, ◌<◌, All, List, ℕ, suc, [], ◌∷◌, get_or, length, subst, ap, ◌∙◌, arith, rules, lit<}
+use Rattle.std.specs.Iterator.{Yields}
+use Rattle.std.specs.Array.{list_steps}
 use Rattle.std.proofs.lemmas.Grind.{get_or_default_zero}
 use Rattle.field.specs.Residue.{minus}
 use Rattle.field.specs.Power.{power}
-use Rattle.field.specs.Words.{table}
-use Rattle.field.specs.Field.{powers_of}
-use Rattle.field.proofs.Powers.{power_lt}
+use Rattle.field.proofs.WordLists.{is_table}
+use Rattle.field.proofs.PowerTables.{powers_entry}
 use Rattle.logarithms.specs.Logarithms.{logarithm, logs_of, log_table}
-use Rattle.logarithms.proofs.Logarithms.{powers_lt}
+use Rattle.logarithms.proofs.Logarithms.{log_lt}
 use Rattle.print_logarithms.proofs.LogsTable.compute.Goals as goal
 
-map_table : (n : ℕ) (f g : ℕ → ℕ) → map f (table n g) ≡ table n (λ i. f (g i))
-unfolding table
-map_table zero f g = refl
-map_table (suc n) f g = ap (λ (l : List ℕ). f (g 0) ∷ l) (map_table n f (λ k. g (suc k)))
+-- what holds of each element of a list holds of one that comes after others
+of_next : (P : ℕ → Type 0) (xs l t u : List ℕ) (x : ℕ) → All P l → Yields list_steps l xs t → t ≡ x ∷ u → P x
+of_next P [] l t u x all y e = let s : l ≡ x ∷ u = y ∙ e in subst P (ap (λ (v : List ℕ). get_or v 0 x) s) (all 0 x (omega (arith, ap length s)))
+of_next P (z ∷ xs) l t u x all y e =
+    of_next P xs y.0 t u x (λ k d b. subst P (ap (λ (v : List ℕ). get_or v (suc k) d) y.1) (all (suc k) d (omega (arith, ap length y.1)))) y.2 e
 
-logs_are : (p g u n : ℕ) → map (λ y. logarithm p g (minus p y 1)) (powers_of p u n) ≡ logs_of p g u n
-unfolding powers_of logs_of
-logs_are p g u n = map_table n (λ y. logarithm p g (minus p y 1)) (power p u)
-
-pub powers-requires : goal.powers-requires
-powers-requires c = rw c.power-u.ensures (power_lt 65537 (omega arith) _ _)
-
-pub logarithms-requires : goal.logarithms-requires
-logarithms-requires c k d b =
-    let are = c.deref.ensures.value ∙ c.in_ok-powers.ensures in
-    omega (arith, get_or_default_zero c.deref.result.now k d b, powers_lt 65537 c.power-u.result 2048 k (omega arith) are)
+pub map-requires : goal.map-requires
+map-requires c =
+    let turn = of_next (λ (z : ℕ). z < 65537) in
+    let words = c.powers_of_three.ensures.words in
+    (lit< tt, (lit< tt, (lit< tt, record { at = λ xs t q x u y f e. let b : x < 65537 = turn xs c.powers_of_three.result t u x words y e in search rules })))
 
 pub returns : goal.returns
+unfolding logs_of
 returns c =
-    let powers = c.deref.ensures.value ∙ c.in_ok-powers.ensures ∙ ap (λ (u : ℕ). powers_of 65537 u 2048) c.power-u.ensures in
-    let is : map (λ (y : ℕ). logarithm 65537 3 (minus 65537 y 1)) c.deref.result.now ≡ log_table =
-    ap (map (λ (y : ℕ). logarithm 65537 3 (minus 65537 y 1))) powers ∙ logs_are 65537 3 _ 2048
+    let l = c.map.result in
+    let at : (i : ℕ) → i < 2048 → get_or l i 0 ≡ logarithm 65537 3 (minus 65537 (get_or c.powers_of_three.result i 0) 1) =
+    λ i b. let h = (c.map.ensures.items.at i 0 0 b).2 in search rules
     in
-    search rules
+    let is : l ≡ log_table =
+    is_table l 2048 (λ d. logarithm 65537 3 (minus 65537 (power 65537 (power 65537 3 32) d) 1)) c.map.ensures.items.long
+    (λ i b. at i b ∙ ap (λ (y : ℕ). logarithm 65537 3 (minus 65537 y 1)) (powers_entry 65537 (power 65537 3 32) 2048 i c.powers_of_three.ensures.powers b))
+    in
+    record { entries = is; five_digits = λ k d b. omega (arith, get_or_default_zero l k d b, ap (λ (v : List ℕ). get_or v k 0) is, log_lt k) }

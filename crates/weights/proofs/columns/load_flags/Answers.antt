@@ -10,17 +10,18 @@ pub loop-j-init : goal.loop-j-init
 loop-j-init c = each_start _ _
 
 pub position-i-requires : goal.position-i-requires
-position-i-requires c = omega (arith, c.reversed.ensures, reversed_lt (suc c.args.at.level) c.loop-j.j)
+position-i-requires c = omega (arith, c.reversed.ensures, reversed_lt (suc c.args.marks.at.level) c.loop-j.j)
 
 pub bounds-marks-i : goal.bounds-marks-i
 bounds-marks-i c =
-    let inside : c.reversed.result < 2 ^ suc c.args.at.level = omega (arith, c.reversed.ensures, reversed_lt (suc c.args.at.level) c.loop-j.j) in
-    omega (arith, c.position-i.ensures, position_lt c.args.at.level c.reversed.result inside)
+    let l = c.args.marks.at.level in
+    let inside : c.reversed.result < 2 ^ suc l = omega (arith, c.reversed.ensures, reversed_lt (suc l) c.loop-j.j) in
+    omega (arith, c.position-i.ensures, position_lt l c.reversed.result inside)
 
 pub loop-j-preserved : goal.loop-j-preserved
 loop-j-preserved c =
     each_turn c.loop-j.invariant c.loop-j-test.true
-    (flag_loaded c.args.at.level c.args.marks.now c.loop-j.j c.reversed.ensures c.position-i.ensures (c.from.ensures ∙ flag_is _))
+    (flag_loaded c.args.marks.at.level c.args.marks.erased.now c.loop-j.j c.reversed.ensures c.position-i.ensures (c.from.ensures ∙ flag_is _))
 
 pub returns : goal.returns
-returns c = load_done c.args.at.level (flags c.args.at.level c.args.marks.now) c.loop-j.invariant c.loop-j-test.false c.requires.column_len
+returns c = load_done c.args.marks.at.level (flags c.args.marks.at.level c.args.marks.erased.now) c.loop-j.invariant c.loop-j-test.false c.requires

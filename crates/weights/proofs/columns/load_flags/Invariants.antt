@@ -4,4 +4,4 @@ use Rattle.weights.proofs.ColumnLaws.{StoringEach, loaded_at}
 use Rattle.weights.proofs.columns.load_flags.Given as goal
 
 abbrev pub invariant-loop-j : goal.invariant-loop-j
-invariant-loop-j l = StoringEach (loaded_at l.at.level (flags l.at.level l.marks)) l.fn.column l.column l.j
+invariant-loop-j l = StoringEach (loaded_at l.marks.at.level (flags l.marks.at.level l.marks.erased.now)) l.fn.column l.column l.j

@@ -36,33 +36,33 @@ module _ (l : ℕ) (ms : List Bool) where
   sums_words unit xs h = subst (Words 65536) (sym h.begins) (sums_below l unit a xs)
 
 pub add_digit-requires-clause-words : goal.add_digit-requires-clause-words
-add_digit-requires-clause-words c = marks_words c.args.at.level c.args.marks.now c.start.ensures
+add_digit-requires-clause-words c = marks_words c.args.marks.at.level c.args.marks.erased.now c.start.ensures
 
 pub add_digit-requires-clause-words_2 : goal.add_digit-requires-clause-words_2
-add_digit-requires-clause-words_2 c = shared_words c.args.at.level c.args.marks.now c.start.ensures
+add_digit-requires-clause-words_2 c = shared_words c.args.marks.at.level c.args.marks.erased.now c.start.ensures
 
 pub add_digit-requires-2-clause-words : goal.add_digit-requires-2-clause-words
 add_digit-requires-2-clause-words c =
-    marks_words c.args.at.level c.args.marks.now (holds_next c.args.at.level 1 c.start.ensures c.add_digit.ensures)
+    marks_words c.args.marks.at.level c.args.marks.erased.now (holds_next c.args.marks.at.level 1 c.start.ensures c.add_digit.ensures)
 
 pub add_digit-requires-2-clause-words_2 : goal.add_digit-requires-2-clause-words_2
 add_digit-requires-2-clause-words_2 c =
-    sums_words c.args.at.level c.args.marks.now 1 _ (holds_next c.args.at.level 1 c.start.ensures c.add_digit.ensures)
+    sums_words c.args.marks.at.level c.args.marks.erased.now 1 _ (holds_next c.args.marks.at.level 1 c.start.ensures c.add_digit.ensures)
 
 pub add_digit-requires-3-clause-words : goal.add_digit-requires-3-clause-words
 add_digit-requires-3-clause-words c =
-    let h = holds_next c.args.at.level 1 c.start.ensures c.add_digit.ensures in
-    marks_words c.args.at.level c.args.marks.now (holds_next c.args.at.level 64 h c.add_digit-2.ensures)
+    let h = holds_next c.args.marks.at.level 1 c.start.ensures c.add_digit.ensures in
+    marks_words c.args.marks.at.level c.args.marks.erased.now (holds_next c.args.marks.at.level 64 h c.add_digit-2.ensures)
 
 pub add_digit-requires-3-clause-words_2 : goal.add_digit-requires-3-clause-words_2
 add_digit-requires-3-clause-words_2 c =
-    let h = holds_next c.args.at.level 1 c.start.ensures c.add_digit.ensures in
-    sums_words c.args.at.level c.args.marks.now 64 _ (holds_next c.args.at.level 64 h c.add_digit-2.ensures)
+    let h = holds_next c.args.marks.at.level 1 c.start.ensures c.add_digit.ensures in
+    sums_words c.args.marks.at.level c.args.marks.erased.now 64 _ (holds_next c.args.marks.at.level 64 h c.add_digit-2.ensures)
 
 pub returns : goal.returns
 returns c =
-    let l = c.args.at.level in
+    let l = c.args.marks.at.level in
     let h₁ = holds_next l 1 c.start.ensures c.add_digit.ensures in
     let h₂ = holds_next l 64 h₁ c.add_digit-2.ensures in
-    whole l c.args.marks.now (holds_next l 4096 h₂ c.add_digit-3.ensures)
-    ∙ ap (λ (xs : List ℕ). xs ++ drop (2 ^ suc l) c.args.logs.now) (logs_are l c.args.marks.now c.args.at.few c.requires.half)
+    whole l c.args.marks.erased.now (holds_next l 4096 h₂ c.add_digit-3.ensures)
+    ∙ ap (λ (xs : List ℕ). xs ++ drop (2 ^ suc l) c.args.logs.now) (logs_are l c.args.marks.erased.now c.args.marks.at.few c.requires.half)

@@ -22,23 +22,24 @@ module _ (l j n : ℕ) (ms : List Bool) (count : n ≡ 2 ^ suc l) (b : j < lengt
 
 pub overflow_sub-ahead : goal.overflow_sub-ahead
 overflow_sub-ahead c =
-    exponent_le c.args.at.level c.loop-j.j c.count-count.result c.args.marks.now c.count-count.ensures c.loop-j-test.true c.exponent-f.ensures
+    exponent_le c.args.marks.at.level c.loop-j.j c.count-count.result c.args.marks.erased.now c.count-count.ensures c.loop-j-test.true c.exponent-f.ensures
 
 pub add_row-requires-clause-by_index : goal.add_row-requires-clause-by_index
 add_row-requires-clause-by_index c =
     sum_fits c.loop-j.sums c.split_at_mut-sums.result.1.now c.loop-j.invariant
-    (inside c.args.at.level c.loop-j.j c.count-count.result c.args.marks.now c.count-count.ensures c.loop-j-test.true) c.count-count.ensures
-    (omega arith) c.exponent-f.ensures refl c.args.at.few
+    (inside c.args.marks.at.level c.loop-j.j c.count-count.result c.args.marks.erased.now c.count-count.ensures c.loop-j-test.true) c.count-count.ensures
+    (omega arith) c.exponent-f.ensures refl c.args.marks.at.few
 
 pub loop-j-preserved : goal.loop-j-preserved
 loop-j-preserved c =
-    let ms = c.args.marks.now in
+    let l = c.args.marks.at.level in
+    let ms = c.args.marks.erased.now in
     let n = c.count-count.result in
     elim c.if-mark.branch [
-      | then-mark w ↦ subst (λ (s : List ℕ). Sums c.args.at.level ms (c.loop-j.j + 1) (s ++ c.split_at_mut-sums.result.1.now)) (sym w.sums-is)
+      | then-mark w ↦ subst (λ (s : List ℕ). Sums l ms (c.loop-j.j + 1) (s ++ c.split_at_mut-sums.result.1.now)) (sym w.sums-is)
           (row_added c.loop-j.sums c.split_at_mut-sums.result.1.now c.loop-j.invariant
-          (inside c.args.at.level c.loop-j.j n ms c.count-count.ensures c.loop-j-test.true) c.count-count.ensures (omega arith) w.exponent-f.ensures refl
-          (mark_is c.args.at.level c.loop-j.j n ms c.count-count.ensures c.loop-j-test.true true w.if-mark.true) w.add_row.ensures)
-      | else-mark w ↦ subst (λ (s : List ℕ). Sums c.args.at.level ms (c.loop-j.j + 1) (s ++ c.split_at_mut-sums.result.1.now)) (sym w.sums-is)
-          (row_skipped c.loop-j.invariant (mark_is c.args.at.level c.loop-j.j n ms c.count-count.ensures c.loop-j-test.true false w.if-mark.false))
+          (inside l c.loop-j.j n ms c.count-count.ensures c.loop-j-test.true) c.count-count.ensures (omega arith) w.exponent-f.ensures refl
+          (mark_is l c.loop-j.j n ms c.count-count.ensures c.loop-j-test.true true w.if-mark.true) w.add_row.ensures)
+      | else-mark w ↦ subst (λ (s : List ℕ). Sums l ms (c.loop-j.j + 1) (s ++ c.split_at_mut-sums.result.1.now)) (sym w.sums-is)
+          (row_skipped c.loop-j.invariant (mark_is l c.loop-j.j n ms c.count-count.ensures c.loop-j-test.true false w.if-mark.false))
     ]

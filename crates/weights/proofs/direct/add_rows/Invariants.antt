@@ -4,4 +4,4 @@ use Rattle.weights.specs.steps.Direct.{Sums}
 use Rattle.weights.proofs.direct.add_rows.Given as goal
 
 abbrev pub invariant-loop-j : goal.invariant-loop-j
-invariant-loop-j l = Sums l.at.level l.marks l.j (l.sums ++ l.terms)
+invariant-loop-j l = Sums l.marks.at.level l.marks.erased.now l.j (l.sums ++ l.terms)

@@ -45,17 +45,20 @@ loop-i-init c = record { is = sym (none _ _); small = omega arith }
 
 pub log_of_power-requires : goal.log_of_power-requires
 log_of_power-requires c =
-    omega (arith, c.exponent.ensures, exponent_lt c.args.at.level c.loop-i.i (omega (arith, lent_lt c.count-count.result c.args.marks.now c.loop-i-test.true)))
+    let m = c.args.marks in
+    omega (arith, c.exponent.ensures, exponent_lt m.at.level c.loop-i.i (omega (arith, lent_lt c.count-count.result m.erased.now c.loop-i-test.true)))
 
 pub overflow_add-sum : goal.overflow_add-sum
 overflow_add-sum c =
+    let m = c.args.marks in
     omega (
       arith,
-      sum_fits c.args.at.level c.loop-i.i c.args.marks.now c.args.at.few c.count-count.ensures c.loop-i-test.true (c.from.ensures ∙ flag_is _)
+      sum_fits m.at.level c.loop-i.i m.erased.now m.at.few c.count-count.ensures c.loop-i-test.true (c.from.ensures ∙ flag_is _)
           c.exponent.ensures c.log_of_power.ensures c.loop-i.invariant.small,
     )
 
 pub loop-i-preserved : goal.loop-i-preserved
 loop-i-preserved c =
-    turn c.args.at.level c.loop-i.i c.args.marks.now c.args.at.few c.count-count.ensures c.loop-i-test.true (c.from.ensures ∙ flag_is _)
+    let m = c.args.marks in
+    turn m.at.level c.loop-i.i m.erased.now m.at.few c.count-count.ensures c.loop-i-test.true (c.from.ensures ∙ flag_is _)
     c.exponent.ensures c.log_of_power.ensures c.loop-i.invariant

@@ -8,4 +8,4 @@ pub record Inv (level : ℕ) (marks : List Bool) (sum i : ℕ) : Type 0 where
   pub small : sum ≤ 65536 * i
 
 abbrev pub invariant-loop-i : goal.invariant-loop-i
-invariant-loop-i l = Inv l.at.level l.marks l.sum l.i
+invariant-loop-i l = Inv l.marks.at.level l.marks.erased.now l.sum l.i

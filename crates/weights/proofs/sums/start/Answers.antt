@@ -47,12 +47,12 @@ module _ (l n : ℕ) (ms : List Bool) (u x : List ℕ) (count : n ≡ 2 ^ suc l)
 
 pub cross-requires-clause-words : goal.cross-requires-clause-words
 cross-requires-clause-words c =
-    mix_words c.args.at.level c.count-count.result c.args.marks.now c.args.part.now c.load_flags.new.column c.count-count.ensures
+    mix_words c.args.marks.at.level c.count-count.result c.args.marks.erased.now c.args.part.now c.load_flags.new.column c.count-count.ensures
     c.requires.room c.load_flags.ensures
 
 pub returns : goal.returns
 returns c =
-    started c.args.at.level c.count-count.result c.args.marks.now c.args.part.now c.load_flags.new.column c.count-count.ensures
+    started c.args.marks.at.level c.count-count.result c.args.marks.erased.now c.args.part.now c.load_flags.new.column c.count-count.ensures
     c.requires.room c.load_flags.ensures c.cross.new.column c.cross.ensures c.args.logs.now c.powers_sum.ensures
     (omega (arith, c.count-count.ensures, c.requires.logs_len))
     (stored_fill c.count-count.result (c.powers_sum.result % 65536) c.args.logs.now (omega (arith, c.count-count.ensures, c.requires.logs_len))
