@@ -48,6 +48,7 @@ pub fn scale_row_over<F: Factor>(part: &mut [u32], from: usize, to: usize, width
     requires by_index { (j : ℕ) → j < width → get_or part.old (from + j) 0 < fermat.modulus }
     ensures { part.new ≡ stored to (scaled_word fermat.modulus from (F.value g) part.old) width part.old }
 {
+    // by index: a row is stored in the slice in which it stands
     for j in 0..width {
         let x = from + j;
         let y = to + j;
@@ -71,6 +72,7 @@ pub fn turn<D: Direction>(part: &mut [u32], st: ValidStripe, to: usize)
     let width = st.stripe.width;
     let rows = st.block_count();
     let powers = D::powers(10);
+    // by index: a row's number gives its factor, and it is stored in the slice in which it stands
     for j in 0..rows {
         let from = j * width;
         let e = code::number::reversed(10, first + j) as usize;

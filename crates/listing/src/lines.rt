@@ -5,7 +5,7 @@ use crate::rack::Rack;
 use layout::places;
 use std::fmt;
 
-// The words of a position, a space before each, and the line's end. The programs that print such lines have no crate between them.
+// The words of a position, a space before each, and the line's end. Test code prints such lines too, on which a listing does not stand.
 fn words<W: fmt::Write>(f: &mut fmt::Formatter<W>, row: &[u32]) -> fmt::Result {
     for word in row {
         write!(f, " {word}")?;

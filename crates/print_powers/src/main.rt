@@ -1,7 +1,6 @@
 // The program that prints the table of powers (`power_table`, field/specs/Field), one number to a line, computed from 3^32 alone.
 #![tactic(auto)]
 
-ghost use Rattle.std.specs.Prelude.{◌≡◌};
 ghost use Rattle.field.specs.Field.{power_table};
 
 use print_lines::Table;

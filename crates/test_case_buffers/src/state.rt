@@ -1,5 +1,5 @@
 // What a test's commands fill and change, and what its calls are lent.
-ghost use Rattle.std.specs.Prelude.{◌≡◌, ◌*◌, replicate};
+ghost use Rattle.std.specs.Prelude.{◌≡◌, replicate};
 
 use crate::buffer::Buffer;
 use crate::command::{Bytes, Change, Number, Words};
