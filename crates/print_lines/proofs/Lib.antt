@@ -1,1 +1,2 @@
+pub mod PutTexts
 pub mod Text

@@ -6,13 +6,14 @@ use Prim.Native.Nat.{ℕ, zero, suc, ◌+◌, ◌/◌, ◌%◌, ◌^◌, ◌≤�
 use native.Mathlib.Numerals.{add-one}
 use native.Mathlib.Omega.{arith}
 use borrow.Author.Tests.{lt-ltb, le-ltb}
-use borrow.Rule.Slice.PartMut.{put_mid}
-use lib.ListN.{length, take, drop, set, get_or, length-append}
-use lib.Seq.{take_at, take-suc-set, length-take-le}
+use lib.ListN.{length, take, set, get_or}
+use lib.Seq.{take-suc-set}
 use Rattle.std.specs.Fmt as Fmt
-use Rattle.std.proofs.lemmas.Fmt.{decimal_by_steps}
+use Rattle.std.proofs.lemmas.Fmt.{decimal_by_steps, length-decimal-le}
 use Rattle.std.proofs.lemmas.List.{take_more}
+use Rattle.print_lines.specs.Putting.{put, put_end}
 use Rattle.print_lines.specs.Text.{decimal_from, decimal, lines}
+use Rattle.print_lines.proofs.PutTexts.{length_put, whole_end, whole_put}
 
 one_digit : (f n : ℕ) → n < 10 → decimal_from (suc f) n ≡ (48 + n) ∷ []
 unfolding decimal_from
@@ -39,6 +40,10 @@ pub digits_are : (n : ℕ) → n < 2 ^ 64 → Fmt.decimal n ≡ decimal n
 unfolding decimal
 digits_are n b = sym (decimal_by_steps Written one more n b (suc n) (omega arith))
 
+-- how many there are
+pub few_digits : (d n : ℕ) → 0 < d → n < 10 ^ d → n < 2 ^ 64 → length (decimal n) ≤ d
+few_digits d n h b c = rw (← digits_are n c) (length-decimal-le d n h b c)
+
 -- the definition computes: 1 and 61869, the table's first lines
 first_lines : lines (1 ∷ 61869 ∷ []) ≡ 49 ∷ 10 ∷ 54 ∷ 49 ∷ 56 ∷ 54 ∷ 57 ∷ 10 ∷ []
 unfolding lines decimal decimal_from
@@ -54,17 +59,14 @@ lines_append (x ∷ xs) ys =
 pub lines_more : (l : List ℕ) (i : ℕ) → i < length l → lines (take (i + 1) l) ≡ lines (take i l) ++ lines (get_or l i 0 ∷ [])
 lines_more l i b = ap lines (take_more l i 0 b) ∙ lines_append (take i l) (get_or l i 0 ∷ [])
 
--- A LINE THAT IS PUT into l at index i: the k digits of n, and the line feed
-module _ (l digits : List ℕ) (i k n m : ℕ) (room : i + k ≤ length l) (long : length digits ≡ k) where
-  digits_put : take (i + k) (put_mid i m l digits) ≡ take i l ++ digits
-  digits_put =
-      let behind = drop m (drop i l) in
-      ap (take (i + k)) (sym (append_assoc (take i l) digits behind))
-      ∙ take_at (take i l ++ digits) behind (i + k) (length-append (take i l) digits ∙ ap₂ ◌+◌ (length-take-le i l (omega arith)) long)
-
-  pub line_put : digits ≡ decimal n → i + k < length (put_mid i m l digits)
-      → take (i + k + 1) (set (put_mid i m l digits) (i + k) 10) ≡ take i l ++ lines (n ∷ [])
-  unfolding lines
-  line_put e b =
-      ap (λ (j : ℕ). take j (set (put_mid i m l digits) (i + k) 10)) (add-one (i + k)) ∙ take-suc-set (put_mid i m l digits) (i + k) 10 b
-      ∙ ap (λ (t : List ℕ). t ++ (10 ∷ [])) digits_put ∙ append_assoc (take i l) digits (10 ∷ []) ∙ ap (λ (t : List ℕ). take i l ++ (t ++ (10 ∷ []))) e
+-- A LINE THAT IS PUT into l at index i: the digits of n, and the line feed behind them
+pub line_put : (l : List ℕ) (i n : ℕ) {m : ℕ} {l' : List ℕ} → i + length (decimal n) < length l → m ≡ put_end l i (decimal n) → l' ≡ put l i (decimal n)
+    → take (m + 1) (set l' m 10) ≡ take i l ++ lines (n ∷ [])
+unfolding lines
+line_put l i n {m} {l'} room e f =
+    let d = decimal n in
+    let inside : i ≤ length l = omega arith in
+    let end : m ≡ i + length d = e ∙ whole_end l i inside d (omega arith) in
+    ap₂ (λ (j : ℕ) (t : List ℕ). take (j + 1) (set t j 10)) end f ∙ ap (λ (j : ℕ). take j (set (put l i d) (i + length d) 10)) (add-one (i + length d))
+    ∙ take-suc-set (put l i d) (i + length d) 10 (rw (length_put l i inside d) room)
+    ∙ ap (λ (t : List ℕ). t ++ (10 ∷ [])) (whole_put l i inside d (omega arith)) ∙ append_assoc (take i l) d (10 ∷ [])

@@ -1,4 +1,5 @@
-// What the programs that print tables share: the powers of a power of 3, numbers as text, one to a line (`lines`, specs/Text), and the printing of a table.
+// What the programs that print share: texts put into a buffer (`putting`). And of those that print tables: the powers of a power of 3, numbers as text, one
+// to a line (`lines`, specs/Text), and the printing of a table.
 #![tactic(auto)]
 
 ghost use Rattle.std.specs.Prelude.{◌≡◌, ◌∷◌, [], ◌++◌, ◌+◌, ◌*◌, ◌≤◌, ◌<◌, List, ℕ, All, length, take};
@@ -6,7 +7,9 @@ ghost use Rattle.field.specs.Power.{power};
 ghost use Rattle.field.specs.Field.{fermat, powers_of};
 ghost use Rattle.print_lines.specs.Text.{lines};
 
-use itoa::Buffer;
+pub mod putting;
+
+use putting::put_number;
 use std::io;
 
 // The powers of 3^step, from that at 0 on; each is the one before times 3^step.
@@ -31,11 +34,7 @@ pub fn put_line(out: &mut [u8], at: usize, n: u32) -> usize
     ensures upper_bound { result ≤ at + 6 }
     ensures out_after { take result out.new ≡ take at out.old ++ lines (n ∷ []) }
 {
-    // `itoa` writes what `{n}` does, and cannot fail. No clause says that an `InlineText` leaves a text uncut for which it has room.
-    let mut buffer = Buffer::new();
-    let digits = buffer.format(n);
-    let end = at + digits.len();
-    out[at..end].copy_from_slice(digits.as_bytes());
+    let end = put_number(out, at, n);
     out[end] = b'\n';
     end + 1
 }

@@ -1,33 +1,27 @@
--- `print_lines::put_line` meets its contract: the digits are those of `decimal`, at most five, and the line feed stands behind them. Assumes nothing.
-use Rattle.std.proofs.Common.{◌≡◌, List, ℕ, ◌+◌, ◌-◌, ◌<◌, ◌≤◌, length, arith, ap, ◌∙◌}
-use Rattle.std.specs.Fmt.{decimal}
-use Rattle.std.proofs.lemmas.Fmt.{length-decimal-le}
-use borrow.Rule.Slice.PartMut.{same_len_mid}
-use Rattle.print_lines.proofs.Text.{digits_are, line_put}
+-- `print_lines::put_line` meets its contract: the digits are at most five, and the line feed stands behind them. Assumes nothing.
+use Rattle.std.proofs.Common.{◌≡◌, List, ℕ, ◌+◌, ◌<◌, ◌≤◌, length, arith}
+use Rattle.print_lines.specs.Putting.{put_end}
+use Rattle.print_lines.specs.Text.{decimal}
+use Rattle.print_lines.proofs.Text.{few_digits, line_put}
 use Rattle.print_lines.proofs.put_line.Goals as goal
 
-five : (n : ℕ) {digits : List ℕ} → digits ≡ decimal n → n < 100000 → length digits ≤ 5
-five n e b = omega (arith, ap length e, length-decimal-le 5 n (omega arith) b (omega arith))
+five : (n : ℕ) → n < 100000 → length (decimal n) ≤ 5
+five n b = few_digits 5 n (omega arith) b (omega arith)
 
-pub slice_bounds-copy_from_slice-end : goal.slice_bounds-copy_from_slice-end
-slice_bounds-copy_from_slice-end c = omega (arith, five _ c.format-digits.ensures.text c.requires.0)
+end : (l : List ℕ) (i n : ℕ) {m : ℕ} → m ≡ put_end l i (decimal n) → (n < 100000) × (i + 6 ≤ length l) → m ≤ i + 5
+unfolding put_end
+end l i n e h = omega (arith, five n h.0)
 
 pub bounds-out-end : goal.bounds-out-end
-bounds-out-end c =
-    let a = c.args in
-    let n = a.at + length c.format-digits.result.now - a.at in
-    let long = same_len_mid a.at n a.out.now c.copy_from_slice.new.self c.copy_from_slice.ensures.len in
-    omega (arith, five _ c.format-digits.ensures.text c.requires.0)
+bounds-out-end c = omega (arith, end c.args.out.now c.args.at c.args.n c.put_number-end.ensures.value c.requires)
+
+pub overflow_add-result : goal.overflow_add-result
+overflow_add-result c = omega (arith, end c.args.out.now c.args.at c.args.n c.put_number-end.ensures.value c.requires)
 
 pub returns-clause-upper_bound : goal.returns-clause-upper_bound
-returns-clause-upper_bound c = omega (arith, five _ c.format-digits.ensures.text c.requires.0)
+returns-clause-upper_bound c = omega (arith, end c.args.out.now c.args.at c.args.n c.put_number-end.ensures.value c.requires)
 
 pub returns-clause-out_after : goal.returns-clause-out_after
 returns-clause-out_after c =
-    let a = c.args in
-    let text = c.format-digits.ensures.text in
-    let k = length c.format-digits.result.now in
-    let put = c.copy_from_slice.ensures.after ∙ c.as_bytes.ensures.value in
-    let long = same_len_mid a.at (a.at + k - a.at) a.out.now c.copy_from_slice.new.self c.copy_from_slice.ensures.len in
-    let short = five _ text c.requires.0 in
-    line_put a.out.now _ a.at k a.n _ (omega arith) (ap length put) (put ∙ text ∙ digits_are a.n (omega arith)) (omega arith)
+    let p = c.put_number-end.ensures in
+    line_put c.args.out.now c.args.at c.args.n (omega (arith, five c.args.n c.requires.0)) p.value p.out_after

@@ -1,0 +1,10 @@
+pub mod Inputs
+pub mod Lines
+pub mod Opening
+pub mod Outcomes
+pub mod Proved
+pub mod Room
+pub mod SoundRacks
+pub mod Unread
+pub mod Worked
+pub mod Writes
