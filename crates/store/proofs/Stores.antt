@@ -20,7 +20,7 @@ module _ (p from n : ℕ) (l : List ℕ) (h : from + n ≤ length l) where
   pub length_copy : length (reduced p (take n (drop from l))) ≡ n
   length_copy = length_reduced p (take n (drop from l)) ∙ part_long
 
-reduced_at : (p : ℕ) (l : List ℕ) (i : ℕ) → i < length l → get_or (reduced p l) i 0 ≡ get_or l i 0 % p
+pub reduced_at : (p : ℕ) (l : List ℕ) (i : ℕ) → i < length l → get_or (reduced p l) i 0 ≡ get_or l i 0 % p
 unfolding reduced
 reduced_at p [] i h = absurd (omega arith)
 reduced_at p (x ∷ l) zero h = refl

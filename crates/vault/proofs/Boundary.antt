@@ -1,31 +1,33 @@
 -- The promises of specs/Boundary: the index and the length that reading hands out are those of the record, and the number that says "no stripe" is no stripe's.
 -- Assumes nothing.
-use mathlib.Core.Path.{◌≡◌, refl, sym, ◌∙◌}
+use mathlib.Core.Path.{◌≡◌, refl, sym, ap, ◌∙◌}
 use mathlib.Core.Bool.{Bool, true, false}
 use mathlib.Core.List.{List, []}
-use Prim.Native.Nat.{ℕ, zero, suc, ◌*◌, ◌≤◌}
-use native.Mathlib.Nat.{le_refl}
+use Prim.Native.Nat.{ℕ, ◌*◌, ◌≤◌}
 use native.Mathlib.Omega.{arith}
 use borrow.Author.Tests.{eqb-true}
 use lib.Dec.{eqb}
 use lib.ListN.{take, drop}
 use Rattle.layout.specs.declared.Header.{Header}
 use Rattle.recovery.specs.Verdicts.{Verdict}
-use Rattle.layout.specs.Header.{header_fits, is_filled}
+use Rattle.layout.specs.Header.{header_fits}
 use Rattle.layout.specs.Refusals.{Tests, test, refusal, if_taken}
 use Rattle.image.specs.Erasures.{erasures_in}
-use Rattle.judging.specs.Decoding.{Decoded, failed, decoded}
+use Rattle.judging.specs.Decoding.{Decoded}
 use Rattle.stripe_decoding.specs.Decoding.{decode_stripe}
-use Rattle.recovery.specs.Recovery.{Layer, Recovered, then_lay, levels_over, stripes_over, records}
+use Rattle.recovery.specs.Recovery.{Layer, Recovered, stripes_over, records}
 use Rattle.recovery.specs.Origins.{origins}
 use Rattle.recovery.specs.RecoveryCall.{recover_answer, unnamed, answer_of}
 use Rattle.explanation.specs.ExplainCall.{explain_answer}
 use Rattle.store.specs.StoreCalls.{read_number}
-use Rattle.vault.specs.promises.Boundary.{PartIs, NoneNamed, NoneExplained}
+use Rattle.vault.specs.promises.Boundary.{PartIs, PartAt, ShelfIs, NoneNamed, NoneExplained}
 use Rattle.vault.specs.Boundary.{no_shelf, shelf_of}
 use Rattle.layout.proofs.Bounds.{fits}
-use Rattle.field.proofs.Booleans.{is_false, if_else, if_else_true}
-use Rattle.layout.proofs.Refusals.{passes}
+use Rattle.field.proofs.Booleans.{is_false, if_else, if_else_true, if_else_false}
+use Rattle.layout.proofs.Refusals.{passes, if_taken_lem, if_refused}
+use Rattle.vault.specs.promises.Losses.{Needed}
+use Rattle.vault.proofs.StripeCall.{needed_within}
+use Rattle.vault.proofs.StripesEnd.{Ends, stops, passes as ended, stripes_end}
 
 -- READING
 chosen_part : (b : Bool) (i n : ℕ) (l : List ℕ) → take (if_else b n 0) (drop (if_else b i 0) l) ≡ if_else b (take n (drop i l)) []
@@ -35,31 +37,24 @@ chosen_part false i n l = refl
 pub part_is : PartIs
 part_is h r i = chosen_part (eqb (read_number h r i) 0) (i * h.s) h.s r
 
+pub part_at : PartAt
+part_at h r i = (λ e. (if_taken_lem (i * h.s) 0 e, if_taken_lem h.s 0 e), λ d. (if_refused (i * h.s) 0 d, if_refused h.s 0 d))
+
+-- THE STRIPE THAT IS NAMED
+pub shelf_is : ShelfIs
+shelf_is a = (λ t. if_else_true a.named a.stripe no_shelf t, λ f. if_else_false a.named a.stripe no_shelf f)
+
 -- RECOVERY, AND EXPLAINING, name a level or k, so no number above 10: what is laid does not matter
 abbrev Low : ℕ → Recovered → Type 0
 Low b x = (answer_of x).stripe ≤ b
 
-low_either : (b : ℕ) (t : Bool) (x y : Recovered) → Low b x → Low b y → Low b (if_else t x y)
-low_either b true x y p q = p
-low_either b false x y p q = q
-
-low_laid : (b l : ℕ) (d : Decoded) (next : List ℕ → Recovered) → l ≤ b → ((bs : List ℕ) → Low b (next bs)) → Low b (then_lay l d next)
-low_laid b l (failed n) next p q = p
-low_laid b l (decoded bs) next p q = q bs
-
-less : {l b : ℕ} → suc l ≤ b → l ≤ b
-less p = omega arith
-
 module _ (h : Header) (d : ℕ → Decoded) (y : Layer) where
-  low_levels : (l b : ℕ) (r : List ℕ) → l ≤ b → Low b (levels_over l h d y r)
-  unfolding levels_over
-  low_levels zero b r p = omega arith
-  low_levels (suc l) b r p =
-      low_either b (is_filled h l) (then_lay l (d l) (λ (bs : List ℕ). levels_over l h d y (y.over l bs r))) (levels_over l h d y r)
-      (low_laid b l (d l) _ (less p) (λ bs. low_levels l b (y.over l bs r) (less p))) (low_levels l b r (less p))
-
   low_stripes : Low h.k (stripes_over h d y)
-  low_stripes = low_laid h.k h.k (d h.k) _ (le_refl h.k) (λ bs. low_levels h.k h.k (y.full bs) (le_refl h.k))
+  low_stripes = by (stripes_end h d y)
+    where
+      by : {x : Recovered} → Ends d (Needed h) x → Low h.k x
+      by (stops n l q f) = omega (arith, needed_within h l f.0, ap (λ (x : Recovered). (answer_of x).stripe) q)
+      by (ended r q all) = omega (arith, ap (λ (x : Recovered). (answer_of x).stripe) q)
 
   -- the answer of a call that tests the header first
   low_answer : (ts : Tests) → let x = refusal (test (header_fits h) 1 ts) in (if_taken x (answer_of (stripes_over h d y)) (unnamed x)).stripe ≤ 10

@@ -12,7 +12,7 @@ use lib.Pow.{pow_pos}
 use lib.ListN.{length, replicate, length-append}
 use borrow.Author.Tests.{eq-eqb}
 use Rattle.layout.specs.declared.Header.{Header}
-use Rattle.layout.specs.Header.{width, header_fits, raw_size, scratch_size, image_size}
+use Rattle.layout.specs.Header.{width, header_fits, raw_size, full_size, log_size, scratch_size, image_size}
 use Rattle.store.specs.Buffers.{full_stripe, blocks_of}
 use Rattle.image.specs.Image.{image_of}
 use Rattle.image.specs.Erasures.{erasures_in, erasures_fit}
@@ -36,16 +36,12 @@ use Rattle.vault.proofs.RoundDecoding.{level_decodes, full_decodes}
 use Rattle.vault.proofs.RoundRecovery.{recover_round}
 use Rattle.vault.proofs.SameRounds.{DecodesRound, one_round}
 
--- an image of a round has the length that its header says
-length_image : (a : Round) → let h = round_header a in length (image_of (full_stripe h a.base) (log_words h a.since a.k)) ≡ image_size h
-length_image a =
-    let h = round_header a in
-    let full = full_stripe h a.base in
-    let log = log_words h a.since a.k in
-    let n = 2 ^ suc a.k in
-    length_bytes (full ++ log) ∙ ap (λ (x : ℕ). 4 * x) (length-append full log ∙ ap₂ ◌+◌ (length_full h a.base) (length_log h a.since a.k)
-    ∙ sym (add-mul n (n - 2) (width h)))
-    ∙ ap (λ (x : ℕ). 4 * (x * width h)) {x = n + (n - 2)} {y = 4 * 2 ^ a.k - 2} (omega (arith, pow_pos a.k)) ∙ omega arith
+-- an image of buffers that have their lengths has the length that the header says
+pub length_image : (h : Header) (full log : List ℕ) → length full ≡ full_size h → length log ≡ log_size h → length (image_of full log) ≡ image_size h
+length_image h full log e f =
+    let n = 2 ^ suc h.k in
+    length_bytes (full ++ log) ∙ ap (λ (x : ℕ). 4 * x) (length-append full log ∙ ap₂ ◌+◌ e f ∙ sym (add-mul n (n - 2) (width h)))
+    ∙ ap (λ (x : ℕ). 4 * (x * width h)) {x = n + (n - 2)} {y = 4 * 2 ^ h.k - 2} (omega (arith, pow_pos h.k)) ∙ omega arith
 
 -- RECOVERY IS TAKEN, and gives what it finds
 module _ (h : Header) (m e o x : List ℕ) (fits : header_fits h ≡ true) (formed : erasures_fit h e ≡ true)
@@ -93,7 +89,11 @@ recovers_all o es m e O X = recovers X.leaves X.long X.words
         })
 
 pub image_long : ImageLong
-image_long o es O = rw (header_after, image_after, vault_after, (histories o es O).vault_is) (length_image (round_of o es))
+image_long o es O =
+    let a = round_of o es in
+    let h = round_header a in
+    rw (header_after, image_after, vault_after, (histories o es O).vault_is)
+    (length_image h (full_stripe h a.base) (log_words h a.since a.k) (length_full h a.base) (length_log h a.since a.k))
 
 -- TWO HISTORIES with the same header and surviving words decode alike, and so are in one round
 decodes_history : (o : Opening) (es : List Event) (m e : List ℕ) → Opens o → LeavesHalf (header_after o es) e

@@ -54,7 +54,7 @@ unfolding every words_zero
 blank_zero [] = refl
 blank_zero (x ∷ b) = rw (blank_zero b)
 
-blank_number : (b : List ℕ) → refusal (test (not (is_blank b)) 11 done) ≡ elim (words_zero b) [ true ↦ 11 | false ↦ 0 ]
+pub blank_number : (b : List ℕ) → refusal (test (not (is_blank b)) 11 done) ≡ elim (words_zero b) [ true ↦ 11 | false ↦ 0 ]
 unfolding refusal
 blank_number b = ap (λ (z : Bool). refusal (test (not z) 11 done)) (blank_zero b) ∙ go (words_zero b)
   where
@@ -91,6 +91,19 @@ module _ (o : Opening) (opens : Opens o) where
         ∙ ap (vault h) (sym (start o.k o.s o.raw));
     model_is = refl;
   }
+
+-- a write that the table takes, with any model
+pub taken_is : (m : Model) (i : ℕ) (b : List ℕ) (n : ℕ) → judged m i b n ≡ 0 → Taken m.k m.s (record { number = i; block = b })
+unfolding refusal
+taken_is m i b n e =
+    let rest : Tests = test false n done in
+    let t₁ = passes (eqb (length b) m.s) 2 (test (ltb i (2 ^ m.k)) 4 (test (words_fit b) 5 rest)) e (omega arith) in
+    let t₂ = passes (ltb i (2 ^ m.k)) 4 (test (words_fit b) 5 rest) t₁.1 (omega arith) in
+    record {
+      within = ltb-true i (2 ^ m.k) t₂.0;
+      long = eqb-true (length b) m.s t₁.0;
+      words = data_words b (data_fit b ∙ (passes (words_fit b) 5 rest t₂.1 (omega arith)).0);
+    }
 
 -- A WRITE on a good round, today's or an earlier one
 module _ (a : Round) (good : Good a) (i : ℕ) (b : List ℕ) where
@@ -130,18 +143,6 @@ module _ (a : Round) (good : Good a) (i : ℕ) (b : List ℕ) where
 
   earlier_number_lem : earlier_number h u i b ≡ table_number (model_in a) (earlier i b)
   earlier_number_lem = number_is done ∙ ap (judged (model_in a) i b) none_fails
-
-  taken_is : (n : ℕ) → judged (model_in a) i b n ≡ 0 → Taken a.k a.s x
-  unfolding refusal
-  taken_is n e =
-      let rest : Tests = test false n done in
-      let t₁ = passes (eqb (length b) a.s) 2 (test (ltb i (2 ^ a.k)) 4 (test (words_fit b) 5 rest)) e (omega arith) in
-      let t₂ = passes (ltb i (2 ^ a.k)) 4 (test (words_fit b) 5 rest) t₁.1 (omega arith) in
-      record {
-        within = ltb-true i (2 ^ a.k) t₂.0;
-        long = eqb-true (length b) a.s t₁.0;
-        words = data_words b (data_fit b ∙ (passes (words_fit b) 5 rest t₂.1 (omega arith)).0);
-      }
 
   -- a write that is taken
   module _ (t : Taken a.k a.s (record { number = i; block = b })) where
@@ -262,8 +263,8 @@ number_on_lem a good (write i b) = write_number_lem a good i b
 number_on_lem a good (earlier i b) = earlier_number_lem a good i b
 
 turn_from : (a : Round) → Good a → (e : Event) → Represents (turn_round a e) (step (vault (round_header a) (represent a)) e) (fed (model_in a) e)
-turn_from a good (write i b) = turned a good i b (write_number_lem a good i b) (taken_is a good i b (elim (words_zero b) [ true ↦ 11 | false ↦ 0 ]))
-turn_from a good (earlier i b) = turned a good i b (earlier_number_lem a good i b) (taken_is a good i b 0)
+turn_from a good (write i b) = turned a good i b (write_number_lem a good i b) (taken_is (model_in a) i b (elim (words_zero b) [ true ↦ 11 | false ↦ 0 ]))
+turn_from a good (earlier i b) = turned a good i b (earlier_number_lem a good i b) (taken_is (model_in a) i b 0)
 
 pub turn_represents : (a : Round) (v : Vault) (m : Model) (e : Event) → Represents a v m → Represents (turn_round a e) (step v e) (fed m e)
 turn_represents a v m e t =

@@ -1,17 +1,34 @@
 -- ALL PROMISES of specs/promises/All, each proved, in one term. Assumes nothing.
 use Rattle.vault.specs.promises.All.{Promises}
 use Rattle.vault.proofs.Histories.{header_is, sizes_begin, sizes_kept, sizes_stay, records_long_lem, numbers_are, words_are, raw_is, model_is, before_is}
+use Rattle.vault.proofs.ModelSteps.{model_begins, model_kept, model_puts}
 use Rattle.vault.proofs.StripeDecoding.{words_stand, decodes_iff, nine_iff, ten_iff, one_list}
 use Rattle.vault.proofs.StripeCall.{gives_seven, gives_eight, gives_nine, gives_ten, gives_zero, leaves_blocks, leaves_zeros}
 use Rattle.vault.proofs.Demand3.{image_long, recovers_all, no_other, levels_decode, full_decodes_lem}
+use Rattle.vault.proofs.Erasures.{word_is, well_formed_iff, marked_iff, survives_iff, survivors_rise, same_words_iff, same_outside}
+use Rattle.vault.proofs.Table.{refusal_is, fits_iff, needed_iff}
+use Rattle.vault.proofs.Numbers.{open_numbers, write_numbers, earlier_numbers, table_numbers, earlier_table, same_table, read_numbers, image_numbers}
+use Rattle.vault.proofs.Numbers.{powers_numbers}
+use Rattle.vault.proofs.ImageNumbers.{recover_numbers, explain_numbers, explain_asked_iff}
+use Rattle.vault.proofs.DecodeNumbers.{stripe_numbers, fails_iff, decode_numbers, asked_iff}
+use Rattle.vault.proofs.Leaving.{open_refused, open_taken, read_refused, read_taken, reads_model, image_refused, image_taken, images_history}
+use Rattle.vault.proofs.Leaving.{powers_refused, powers_taken}
+use Rattle.vault.proofs.LeavingStripes.{decode_refused, decode_failed, decode_taken}
+use Rattle.vault.proofs.LeavingLayers.{recover_refused, recover_failed, recover_taken, explain_refused, explain_failed, explain_taken}
+use Rattle.vault.proofs.Coding.{codes_iff, blocks_are, full_codes}
+use Rattle.vault.proofs.Writing.{write_puts, write_counts, write_keeps, write_reduces, write_ends}
+use Rattle.vault.proofs.LastBlocks.{recover_holds, explain_holds}
+use Rattle.vault.proofs.Recovering.{answers_say, stops_iff, taken_iff, explain_stops_iff, explain_taken_iff}
+use Rattle.vault.proofs.SomeLast.{each_has_last}
 use Rattle.vault.proofs.Explaining.{agrees, counts_are, counts_sharp, explain_leaves}
 use Rattle.vault.proofs.ExplainedRounds.{explains_why}
 use Rattle.vault.proofs.LastWrites.{last_is_record, else_at_start}
 use Rattle.vault.proofs.Origins.{origins_true, one_origin}
 use Rattle.vault.proofs.Blanks.{gives_eleven, else_as_earlier, five_not_blank, refused_stays, opens_iff, zeros_open, blank_refused, blank_kept}
-use Rattle.vault.proofs.Boundary.{part_is, none_named, none_explained}
+use Rattle.vault.proofs.Boundary.{part_is, part_at, shelf_is, none_named, none_explained}
 use Rattle.vault.proofs.Openings.{header_as_opened, records_as_opened, before_as_opened, last_as_opened, start_as_opened, refused_as_opened, kept_as_opened}
-use Rattle.vault.proofs.Worked.{worked, worked_blanks}
+use Rattle.vault.proofs.Worked.{worked, worked_blanks, worked_bytes, worked_stripes, worked_strays, worked_faults, worked_histories}
+use Rattle.vault.proofs.Worked.{worked_halves, worked_numbers, worked_answers}
 
 pub proved : Promises
 proved = record {
@@ -29,12 +46,15 @@ proved = record {
   };
   histories = record {
     sizes_begin = sizes_begin;
+    model_begins = model_begins;
     sizes_kept = sizes_kept;
     sizes_stay = sizes_stay;
     records_long = records_long_lem;
     raw_is = raw_is;
     model_is = model_is;
     before_is = before_is;
+    model_kept = model_kept;
+    model_puts = model_puts;
     image_long = image_long;
   };
   decoding = record {
@@ -48,6 +68,73 @@ proved = record {
     leaves_zeros = leaves_zeros;
   };
   losses = record { levels_decode = levels_decode; full_decodes = full_decodes_lem };
+  erasures = record {
+    word_is = word_is;
+    well_formed_iff = well_formed_iff;
+    marked_iff = marked_iff;
+    survives_iff = survives_iff;
+    survivors_rise = survivors_rise;
+    same_words_iff = same_words_iff;
+    same_outside = same_outside;
+  };
+  table = record { refusal_is = refusal_is; fits_iff = fits_iff; needed_iff = needed_iff };
+  numbers = record {
+    open_numbers = open_numbers;
+    write_numbers = write_numbers;
+    earlier_numbers = earlier_numbers;
+    table_numbers = table_numbers;
+    earlier_table = earlier_table;
+    same_table = same_table;
+    read_numbers = read_numbers;
+    image_numbers = image_numbers;
+    stripe_numbers = stripe_numbers;
+    fails_iff = fails_iff;
+    decode_numbers = decode_numbers;
+    asked_iff = asked_iff;
+    recover_numbers = recover_numbers;
+    explain_numbers = explain_numbers;
+    explain_asked_iff = explain_asked_iff;
+    powers_numbers = powers_numbers;
+  };
+  leaving = record {
+    open_refused = open_refused;
+    open_taken = open_taken;
+    read_refused = read_refused;
+    read_taken = read_taken;
+    reads_model = reads_model;
+    image_refused = image_refused;
+    image_taken = image_taken;
+    images_history = images_history;
+    decode_refused = decode_refused;
+    decode_failed = decode_failed;
+    decode_taken = decode_taken;
+    recover_refused = recover_refused;
+    recover_failed = recover_failed;
+    recover_taken = recover_taken;
+    explain_refused = explain_refused;
+    explain_failed = explain_failed;
+    explain_taken = explain_taken;
+    powers_refused = powers_refused;
+    powers_taken = powers_taken;
+  };
+  recovering = record {
+    answers_say = answers_say;
+    stops_iff = stops_iff;
+    taken_iff = taken_iff;
+    explain_stops_iff = explain_stops_iff;
+    explain_taken_iff = explain_taken_iff;
+    each_has_last = each_has_last;
+    recover_holds = recover_holds;
+    explain_holds = explain_holds;
+  };
+  coding = record { codes_iff = codes_iff; blocks_are = blocks_are; full_codes = full_codes };
+  writing = record {
+    write_puts = write_puts;
+    write_counts = write_counts;
+    write_keeps = write_keeps;
+    write_reduces = write_reduces;
+    write_ends = write_ends;
+  };
   explaining = record {
     agrees = agrees;
     counts_are = counts_are;
@@ -68,7 +155,7 @@ proved = record {
     blank_refused = blank_refused;
     blank_kept = blank_kept;
   };
-  boundary = record { part_is = part_is; none_named = none_named; none_explained = none_explained };
+  boundary = record { part_is = part_is; part_at = part_at; shelf_is = shelf_is; none_named = none_named; none_explained = none_explained };
   openings = record {
     header_as_opened = header_as_opened;
     records_as_opened = records_as_opened;
@@ -80,4 +167,12 @@ proved = record {
   };
   worked = worked;
   worked_blanks = worked_blanks;
+  worked_bytes = worked_bytes;
+  worked_stripes = worked_stripes;
+  worked_strays = worked_strays;
+  worked_faults = worked_faults;
+  worked_histories = worked_histories;
+  worked_halves = worked_halves;
+  worked_numbers = worked_numbers;
+  worked_answers = worked_answers;
 }

@@ -89,7 +89,7 @@ module _ (h : Header) (d : ℕ → Decoded) (y : Layer) (blocks : ℕ → List �
   abbrev Comes : Recovered → Type 0
   Comes x = (r : List ℕ) × (x ≡ recovered r) × P 0 r
 
-  levels_keep : (l : ℕ) (r : List ℕ) → l ≤ h.k → P l r → Comes (levels_over l h d y r)
+  pub levels_keep : (l : ℕ) (r : List ℕ) → l ≤ h.k → P l r → Comes (levels_over l h d y r)
   unfolding levels_over
   levels_keep zero r b p = (r, refl, p)
   levels_keep (suc l) r b p = go (is_filled h l) refl (λ x. levels_keep l x (omega arith))

@@ -30,10 +30,10 @@ use Rattle.layout.proofs.Refusals.{passes, test_holds, none_fails, equal_three, 
 use Rattle.vault.proofs.StripeDecoding.{readable_rows, decodes_iff, nine_iff, ten_iff}
 
 -- the number of what decoding comes to; one other than 0 is that of a failure
-failed_number : {d : Decoded} {n : ℕ} → d ≡ failed n → decoded_number d ≡ n
+pub failed_number : {d : Decoded} {n : ℕ} → d ≡ failed n → decoded_number d ≡ n
 failed_number p = ap decoded_number p
 
-number_fails : {d : Decoded} (n : ℕ) → 0 < n → decoded_number d ≡ n → d ≡ failed n
+pub number_fails : {d : Decoded} (n : ℕ) → 0 < n → decoded_number d ≡ n → d ≡ failed n
 number_fails {d = failed x} n z q = ap failed q
 number_fails {d = decoded bs} n z q = absurd (omega arith)
 
@@ -70,7 +70,7 @@ module _ (h : Header) (m e : List ℕ) (l : ℕ) (out scratch : List ℕ) (asked
   asked_fits : header_fits h ≡ true
   asked_fits = (passes (header_fits h) 1 _ asked (omega arith)).0
 
-  asked_within : l ≤ h.k
+  pub asked_within : l ≤ h.k
   asked_within =
       let t₁ = (passes (header_fits h) 1 _ asked (omega arith)).1 in
       let t₂ = (passes _ 2 _ t₁ (omega arith)).1 in

@@ -3,7 +3,7 @@ use mathlib.Core.Path.{refl as is}
 use Rattle.field.specs.Residue.{plus, minus, times}
 use Rattle.field.specs.Power.{power_from, power, inverse}
 use Rattle.field.specs.Polynomial.{lift, slopes, interpolate}
-use Rattle.field.specs.Field.{root_of}
+use Rattle.field.specs.Field.{root_of, powers_of}
 use Rattle.field.specs.Words as Words
 use Rattle.field.specs.Words.{every}
 use Rattle.code.specs.Transform.{sum_at, difference_at, mixed, transform, scaled, reversed, turned, bit_reversed}
@@ -25,16 +25,29 @@ use Rattle.layout.specs.Refusals.{refusal}
 use Rattle.vault.specs.History.{after}
 use Rattle.vault.specs.Model.{words_fit, words_zero, fed_all}
 use Rattle.vault.specs.Worked.{Holds, examples, blank_examples}
+use Rattle.vault.specs.Round.{round_after, log_words, rows_of}
+use Rattle.vault.specs.WorkedBytes.{byte_examples, stripe_examples, stray_examples, fault_examples, history_examples}
+use Rattle.vault.specs.WorkedBytes.{half_examples, number_examples, answer_examples}
 
-all_worked : Holds examples × Holds blank_examples
+all_worked :
+    Holds examples × Holds blank_examples × Holds byte_examples × Holds stripe_examples × Holds stray_examples ×
+    Holds fault_examples × Holds history_examples × Holds half_examples × Holds number_examples × Holds answer_examples
 unfolding plus minus times power_from power inverse lift slopes interpolate root_of Words.table sum_at difference_at mixed transform scaled reversed turned
     column columns_from row_of rows_from lifted coded coded_rows survivors_from point_at value_at bit_reversed decoded_column agrees consistent_column
     consistent_to decoded_rows every records_fit reduced blocks_from first_empty rebuilt_half little bytes_of number_of erasures_from erasures_rise touched
-    flags_from mark_at surviving_at are_records laid levels_over
-    refusal after words_fit words_zero fed_all pairs_to left shortfall origins_laid
+    flags_from mark_at surviving_at are_records laid levels_over powers_of
+    refusal after words_fit words_zero fed_all pairs_to left shortfall origins_laid round_after log_words rows_of
 all_worked = (
   (is, (is, (is, (is, (is, (is, (is, (is, (is, (is, (is, (is, (is, (is, (is, (is, (is, (is, (is, (is, tt)))))))))))))))))))),
   (is, (is, (is, (is, (is, tt))))),
+  (is, (is, (is, (is, (is, (is, (is, (is, (is, (is, (is, (is, (is, (is, (is, (is, (is, (is, tt)))))))))))))))))),
+  (is, (is, (is, (is, (is, (is, (is, (is, (is, (is, (is, (is, (is, (is, tt)))))))))))))),
+  (is, (is, (is, (is, tt)))),
+  (is, (is, (is, (is, (is, (is, (is, (is, tt)))))))),
+  (is, (is, (is, (is, (is, (is, (is, (is, (is, (is, tt)))))))))),
+  (is, (is, (is, (is, tt)))),
+  (is, (is, (is, (is, (is, (is, (is, (is, (is, tt))))))))),
+  (is, (is, (is, (is, (is, (is, (is, (is, (is, (is, (is, (is, (is, (is, tt)))))))))))))),
 )
 
 pub worked : Holds examples
@@ -42,3 +55,27 @@ worked = all_worked.0
 
 pub worked_blanks : Holds blank_examples
 worked_blanks = all_worked.1
+
+pub worked_bytes : Holds byte_examples
+worked_bytes = all_worked.2
+
+pub worked_stripes : Holds stripe_examples
+worked_stripes = all_worked.3
+
+pub worked_strays : Holds stray_examples
+worked_strays = all_worked.4
+
+pub worked_faults : Holds fault_examples
+worked_faults = all_worked.5
+
+pub worked_histories : Holds history_examples
+worked_histories = all_worked.6
+
+pub worked_halves : Holds half_examples
+worked_halves = all_worked.7
+
+pub worked_numbers : Holds number_examples
+worked_numbers = all_worked.8
+
+pub worked_answers : Holds answer_examples
+worked_answers = all_worked.9

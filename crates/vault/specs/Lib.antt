@@ -6,6 +6,7 @@ pub mod Model
 pub mod promises
 pub mod Round
 pub mod Worked
+pub mod WorkedBytes
 pub use Rattle.code.specs.Stripe
 pub use Rattle.decoder.specs.Decoding as ColumnDecoding
 pub use Rattle.layout.specs.Header

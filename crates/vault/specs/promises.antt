@@ -4,6 +4,13 @@ pub mod Demands
 pub mod Histories
 pub mod Decoding
 pub mod Losses
+pub mod Erasures
+pub mod Table
+pub mod Numbers
+pub mod Recovering
+pub mod Leaving
+pub mod Coding
+pub mod Writing
 pub mod Explaining
 pub mod Blanks
 pub mod Boundary

@@ -5,21 +5,45 @@ use Rattle.vault.specs.promises.Demands.{Demands}
 use Rattle.vault.specs.promises.Histories.{Histories}
 use Rattle.vault.specs.promises.Decoding.{Decoding}
 use Rattle.vault.specs.promises.Losses.{Losses}
+use Rattle.vault.specs.promises.Erasures.{Erasures}
+use Rattle.vault.specs.promises.Table.{Table}
+use Rattle.vault.specs.promises.Numbers.{Numbers}
+use Rattle.vault.specs.promises.Leaving.{Leaving}
+use Rattle.vault.specs.promises.Recovering.{Recovering}
+use Rattle.vault.specs.promises.Coding.{Coding}
+use Rattle.vault.specs.promises.Writing.{Writing}
 use Rattle.vault.specs.promises.Explaining.{Explaining}
 use Rattle.vault.specs.promises.Blanks.{Blanks}
 use Rattle.vault.specs.promises.Boundary.{Boundary}
 use Rattle.vault.specs.promises.Openings.{Openings}
 use Rattle.vault.specs.Worked.{Holds, examples, blank_examples}
+use Rattle.vault.specs.WorkedBytes.{byte_examples, stripe_examples, stray_examples, fault_examples}
+use Rattle.vault.specs.WorkedBytes.{history_examples, half_examples, number_examples, answer_examples}
 
 -- the three demands, what else is promised, and the worked examples
-pub record Promises : Type 0 where
+pub record Promises : Type 1 where
   pub demands : Demands
   pub histories : Histories
   pub decoding : Decoding
   pub losses : Losses
+  pub erasures : Erasures
+  pub table : Table
+  pub numbers : Numbers
+  pub leaving : Leaving
+  pub recovering : Recovering
+  pub coding : Coding
+  pub writing : Writing
   pub explaining : Explaining
   pub blanks : Blanks
   pub boundary : Boundary
   pub openings : Openings
   pub worked : Holds examples
   pub worked_blanks : Holds blank_examples
+  pub worked_bytes : Holds byte_examples
+  pub worked_stripes : Holds stripe_examples
+  pub worked_strays : Holds stray_examples
+  pub worked_faults : Holds fault_examples
+  pub worked_histories : Holds history_examples
+  pub worked_halves : Holds half_examples
+  pub worked_numbers : Holds number_examples
+  pub worked_answers : Holds answer_examples

@@ -1,7 +1,8 @@
 -- THE BOUNDARY FOR C: what it hands out of an answer says as much as the answer. Signs and letters: Demands. Assumes nothing.
-use Rattle.std.specs.Prelude.{◌≡◌, false, List, ℕ, take, drop}
+use Rattle.std.specs.Prelude.{◌≡◌, true, false, List, ℕ, ◌*◌, take, drop}
 use Rattle.layout.specs.declared.Header.{Header}
-use Rattle.store.specs.StoreCalls.{read_gives}
+use Rattle.recovery.specs.Verdicts.{Verdict}
+use Rattle.store.specs.StoreCalls.{read_number, read_gives}
 use Rattle.recovery.specs.RecoveryCall.{recover_answer}
 use Rattle.explanation.specs.ExplainCall.{explain_answer}
 use Rattle.vault.specs.Boundary.{read_start, read_count, no_shelf, shelf_of}
@@ -10,7 +11,18 @@ use Rattle.vault.specs.Boundary.{read_start, read_count, no_shelf, shelf_of}
 abbrev pub PartIs : Type 0
 PartIs = (h : Header) (raw : List ℕ) (i : ℕ) → take (read_count h raw i) (drop (read_start h raw i) raw) ≡ read_gives h raw i
 
--- RECOVERY, AND EXPLAINING. Whoever reads the number that stands for none knows that no stripe is named
+-- they are those of record i, and 0 and 0 where it is refused
+abbrev pub PartAt : Type 0
+PartAt =
+    (h : Header) (raw : List ℕ) (i : ℕ) →
+    (read_number h raw i ≡ 0 → (read_start h raw i ≡ i * h.s) × (read_count h raw i ≡ h.s)) ×
+    ((read_number h raw i ≡ 0 → ⊥) → (read_start h raw i ≡ 0) × (read_count h raw i ≡ 0))
+
+-- RECOVERY, AND EXPLAINING. A stripe that is named is handed out, and where none is, the number that stands for none
+abbrev pub ShelfIs : Type 0
+ShelfIs = (answer : Verdict) → (answer.named ≡ true → shelf_of answer ≡ answer.stripe) × (answer.named ≡ false → shelf_of answer ≡ 4294967295)
+
+-- Whoever reads the number that stands for none knows that no stripe is named
 abbrev pub NoneNamed : Type 0
 NoneNamed =
     (h : Header) (m e out scratch : List ℕ) → shelf_of (recover_answer h m e out scratch) ≡ no_shelf → (recover_answer h m e out scratch).named ≡ false
@@ -24,5 +36,7 @@ NoneExplained =
 -- ALL OF THIS ROOM
 pub record Boundary : Type 0 where
   pub part_is : PartIs
+  pub part_at : PartAt
+  pub shelf_is : ShelfIs
   pub none_named : NoneNamed
   pub none_explained : NoneExplained

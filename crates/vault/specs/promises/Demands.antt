@@ -1,14 +1,19 @@
 -- WHAT THE VAULT PROMISES: the three demands, as lines that can be shown. The rooms beside this file have the words that these lines use, and what else is
 -- promised: Decoding has Readable, Codes, HoldRecords, Decodes and Fails; Losses has Survives, SameRemains and Recovers; then Histories, Explaining, Blanks,
--- Boundary and Openings. All has the record of everything, whose one proof is `proved` of proofs/Proved. Assumes nothing.
+-- Boundary and Openings. What these say by marks, lengths and numbers is said by bytes and by the rows of the table of refusals in Erasures, Table, Numbers,
+-- Leaving, Recovering, Coding and Writing. All has the record of everything, whose one proof is `proved` of proofs/Proved. Assumes nothing.
 --
--- SIGNS. First `f a`, h.k and ^ bind; then * and +, -; then ∷ and ++; then ≡, ≤, <; then ×, ⊎, ↔; then →; and `let` what follows it
+-- SIGNS. First `f a`, h.k and ^ bind; then *, / and %; then + and -; then ∷ and ++; then ≡, ≤, <; then ×, ⊎, ↔; then →; and `let` what follows it
+--   (`→` groups from the right, the others from the left)
 --   f a z             f of a and z, as f(a, z) elsewhere   h.k              the field k of h
 --   a ≡ z             a equals z                           a - z            a less z, and 0 where z is above a
 --   A × B             A and B                              (a : T) × A      there is an a of type T with A
 --   A ⊎ B             A or B                               A ↔ B            A if and only if B
 --   A → B             if A, then B                         (a z : T) → A    for every a and every z of type T: A
 --   ⊥                 what is never true                   A → ⊥            not A
+--   Unit {0}          what is always true                  eqb a z          true if a equals z, else false
+--   a / z             a divided by z, rounded down         a % z            the remainder of a divided by z
+--   elim w [ true ↦ a | false ↦ z ]    a if w is true, z if it is false
 --   let name = a in A    A, where `name` is short for a    A : Type 0       A is a statement
 --   ℕ                 the numbers 0, 1, 2, ..              suc a            a + 1 (and 2 ^ suc l is twice 2 ^ l)
 --   Bool              true or false                        List T           a list of things of type T
@@ -16,19 +21,24 @@
 --   length list       how many entries it has              get_or list q a  entry q of the list, counted from 0; a if it has none
 --   take a list       its first a entries                  drop a list      the others
 --   replicate a z     a times z                            record           a statement with several parts, a `pub` line for each
---   abbrev            a name for what follows              use              where names that a file uses are from
+--   abbrev, unfoldable   a name for what follows           use              where names that a file uses are from
+--   data              a type by the ways in which its things are made. What speaks of all statements is of Type 1, and of Type 0 what does not
 --
 -- LETTERS of the rooms, each with one meaning; other names are words
 --   o, o'     an opening: k, s, the raw records, and the buffers `full` and `log` that it is lent
 --   es, es'   the events after it; `next` one more
---   v         a vault: any header and any buffers; `held` are its buffers
---   x         a model: its `records`, and the writes of the round
+--   v, v'     a vault: any header and any buffers; `held` are its buffers
+--   x, x'     a model: its `records`, and the writes of the round
 --   h         a header (docs/FORMAT.md, section 1): its numbers are k, s and c, 2^k records of s words, and c writes since the full stripe was last built
 --   i         a record's number
 --   b         the data words of a block for it
 --   t, t'     a write of the round, counted from 0
 --   l, l'     a stripe (shelf): a level below k, or k for the full stripe; it has 2^l blocks and 2^(l+1) positions
---   q         a place in a list of words, counted from 0
+--   q, q'     a place in a list of words, counted from 0
+--   j, j'     a block of a stripe, or a word of a record or of a block, counted from 0
+--   n, n'     a number of the table of refusals
+--   A         a statement
+--   ts        the tests of a call, in rising number
 --   d         a number of positions
 --   m         an image, as bytes
 --   e         an erasure list (gap list), as bytes
@@ -58,21 +68,27 @@
 --              scratch_size, image_size: the lengths of docs/FORMAT.md, section 3. width h: 1 + s. is_full h l: l is k. is_filled h l: bit l of c is 1.
 --              first_of h l: t0, the write that the first block of a level is. stripe_at h l: the word of the image at which the stripe begins; stripe_size h
 --              l: how many it has. stripe_of h l: the stripe's numbers: l, k, its t0, and 1 + s. record_in s raw i: record i of raw records
+--              Tests: `test holds n ts`, or `done`: tests with their numbers. refusal ts: the number of the first that does not hold, 0 if all do
+--   code       coded p w k l t0 column: the words that a column of blocks' words codes to, X then Y
 --   decoder    survivors l ms: the positions of stripe l that are not erased
---   store      read_gives: the part that the call `read` gives. blocks_of h raw: raw records as blocks, in number order
+--   store      open_answer, open_leaves: what the call `open` answers, a number and a header, and what it leaves. read_number, read_gives: the number that the
+--              call `read` gives, and the part. blocks_of h raw: raw records as blocks, in number order. full_stripe h raw: the full stripe of raw records.
+--              buffers raw full log: these three buffers
 --   image      word_at m q: word q of an image. words_of bytes: the words of some bytes. stripe_in h m l: the bytes of a stripe in an image. erasures_in e: the
 --              pairs of a list. erasures_fit h e: it is well formed, number 3 does not apply. marks_of h pairs l: for each position of a stripe whether a pair
---              touches one of its bytes; true is erased
+--              touches one of its bytes; true is erased. image_number, image_leaves: the number that the call `image` gives, and what it leaves
 --   judging    of a stripe's numbers, its marks ms and its words ws, whatever stands at erased positions. Its specs/Promises has: Codes: some blocks are 2^l
 --              blocks of words of the field that code, by the published scheme, to all words that survive; InField: all of these are words of the field, below
 --              65537; OutOfField: one is not. Its specs/Decoding has: `decoded bs` or `failed` with a number: what a stripe decodes to; are_records: blocks are
---              records, number 10 does not apply; decode_rows: what words and marks decode to
+--              records, number 10 does not apply; decode_rows: what words and marks decode to; decoded_number: the number of that, 0 where it is blocks
 --   stripe_decoding   decode_stripe h m pairs l: what a stripe of an image decodes to. decode_early: the number of the call `decode` by its tests 1 to 6.
 --              decode_number, decode_leaves, decode_scratch: the number that it gives, and what it leaves in the output and in the scratch
---   recovery   recover_answer, recover_leaves, recover_scratch: what the call `recover` answers and leaves. unnamed 0: the number 0, and no stripe is named.
---              at_fault 7 l: the number 7, and stripe l is named. origins_size: how long the origins are, a pair of words for each record
+--   recovery   recover_answer, recover_leaves, recover_scratch: what the call `recover` answers and leaves. unnamed n: the number n, and no stripe is named.
+--              at_fault n l: the number n, and stripe l is named. Both are a Verdict: a `number`, whether a stripe is `named`, and the `stripe`.
+--              origins_size: how long the origins are, a pair of words for each record
 --   explanation   explain_early: the number of the call `explain` by its tests 1 to 3. explain_answer, explain_counts, explain_origins, explain_scratch: what
 --              it answers, and what it leaves in its buffers. counts_size: how long the counts are, a pair of words for each stripe from 0 to k
+--   power_table   powers_number, powers_leaves: the number that the call `powers` gives, and what it leaves
 use Rattle.std.specs.Prelude.{◌≡◌, true, false, ◌↔◌, List, ℕ}
 use Rattle.layout.specs.declared.Header.{Header}
 use Rattle.layout.specs.Header.{header_of}

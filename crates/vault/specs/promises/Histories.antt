@@ -1,14 +1,18 @@
 -- HISTORIES: the model beside the round that a history ends in, and the raw copy and the image that it leaves. Signs and letters: Demands. Assumes nothing.
-use Rattle.std.specs.Prelude.{◌≡◌, List, [], ◌∷◌, ◌++◌, ℕ, suc, ◌*◌, ◌-◌, ◌^◌, ◌<◌, length, get_or, take}
+use Rattle.std.specs.Prelude.{◌≡◌, ◌⊎◌, List, [], ◌∷◌, ◌++◌, ℕ, suc, ◌+◌, ◌*◌, ◌-◌, ◌^◌, ◌≤◌, ◌<◌, length, get_or, take}
 use Rattle.layout.specs.Header.{image_size}
-use Rattle.vault.specs.Event.{Opening, Event}
-use Rattle.vault.specs.Model.{writes, model_of}
+use Rattle.vault.specs.Event.{Opening, Event, write, earlier}
+use Rattle.vault.specs.Model.{writes, table_number, model_of}
 use Rattle.vault.specs.History.{Opens, vault_after, header_after, image_after}
 use Rattle.vault.specs.Round.{put_all, model_in, round_of}
 
 -- THE MODEL begins with the opening's k and s, an event keeps them, and so they stay the opening's
 abbrev pub SizesBegin : Type 0
 SizesBegin = (o : Opening) → ((model_of o []).k ≡ o.k) × ((model_of o []).s ≡ o.s)
+
+-- with the opened records, and no write
+abbrev pub ModelBegins : Type 0
+ModelBegins = (o : Opening) → ((model_of o []).records ≡ o.raw) × (writes (model_of o []) ≡ 0)
 
 abbrev pub SizesKept : Type 0
 SizesKept =
@@ -39,6 +43,24 @@ BeforeIs =
     (count ≡ length round.since) × (length (model_of o es).before ≡ count) ×
     ((back : ℕ) → back < count → get_or (model_of o es).before back [] ≡ put_all (model_of o es).s round.base (take (count - suc back) round.since))
 
+-- AN EVENT THAT THE TABLE REFUSES leaves the model as it is. One that it takes puts its block's words in the place of record i, and nothing else; the count
+-- grows by 1, and at n it is 0
+abbrev pub ModelKept : Type 0
+ModelKept = (o : Opening) (es : List Event) (next : Event) → (table_number (model_of o es) next ≡ 0 → ⊥) → model_of o (es ++ (next ∷ [])) ≡ model_of o es
+
+-- `Puts`: the event is a write or an earlier write of b to record i
+abbrev pub Puts : Event → (record_number : ℕ) → (block : List ℕ) → Type 0
+Puts next i b = (next ≡ write i b) ⊎ (next ≡ earlier i b)
+
+abbrev pub ModelPuts : Type 0
+ModelPuts =
+    (o : Opening) (es : List Event) (next : Event) (i : ℕ) (b : List ℕ) → Opens o → Puts next i b → table_number (model_of o es) next ≡ 0 →
+    let before = model_of o es in
+    let after = model_of o (es ++ (next ∷ [])) in
+    ((j : ℕ) → j < before.s → get_or after.records (i * before.s + j) 0 ≡ get_or b j 0) ×
+    ((q : ℕ) → (q < i * before.s) ⊎ (suc i * before.s ≤ q) → get_or after.records q 0 ≡ get_or before.records q 0) ×
+    (suc (writes before) < 2 ^ before.k → writes after ≡ suc (writes before)) × (suc (writes before) ≡ 2 ^ before.k → writes after ≡ 0)
+
 -- THE IMAGE has the length that recovery asks for
 abbrev pub ImageLong : Type 0
 ImageLong = (o : Opening) (es : List Event) → Opens o → length (image_after o es) ≡ image_size (header_after o es)
@@ -46,10 +68,13 @@ ImageLong = (o : Opening) (es : List Event) → Opens o → length (image_after 
 -- ALL OF THIS ROOM
 pub record Histories : Type 0 where
   pub sizes_begin : SizesBegin
+  pub model_begins : ModelBegins
   pub sizes_kept : SizesKept
   pub sizes_stay : SizesStay
   pub records_long : RecordsLong
   pub raw_is : RawIs
   pub model_is : ModelIs
   pub before_is : BeforeIs
+  pub model_kept : ModelKept
+  pub model_puts : ModelPuts
   pub image_long : ImageLong

@@ -1,0 +1,126 @@
+-- The number of each call that is lent no image, and of the model's events, both ways round: the tests of the call beside the rows of the table (Table). The
+-- room Numbers of specs/promises. Assumes nothing.
+use mathlib.Core.Path.{◌≡◌, refl, sym, ap, ◌∙◌, subst}
+use mathlib.Core.Bool.{false, ◌&&◌, not}
+use mathlib.Core.List.{List}
+use Prim.Native.Nat.{ℕ, ◌*◌, ◌^◌, ◌≤◌}
+use native.Mathlib.Omega.{arith}
+use lib.Dec.{eqb, ltb}
+use lib.ListN.{length}
+use Rattle.std.specs.Prelude.{◌↔◌}
+use Rattle.layout.specs.declared.Header.{Header}
+use Rattle.layout.specs.Header.{header_of, record_count, raw_size, full_size, log_size, image_size}
+use Rattle.layout.specs.Records.{are_data, is_blank, records_fit}
+use Rattle.layout.specs.Refusals.{Tests, done, test, refusal}
+use Rattle.layout.proofs.Refusals.{none_fails}
+use Rattle.layout.proofs.RecordWords.{records_data}
+use Rattle.store.specs.Buffers.{Buffers, buffers}
+use Rattle.store.specs.StoreCalls.{buffers_fit}
+use Rattle.vault.specs.Event.{write, earlier}
+use Rattle.vault.specs.Model.{Model, judged}
+use Rattle.vault.specs.History.{Vault}
+use Rattle.vault.specs.promises.Table.{RawLength, FullLength, LogLength, BlockLength, ImageLength, OutOfRange, NoSuchRecord, NoDataWord, AllZero}
+use Rattle.vault.specs.promises.Table.{Rows, none, row, EachNumber}
+use Rattle.vault.specs.promises.Numbers.{OpenNumbers, WriteRows, WriteNumbers, EarlierNumbers, TableRows, TableNumbers, EarlierTable, SameTable}
+use Rattle.vault.specs.promises.Numbers.{ReadNumbers, ImageNumbers, PowersNumbers}
+use Rattle.vault.proofs.Histories.{data_fit, blank_number}
+use Rattle.vault.proofs.Table.{Beside, ended, beside, each_number, Says, fails_unless, sure, both_say, three_say, equal_says, header_fails, full_is, log_is}
+use Rattle.vault.proofs.Table.{record_number_fails, data_fails, blank_fails}
+
+-- THE LENGTHS of a vault's buffers
+full_says : (h : Header) (f : List ℕ) → Says (eqb (length f) (full_size h)) (FullLength h f)
+full_says h f = equal_says {a = length f} (full_is h)
+
+log_says : (h : Header) (g : List ℕ) → Says (eqb (length g) (log_size h)) (LogLength h g)
+log_says h g = equal_says {a = length g} (log_is h)
+
+raw_says : (h : Header) (r : List ℕ) → Says (eqb (length r) (raw_size h)) (RawLength h r)
+raw_says h r = equal_says {a = length r} {b = raw_size h} refl
+
+buffers_say : (h : Header) (u : Buffers) → Says (buffers_fit h u) (RawLength h u.raw × FullLength h u.full × LogLength h u.log)
+buffers_say h u = three_say (raw_says h u.raw) (full_says h u.full) (log_says h u.log)
+
+-- OPENING: the records are the words of the buffer where it is as long as they are
+records_fail : (k s : ℕ) (r : List ℕ) → length r ≡ 2 ^ k * s → (records_fit s r (2 ^ k) ≡ false) ↔ NoDataWord r
+records_fail k s r e =
+    let t = records_data s r (2 ^ k) e in
+    (λ f. (data_fails r).0 (sym t ∙ f), λ w. t ∙ (data_fails r).1 w)
+
+pub open_numbers : OpenNumbers
+open_numbers k s r f g =
+    let h = header_of k s 0 in
+    let sized = buffers_say h (buffers r f g) in
+    each_number (row 1 (OutOfRange h) (row 2 (RawLength h r × FullLength h f × LogLength h g → ⊥) (row 5 (NoDataWord r) none)))
+    (beside (omega arith) (λ _. header_fails h)
+    (beside (omega arith) (λ _. fails_unless sized)
+    (beside (omega arith) (λ o. records_fail k s r (sure sized o.1).0) ended)))
+
+-- WRITING
+block_beside : {others : Type 0} (n i : ℕ) (b : List ℕ) {ts : Tests} {rows : Rows} → Beside 5 ((others × (n ≤ i → ⊥)) × (NoDataWord b → ⊥)) ts rows
+    → Beside 2 others (test (ltb i n) 4 (test (are_data b) 5 ts)) (row 4 (n ≤ i) (row 5 (NoDataWord b) rows))
+block_beside n i b more = beside (omega arith) (λ _. record_number_fails n i) (beside (omega arith) (λ _. data_fails b) more)
+
+blank_beside : {others : Type 0} (b : List ℕ) → Beside 5 others (test (not (is_blank b)) 11 done) (row 11 (AllZero b) none)
+blank_beside b = beside (omega arith) (λ _. blank_fails b) ended
+
+block_says : (b : List ℕ) (s : ℕ) → Says (eqb (length b) s) (length b ≡ s)
+block_says b s = equal_says {a = length b} {b = s} refl
+
+lengths_say : (v : Vault) (b : List ℕ) → let h = v.header in
+    Says (buffers_fit h v.held && eqb (length b) h.s) (RawLength h v.held.raw × FullLength h v.held.full × LogLength h v.held.log × BlockLength h b)
+lengths_say v b =
+    let t = both_say (buffers_say v.header v.held) (block_says b v.header.s) in
+    (λ e. let p = t.0 e in (p.0.0, p.0.1, p.0.2, p.1), λ p. t.1 ((p.0, p.1, p.2), p.3))
+
+pub write_numbers : WriteNumbers
+write_numbers v i b =
+    each_number (WriteRows v i b (row 11 (AllZero b) none))
+    (beside (omega arith) (λ _. header_fails v.header)
+    (beside (omega arith) (λ _. fails_unless (lengths_say v b))
+    (block_beside (record_count v.header) i b (blank_beside b))))
+
+pub earlier_numbers : EarlierNumbers
+earlier_numbers v i b =
+    each_number (WriteRows v i b none)
+    (beside (omega arith) (λ _. header_fails v.header)
+    (beside (omega arith) (λ _. fails_unless (lengths_say v b))
+    (block_beside (record_count v.header) i b ended)))
+
+-- AND WHAT THE MODEL SAYS: the same tests
+judged_is : (x : Model) (i : ℕ) (b : List ℕ) (ts : Tests)
+    → refusal (test (eqb (length b) x.s) 2 (test (ltb i (2 ^ x.k)) 4 (test (are_data b) 5 ts))) ≡ judged x i b (refusal ts)
+unfolding refusal
+judged_is x i b ts = rw (data_fit b) refl
+
+pub table_numbers : TableNumbers
+table_numbers x i b =
+    let rows = TableRows x i b (row 11 (AllZero b) none) in
+    subst (λ (n : ℕ). EachNumber n rows) (judged_is x i b (test (not (is_blank b)) 11 done) ∙ ap (judged x i b) (blank_number b))
+    (each_number rows (beside (omega arith) (λ _. fails_unless (block_says b x.s)) (block_beside (2 ^ x.k) i b (blank_beside b))))
+
+pub earlier_table : EarlierTable
+earlier_table x i b =
+    let rows = TableRows x i b none in
+    subst (λ (n : ℕ). EachNumber n rows) (judged_is x i b done ∙ ap (judged x i b) none_fails)
+    (each_number rows (beside (omega arith) (λ _. fails_unless (block_says b x.s)) (block_beside (2 ^ x.k) i b ended)))
+
+pub same_table : SameTable
+same_table x x' (write i b) k s = rw (k, s) refl
+same_table x x' (earlier i b) k s = rw (k, s) refl
+
+-- READING, AN IMAGE, THE TABLE OF POWERS
+pub read_numbers : ReadNumbers
+read_numbers h r i =
+    each_number (row 1 (OutOfRange h) (row 2 (RawLength h r → ⊥) (row 4 (NoSuchRecord h i) none)))
+    (beside (omega arith) (λ _. header_fails h)
+    (beside (omega arith) (λ _. fails_unless (raw_says h r))
+    (beside (omega arith) (λ _. record_number_fails (record_count h) i) ended)))
+
+pub image_numbers : ImageNumbers
+image_numbers h f g m =
+    let image : Says (eqb (length m) (image_size h)) (ImageLength h m) = equal_says {a = length m} {b = image_size h} refl in
+    each_number (row 1 (OutOfRange h) (row 2 (FullLength h f × LogLength h g × ImageLength h m → ⊥) none))
+    (beside (omega arith) (λ _. header_fails h) (beside (omega arith) (λ _. fails_unless (three_say (full_says h f) (log_says h g) image)) ended))
+
+pub powers_numbers : PowersNumbers
+powers_numbers out = each_number (row 2 (length out ≡ 2048 → ⊥) none) (beside (omega arith) (λ _. fails_unless (block_says out 2048)) ended)
