@@ -21,4 +21,4 @@ pub worked : Holds examples
 unfolding plus minus times power_from power root_of Words.table sum_at difference_at mixed transform scaled reversed turned bit_reversed
     column columns_from row_of rows_from lifted coded coded_rows every records_fit first_empty refusal reduced blocks_from rebuilt_half decimal_from decimal
     pairs written write_of write_all words positions level_text levels_text
-worked = (is, (is, (is, (is, (is, (is, (is, (is, (is, (is, (is, (is, (is, (is, (is, (is, (is, (is, (is, (is, (is, tt)))))))))))))))))))))
+worked = (is, (is, (is, (is, (is, (is, (is, (is, (is, (is, (is, (is, (is, (is, (is, (is, (is, (is, (is, (is, (is, (is, tt))))))))))))))))))))))
