@@ -13,7 +13,7 @@ use Rattle.code.specs.Rows.{column}
 use Rattle.code.specs.Stripe.{coded, coded_rows}
 use Rattle.code.proofs.Lifting.{length_column, column_at, lifted_at}
 use Rattle.code.proofs.Shapes.{append_low, append_high}
-use Rattle.field.specs.Field.{root_of}
+use Rattle.field.specs.Field.{fermat, root_of}
 use Rattle.layout.specs.declared.Header.{Header}
 use Rattle.layout.specs.Header.{vault_root}
 use Rattle.layout.specs.Records.{record_in}
@@ -28,11 +28,11 @@ use Rattle.vault.proofs.Erasures.{stripe_word, marked_iff}
 use Rattle.vault.proofs.Leaving.{power_is}
 
 -- THE ROOT of the definition of the code is that of the statements
-root_is : (h : Header) → vault_root h ≡ root h
+pub root_is : (k : ℕ) → root_of fermat k ≡ root k
 unfolding root root_of
-root_is h =
-    power_is 65537 3 (65536 / (2 * 2 ^ h.k)) (omega arith)
-    ∙ ap (λ (n : ℕ). 3 ^ n % 65537) {x = 65536 / (2 * 2 ^ h.k)} {y = 32768 / 2 ^ h.k} (sym (div-div-eq-div-mul 65536 2 (2 ^ h.k)))
+root_is k =
+    power_is 65537 3 (65536 / (2 * 2 ^ k)) (omega arith)
+    ∙ ap (λ (n : ℕ). 3 ^ n % 65537) {x = 65536 / (2 * 2 ^ k)} {y = 32768 / 2 ^ k} (sym (div-div-eq-div-mul 65536 2 (2 ^ k)))
 
 -- A COLUMN is the one that the code has
 column_is : (h : Header) (l j : ℕ) (bs c : List ℕ) → ColumnOf h l j bs c → column (suc h.s) (2 ^ l) j bs ≡ c
@@ -46,11 +46,11 @@ the_column h l j bs = record { long = length_column (suc h.s) (2 ^ l) j bs; word
 
 -- and so a word of coded rows is one of the code of its column
 row_codes : (h : Header) (l t : ℕ) (bs c : List ℕ) (i j : ℕ) → i < 2 ^ suc l → j < suc h.s → ColumnOf h l j bs c
-    → get_or (coded_rows 65537 (vault_root h) h.k l t (suc h.s) bs) (i * suc h.s + j) 0 ≡ get_or (coded 65537 (root h) h.k l t c) i 0
+    → get_or (coded_rows 65537 (vault_root h) h.k l t (suc h.s) bs) (i * suc h.s + j) 0 ≡ get_or (coded 65537 (root h.k) h.k l t c) i 0
 unfolding coded_rows
 row_codes h l t bs c i j a b C =
     lifted_at (suc h.s) (2 ^ l) (2 ^ suc l) (coded 65537 (vault_root h) h.k l t) bs i j a b
-    ∙ ap₂ (λ (w : ℕ) (x : List ℕ). get_or (coded 65537 w h.k l t x) i 0) (root_is h) (column_is h l j bs c C)
+    ∙ ap₂ (λ (w : ℕ) (x : List ℕ). get_or (coded 65537 w h.k l t x) i 0) (root_is h.k) (column_is h l j bs c C)
 
 pub codes_iff : CodesIff
 codes_iff h m e l bs R W within =

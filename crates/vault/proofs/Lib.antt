@@ -1,6 +1,8 @@
 -- What a crate above can name: the promises' proof (Proved) and the laws under it, and those about refusals and what a call leaves.
+pub mod AnswerLaws
 pub mod Blanks
 pub mod Boundary
+pub mod CodeGrowth
 pub mod Coding
 pub mod DecodeNumbers
 pub mod Demand3

@@ -15,7 +15,9 @@ use Rattle.vault.proofs.Leaving.{open_refused, open_taken, read_refused, read_ta
 use Rattle.vault.proofs.Leaving.{powers_refused, powers_taken}
 use Rattle.vault.proofs.LeavingStripes.{decode_refused, decode_failed, decode_taken}
 use Rattle.vault.proofs.LeavingLayers.{recover_refused, recover_failed, recover_taken, explain_refused, explain_failed, explain_taken}
+use Rattle.vault.proofs.CodeGrowth.{code_begins, code_mixes}
 use Rattle.vault.proofs.Coding.{codes_iff, blocks_are, full_codes}
+use Rattle.vault.proofs.AnswerLaws.{number_read, opening_read, write_read, part_read, verdict_read, header_has, buffers_have, open_answers, write_answers}
 use Rattle.vault.proofs.Writing.{write_puts, write_counts, write_keeps, write_reduces, write_ends}
 use Rattle.vault.proofs.LastBlocks.{recover_holds, explain_holds}
 use Rattle.vault.proofs.Recovering.{answers_say, stops_iff, taken_iff, explain_stops_iff, explain_taken_iff}
@@ -127,13 +129,30 @@ proved = record {
     recover_holds = recover_holds;
     explain_holds = explain_holds;
   };
-  coding = record { codes_iff = codes_iff; blocks_are = blocks_are; full_codes = full_codes };
+  coding = record {
+    code_begins = code_begins;
+    code_mixes = code_mixes;
+    codes_iff = codes_iff;
+    blocks_are = blocks_are;
+    full_codes = full_codes;
+  };
   writing = record {
     write_puts = write_puts;
     write_counts = write_counts;
     write_keeps = write_keeps;
     write_reduces = write_reduces;
     write_ends = write_ends;
+  };
+  answers = record {
+    number_read = number_read;
+    opening_read = opening_read;
+    write_read = write_read;
+    part_read = part_read;
+    verdict_read = verdict_read;
+    header_has = header_has;
+    buffers_have = buffers_have;
+    open_answers = open_answers;
+    write_answers = write_answers;
   };
   explaining = record {
     agrees = agrees;

@@ -44,8 +44,8 @@ all_worked = (
   (is, (is, (is, (is, (is, (is, (is, (is, (is, (is, (is, (is, (is, (is, tt)))))))))))))),
   (is, (is, (is, (is, tt)))),
   (is, (is, (is, (is, (is, (is, (is, (is, tt)))))))),
-  (is, (is, (is, (is, (is, (is, (is, (is, (is, (is, tt)))))))))),
-  (is, (is, (is, (is, tt)))),
+  (is, (is, (is, (is, (is, (is, (is, (is, (is, (is, (is, (is, tt)))))))))))),
+  (is, (is, (is, (is, (is, tt))))),
   (is, (is, (is, (is, (is, (is, (is, (is, (is, tt))))))))),
   (is, (is, (is, (is, (is, (is, (is, (is, (is, (is, (is, (is, (is, (is, tt)))))))))))))),
 )

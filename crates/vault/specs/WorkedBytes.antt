@@ -203,8 +203,8 @@ fault_examples =
     end)))))))
 
 -- HISTORIES. An opening that is lent ones; a round of four writes, which ends in a full stripe and an empty log. Single writes of 9 to record 1 on buffers that
--- no opening made, whose words count modulo 65537: at c = 1 level 1 is rebuilt, at c = 0 level 0, and level 1 stays. Then a record that is read, and one that
--- is none
+-- no opening made, whose words count modulo 65537: at c = 1 level 1 is rebuilt, also of a level 0 with zeros in its Y, and at k = 3 and c = 3 level 2 from two
+-- levels; at c = 0 level 0, and level 1 stays. Then a record that is read, and one that is none
 abbrev pub ones_lent : Opening
 ones_lent = record { k = 2; s = 1; raw = zeros 4; full = ones 16; log = ones 12 }
 
@@ -226,6 +226,9 @@ foreign c =
 abbrev pub five_writes : List Event
 five_writes = write 4 (65536 ∷ []) ∷ write 4 (0 ∷ 0 ∷ []) ∷ write 3 (65536 ∷ []) ∷ write 3 (0 ∷ []) ∷ write 3 (1 ∷ []) ∷ []
 
+abbrev pub foreign_log : List ℕ
+foreign_log = 70000 ∷ 1 ∷ 2 ∷ 65537 ∷ 10 ∷ 20 ∷ 30 ∷ 40 ∷ 65540 ∷ 60 ∷ 70 ∷ 80 ∷ 7 ∷ 7 ∷ 7 ∷ 7 ∷ 7 ∷ 7 ∷ 7 ∷ 7 ∷ 7 ∷ 7 ∷ 7 ∷ 7 ∷ 7 ∷ 7 ∷ 7 ∷ 7 ∷ []
+
 abbrev pub history_examples : Table
 history_examples =
     entry (image_left (opened_vault ones_lent)) (take 64 image_bytes ++ zeros 48)
@@ -233,15 +236,19 @@ history_examples =
     (entry (round.header.c ∷ recovery_of round.header round_bytes [] 4 24) (0 ∷ 0 ∷ 0 ∷ 0 ∷ 1 ∷ 2 ∷ 3 ∷ 4 ∷ zeros 24)
     (entry ((foreign 1).header.c ∷ (foreign 1).held.log) (2 ∷ 0 ∷ 0 ∷ 0 ∷ 0 ∷ 4464 ∷ 14 ∷ 4462 ∷ 65533 ∷ 65284 ∷ 63232 ∷ 259 ∷ 2303 ∷ [])
     (entry ((foreign 1).held.raw ++ (foreign 1).held.full) (1 ∷ 9 ∷ ones 18)
+    (entry (step (vault (header_of 2 1 1) (buffers (ones 4) (ones 16) (5 ∷ 6 ∷ zeros 10))) (write 1 (9 ∷ []))).held.log
+    (0 ∷ 0 ∷ 0 ∷ 0 ∷ 6 ∷ 15 ∷ 4 ∷ 65534 ∷ 65281 ∷ 63233 ∷ 256 ∷ 2304 ∷ [])
+    (entry (step (vault (header_of 3 1 3) (buffers (ones 8) (ones 32) foreign_log)) (write 1 (9 ∷ []))).held.log
+    (zeros 12 ++ (4474 ∷ 30 ∷ 37424 ∷ 2088 ∷ 61083 ∷ 10 ∷ 28173 ∷ 63529 ∷ 21 ∷ 204 ∷ 3654 ∷ 36944 ∷ 65522 ∷ 65453 ∷ 62023 ∷ 28753 ∷ []))
     (entry ((foreign 0).header.c ∷ (foreign 0).held.log) (1 ∷ 1 ∷ 9 ∷ 1 ∷ 9 ∷ replicate 8 70000)
     (entry (map (number_on opening) five_writes) (4 ∷ 2 ∷ 5 ∷ 11 ∷ 0 ∷ [])
     (entry (map (table_number (model_of zero_records [])) five_writes) (4 ∷ 2 ∷ 5 ∷ 11 ∷ 0 ∷ [])
     (entry (read_gives (header_of 2 2 0) (10 ∷ 11 ∷ 20 ∷ 21 ∷ 30 ∷ 31 ∷ 40 ∷ 41 ∷ []) 2) (30 ∷ 31 ∷ [])
     (entry (read_gives (header_of 2 2 0) (10 ∷ 11 ∷ 20 ∷ 21 ∷ 30 ∷ 31 ∷ 40 ∷ 41 ∷ []) 4) []
-    end)))))))))
+    end)))))))))))
 
 -- HALVES. The full stripe of k = 3, s = 1, whose records are 10 to 17, with ones in its X, which is erased: Y alone gives the blocks. Level 0 of k = 2
--- with t0 = 2 and the block 2, 3. And a column of level 3 in a vault of k = 5, whose first write is 16, from its Y
+-- with t0 = 2 and the block 2, 3. A column of level 3 in a vault of k = 5, whose first write is 16, also from its Y; and one of level 4
 abbrev pub y_bytes : List ℕ
 y_bytes =
     26 ∷ 252 ∷ 0 ∷ 0 ∷ 29 ∷ 61 ∷ 0 ∷ 0 ∷ 146 ∷ 91 ∷ 0 ∷ 0 ∷ 150 ∷ 91 ∷ 0 ∷ 0 ∷
@@ -256,10 +263,13 @@ half_examples =
     (entry (coded_rows 65537 4096 2 0 2 2 (2 ∷ 3 ∷ [])) (2 ∷ 3 ∷ 8192 ∷ 12288 ∷ [])
     (entry (coded 65537 8224 5 3 16 (1 ∷ 2 ∷ 3 ∷ 4 ∷ 5 ∷ 6 ∷ 7 ∷ 8 ∷ []))
     (36 ∷ 61680 ∷ 1020 ∷ 61168 ∷ 65521 ∷ 4367 ∷ 64509 ∷ 3855 ∷ 45786 ∷ 59088 ∷ 22094 ∷ 21606 ∷ 4555 ∷ 54485 ∷ 26255 ∷ 28534 ∷ [])
+    (entry (coded 65537 65529 4 4 0 (1 ∷ 2 ∷ 3 ∷ 4 ∷ 5 ∷ 6 ∷ 7 ∷ 8 ∷ 9 ∷ 10 ∷ 11 ∷ 12 ∷ 13 ∷ 14 ∷ 15 ∷ 16 ∷ []))
+    (136 ∷ 11443 ∷ 50109 ∷ 13107 ∷ 4080 ∷ 21843 ∷ 48061 ∷ 19155 ∷ 65473 ∷ 46380 ∷ 17468 ∷ 43692 ∷ 61425 ∷ 52428 ∷ 15420 ∷ 54092 ∷
+    33002 ∷ 38781 ∷ 53994 ∷ 15459 ∷ 38398 ∷ 20147 ∷ 43075 ∷ 42522 ∷ 7651 ∷ 47426 ∷ 3420 ∷ 62228 ∷ 33850 ∷ 26963 ∷ 44670 ∷ 12726 ∷ [])
     (entry (decoded_column 65537 8224 5 3 16 (replicate 8 true ++ replicate 8 false)
     (zeros 8 ++ (45786 ∷ 59088 ∷ 22094 ∷ 21606 ∷ 4555 ∷ 54485 ∷ 26255 ∷ 28534 ∷ [])))
     (1 ∷ 2 ∷ 3 ∷ 4 ∷ 5 ∷ 6 ∷ 7 ∷ 8 ∷ [])
-    end)))
+    end))))
 
 -- NUMBERS OF A HEADER: the roots of k = 1, 2, 3 and 10; the sizes at k = 3 and s = 2; what is out of range by one, with no buffer of its length, and at k = 2
 -- and s = 1 a count or a record number that is; the level that a write rebuilds at k = 3, for c from 0 to 5; and the first two powers of the table

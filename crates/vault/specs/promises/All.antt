@@ -12,6 +12,7 @@ use Rattle.vault.specs.promises.Leaving.{Leaving}
 use Rattle.vault.specs.promises.Recovering.{Recovering}
 use Rattle.vault.specs.promises.Coding.{Coding}
 use Rattle.vault.specs.promises.Writing.{Writing}
+use Rattle.vault.specs.promises.Answers.{Answers}
 use Rattle.vault.specs.promises.Explaining.{Explaining}
 use Rattle.vault.specs.promises.Blanks.{Blanks}
 use Rattle.vault.specs.promises.Boundary.{Boundary}
@@ -33,6 +34,7 @@ pub record Promises : Type 1 where
   pub recovering : Recovering
   pub coding : Coding
   pub writing : Writing
+  pub answers : Answers
   pub explaining : Explaining
   pub blanks : Blanks
   pub boundary : Boundary

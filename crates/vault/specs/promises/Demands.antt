@@ -1,7 +1,8 @@
 -- WHAT THE VAULT PROMISES: the three demands, as lines that can be shown. The rooms beside this file have the words that these lines use, and what else is
 -- promised: Decoding has Readable, Codes, HoldRecords, Decodes and Fails; Losses has Survives, SameRemains and Recovers; then Histories, Explaining, Blanks,
 -- Boundary and Openings. What these say by marks, lengths and numbers is said by bytes and by the rows of the table of refusals in Erasures, Table, Numbers,
--- Leaving, Recovering, Coding and Writing. All has the record of everything, whose one proof is `proved` of proofs/Proved. Assumes nothing.
+-- Leaving, Recovering, Coding and Writing; Answers has what is read off an answer of the code. All has the record of everything, whose one proof is `proved` of
+-- proofs/Proved. Assumes nothing.
 --
 -- SIGNS. First `f a`, h.k and ^ bind; then *, / and %; then + and -; then ∷ and ++; then ≡, ≤, <; then ×, ⊎, ↔; then →; and `let` what follows it
 --   (`→` groups from the right, the others from the left)
@@ -37,7 +38,7 @@
 --   q, q'     a place in a list of words, counted from 0
 --   j, j'     a block of a stripe, or a word of a record or of a block, counted from 0
 --   n, n'     a number of the table of refusals
---   A         a statement
+--   A, T      a statement; a type
 --   ts        the tests of a call, in rising number
 --   d         a number of positions
 --   m         an image, as bytes
