@@ -2,7 +2,7 @@
 use Rattle.std.specs.Prelude.{Bool, true, false, ℕ, eqb, Result, Ok, Err}
 use Rattle.layout.specs.declared.refusal.Refusal.{Refusal}
 use Rattle.layout.specs.declared.refusal.Refusal.TheVariants.{HeaderRange, Length, ErasureList, RecordNumber, DataWord, NoStripe, TooFew, OutOfField}
-use Rattle.layout.specs.declared.refusal.Refusal.TheVariants.{Inconsistent, NotRecords, Blank}
+use Rattle.layout.specs.declared.refusal.Refusal.TheVariants.{Inconsistent, NotRecords, Blank, RoundStart}
 
 -- THE TABLE OF REFUSALS (docs/FORMAT.md, section 10): the number of each
 abbrev pub number_of : Refusal → ℕ
@@ -17,6 +17,7 @@ number_of OutOfField = 8
 number_of Inconsistent = 9
 number_of NotRecords = 10
 number_of Blank = 11
+number_of RoundStart = 12
 
 -- the number of an answer: 0 if the call is taken
 abbrev pub answer_number : {A : Type 0} → Result A Refusal → ℕ

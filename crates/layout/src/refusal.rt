@@ -19,6 +19,7 @@ pub enum Refusal {
     Inconsistent = 9,
     NotRecords = 10,
     Blank = 11,
+    RoundStart = 12,
 }
 
 impl Refusal {
@@ -46,6 +47,7 @@ impl fmt::Display for Refusal {
             Refusal::Inconsistent => "inconsistent",
             Refusal::NotRecords => "not a record",
             Refusal::Blank => "blank block",
+            Refusal::RoundStart => "start of a round",
         })
     }
 }

@@ -27,12 +27,12 @@ use Rattle.range_laying.proofs.PairLoops.{length_pairs, filled_whole}
 use Rattle.range_laying.proofs.RangeCases.{is_whole_lem, not_whole, lays_blocks, lays_data, lays_records, names_none, names_writes}
 
 -- NO WORD MORE OR LESS
-length_laid : (s : ℕ) (bs : List ℕ) (n : ℕ) (o : List ℕ) → length (laid s bs n o) ≡ length o
+pub length_laid : (s : ℕ) (bs : List ℕ) (n : ℕ) (o : List ℕ) → length (laid s bs n o) ≡ length o
 unfolding laid
 length_laid s bs zero o = refl
 length_laid s bs (suc j) o = length-sets (laid s bs j o) (block_number (suc s) bs j * s) (block_data (suc s) bs j) ∙ length_laid s bs j o
 
-length_origins : (w l t : ℕ) (bs : List ℕ) (n : ℕ) (o : List ℕ) → length (origins_laid w l t bs n o) ≡ length o
+pub length_origins : (w l t : ℕ) (bs : List ℕ) (n : ℕ) (o : List ℕ) → length (origins_laid w l t bs n o) ≡ length o
 unfolding origins_laid
 length_origins w l t bs zero o = refl
 length_origins w l t bs (suc j) o =

@@ -7,12 +7,7 @@ ghost use Rattle.store.specs.StoreCalls.{buffers_number};
 use layout::{Header, Refusal, ValidHeader};
 
 // Tests 1 and 2: the header, and the lengths of the raw copy, the full stripe and the log.
-pub(crate) fn check(
-    header: Header,
-    raw: &[u32],
-    full: &[u32],
-    log: &[u32],
-) -> Result<ValidHeader, Refusal>
+pub fn check(header: Header, raw: &[u32], full: &[u32], log: &[u32]) -> Result<ValidHeader, Refusal>
     ensures number { answer_number result ≡ buffers_number header (buffers raw.now full.now log.now) }
     ensures same { IfOk result (λ v. v.header ≡ header) }
 {

@@ -2,7 +2,7 @@
 // C interface lends three.
 #![tactic(auto)]
 
-mod buffers;
+pub mod buffers;
 pub mod opening;
 pub mod reading;
 pub mod writing;

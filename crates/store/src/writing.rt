@@ -25,7 +25,7 @@ struct Block<'a> {
 }
 
 // Replaces raw record i, of as many words.
-fn put_record(raw: &mut [u32], i: usize, words: &[u32])
+pub fn put_record(raw: &mut [u32], i: usize, words: &[u32])
     requires { suc i * length words.now ≤ length raw.old }
     ensures { raw.new ≡ replaced (length words.now) raw.old i words.now }
 {
@@ -58,7 +58,7 @@ fn copy_reduced(log: &mut [u32], from: usize, to: usize, count: usize)
 // Where X (half 0) or Y (half 1) of a level begins in the log.
 // A number, and no enum: it is the factor of the place, by which X and Y are one formula. That a level is at most 10 is a clause, here and below: the type that
 // says so is the header's, and these are lent a level of the log alone.
-fn half_at(level: usize, half: usize, width: usize) -> usize
+pub fn half_at(level: usize, half: usize, width: usize) -> usize
     requires { (level ≤ 10) × (half ≤ 1) × (width ≤ 129) }
     ensures { result ≡ half_start width level half }
 {
