@@ -1,0 +1,6 @@
+pub mod BackRefusals
+pub mod BlockSearch
+pub mod FindingBack
+pub mod HeldStripes
+pub mod TakingLast
+pub mod WholeStripes

@@ -1,0 +1,3 @@
+pub mod TakeBackCall
+pub mod TakingBack
+pub mod steps
