@@ -29,18 +29,19 @@ extern "C" {
 
 /* The number of a call: the table of docs/FORMAT.md, section 10. */
 enum vault_number {
-    VAULT_TAKEN = 0,     /* no test applies */
-    VAULT_HEADER = 1,    /* plate: k, s or c out of its range */
-    VAULT_LENGTH = 2,    /* length: a buffer, block or image is not exactly its length */
-    VAULT_GAP_LIST = 3,  /* gap list: not whole pairs, or a rule of gap lists broken */
-    VAULT_RECORD = 4,    /* record: the record number is n or more */
-    VAULT_DATA_WORD = 5, /* data word: a word of the block or of the opened records is above 65535 */
-    VAULT_SHELF = 6,     /* shelf: the shelf number is above k, or that level is not filled */
-    VAULT_TOO_FEW = 7,   /* too few: fewer than half of the shelf's positions survive */
-    VAULT_STRAY = 8,     /* stray: a surviving word is above 65536 */
-    VAULT_DISCORD = 9,   /* discord: no list of blocks codes to all surviving words */
-    VAULT_NO_SHEET = 10, /* no sheet: the one list that does holds no records */
-    VAULT_BLANK = 11     /* blank: each data word of the block of a write is 0 */
+    VAULT_TAKEN = 0,       /* no test applies */
+    VAULT_HEADER = 1,      /* plate: k, s or c out of its range */
+    VAULT_LENGTH = 2,      /* length: a buffer, block or image is not exactly its length */
+    VAULT_GAP_LIST = 3,    /* gap list: not whole pairs, or a rule of gap lists broken */
+    VAULT_RECORD = 4,      /* record: the record number is n or more */
+    VAULT_DATA_WORD = 5,   /* data word: a word of the block or of the opened records is above 65535 */
+    VAULT_SHELF = 6,       /* shelf: the shelf number is above k, or that level is not filled */
+    VAULT_TOO_FEW = 7,     /* too few: fewer than half of the shelf's positions survive */
+    VAULT_STRAY = 8,       /* stray: a surviving word is above 65536 */
+    VAULT_DISCORD = 9,     /* discord: no list of blocks codes to all surviving words */
+    VAULT_NO_SHEET = 10,   /* no sheet: the one list that does holds no records */
+    VAULT_BLANK = 11,      /* blank: each data word of the block of a write is 0 */
+    VAULT_ROUND_START = 12 /* round start: a write is to be taken back, and *c is 0 */
 };
 
 /* What vault_recover and vault_explain leave in *shelf where they name none. */
@@ -53,6 +54,7 @@ enum vault_number {
 #define VAULT_LOG_WORDS(k, s) ((2 * VAULT_RECORDS(k) - 2) * ((size_t)(s) + 1))       /* (2n - 2)(s + 1) */
 #define VAULT_OUT_WORDS(k, s) (VAULT_RECORDS(k) * ((size_t)(s) + 1))                 /* n(s + 1) */
 #define VAULT_SCRATCH_WORDS(k, s) (VAULT_RECORDS(k) * ((size_t)(s) + 5))             /* n(s + 1) + 4n */
+#define VAULT_TAKE_BACK_WORDS(k, s) (2 * VAULT_SCRATCH_WORDS(k, s))                  /* 2n(s + 1) + 8n */
 #define VAULT_COUNTS_WORDS(k) (2 * ((size_t)(k) + 1))                                /* 2(k + 1) */
 #define VAULT_ORIGINS_WORDS(k) (2 * VAULT_RECORDS(k))                                /* 2n */
 #define VAULT_IMAGE_BYTES(k, s) (4 * ((size_t)(s) + 1) * (4 * VAULT_RECORDS(k) - 2)) /* 4(s + 1)(4n - 2) */
@@ -92,6 +94,25 @@ uint32_t vault_write(uint32_t k, uint32_t s, uint32_t *c,
                      uint32_t *log, size_t log_len,
                      uint32_t record,
                      const uint32_t *block, size_t block_len);
+
+/*
+ * Taking back: undoes the last write of the round, again and again back to its start. The write that ends a round cannot be taken back: *c is 0 after it.
+ *
+ * The lowest filled level is decoded; its last block is the write, and names the record. The record gets its write before that in the round, the newest that
+ * there is, else what the full shelf has of it. It is sought in the lowest filled level, in the filled levels above, and on the full shelf, each decoded when
+ * its turn comes, and no further than the one that has it. No position counts as lost, and no word is reduced.
+ *
+ * Lengths: raw VAULT_RAW_WORDS, full VAULT_FULL_WORDS, log VAULT_LOG_WORDS, scratch VAULT_TAKE_BACK_WORDS.
+ * Tests: 1 (k, s and *c), 2 (raw, full, log, scratch), 12 (*c), then 8, 9, 10 on each shelf in the order in which they are decoded.
+ * After 0: the record in raw is as before the write, the lowest filled level is zeros, the levels below it hold its other writes, the rest of the log is as it
+ * was, *c is one less, and scratch zeros. After an opening and writes, *c, raw, full and log are what they were before the write.
+ * After 1, 2 and 12: raw, log, scratch and *c are as they were. After 8 to 10: raw, log and *c are as they were, and scratch is zeros.
+ */
+uint32_t vault_take_back(uint32_t k, uint32_t s, uint32_t *c,
+                         uint32_t *raw, size_t raw_len,
+                         const uint32_t *full, size_t full_len,
+                         uint32_t *log, size_t log_len,
+                         uint32_t *scratch, size_t scratch_len);
 
 /*
  * Reading: where a record stands in the raw records.

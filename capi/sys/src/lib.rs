@@ -3,7 +3,7 @@
 //!
 //! A vault keeps n = 2^k records of s words each in buffers of the caller's: the raw records, n * s words, the full shelf, 2n(s + 1) words, and the log of
 //! k levels, (2n - 2)(s + 1) words. Its plate is k (1 to 10), s (1 to 128) and c (0 to n - 1), the writes since the full shelf was last built. Its image is
-//! 4(s + 1)(4n - 2) bytes, and a scratch buffer n(s + 1) + 4n words.
+//! 4(s + 1)(4n - 2) bytes, and a scratch buffer n(s + 1) + 4n words, twice as many for taking back.
 //!
 //! Each call gives a number of the table of refusals in docs/FORMAT.md. It makes its tests in rising number and gives the smallest that applies, for any
 //! numbers, any counts and any contents of the buffers: a length that is not the one named here is refused, and is no fault of the caller's.
@@ -40,6 +40,8 @@ pub const VAULT_DISCORD: u32 = 9;
 pub const VAULT_NO_SHEET: u32 = 10;
 /// Blank: each data word of the block of a write is 0.
 pub const VAULT_BLANK: u32 = 11;
+/// Round start: a write is to be taken back, and `*c` is 0.
+pub const VAULT_ROUND_START: u32 = 12;
 
 /// What [`vault_recover`] and [`vault_explain`] leave in `*shelf` where they name none.
 pub const VAULT_NO_SHELF: u32 = 0xffff_ffff;
@@ -83,6 +85,25 @@ extern "C" {
         log: *mut u32, log_len: usize,
         record: u32,
         block: *const u32, block_len: usize,
+    ) -> u32;
+
+    /// Taking back: undoes the last write of the round, again and again back to its start.
+    ///
+    /// Tests 1 (k, s and `*c`), 2 (`raw`, `full`, `log`, `scratch` of 2n(s + 1) + 8n words) and 12 (`*c`), then 8 to 10 on each shelf in the order in which
+    /// they are decoded: the lowest filled level, and others until the record's write before is found. After 0, the record in `raw` is as before the write,
+    /// the lowest filled level of `log` is zeros, the levels below hold its other writes, `*c` is one less, and `scratch` zeros. After 1, 2 and 12 all of
+    /// these are as they were; after 8 to 10 `scratch` is zeros and the others are as they were.
+    ///
+    /// # Safety
+    ///
+    /// `c` is valid for reads and writes of one number; `raw`, `log` and `scratch` are valid for reads and writes of as many words as their counts say; none of
+    /// the four overlaps anything that the call is lent. `full` is valid for reads of `full_len` words.
+    pub fn vault_take_back(
+        k: u32, s: u32, c: *mut u32,
+        raw: *mut u32, raw_len: usize,
+        full: *const u32, full_len: usize,
+        log: *mut u32, log_len: usize,
+        scratch: *mut u32, scratch_len: usize,
     ) -> u32;
 
     /// Reading: where a record stands in the raw records.

@@ -8,6 +8,7 @@ ghost use Rattle.vault.specs.Header.{header_of};
 ghost use Rattle.vault.specs.PowersCall.{powers_number, powers_leaves};
 ghost use Rattle.vault.specs.Buffers.{buffers};
 ghost use Rattle.vault.specs.StoreCalls.{open_number, open_leaves, write_number, write_answer, write_leaves, read_number};
+ghost use Rattle.vault.specs.TakeBackCall.{take_back_number, take_back_answer, take_back_leaves, take_back_scratch};
 ghost use Rattle.vault.specs.StripeCall.{decode_number, decode_leaves, decode_scratch};
 ghost use Rattle.vault.specs.Verdicts.{verdict_of};
 ghost use Rattle.vault.specs.RecoveryCall.{recover_answer, recover_leaves, recover_scratch};
@@ -76,6 +77,34 @@ pub extern "C" fn vault_write(
     match calls::write(header, raw, full, log, record, block) {
         Ok(next) => {
             *c = next.c;
+            0
+        }
+        Err(refusal) => refusal.number(),
+    }
+}
+
+// *c becomes one less; it stays where the taking-back is refused.
+#[unsafe(no_mangle)]
+pub extern "C" fn vault_take_back(
+    k: u32,
+    s: u32,
+    c: &mut u32,
+    raw: &mut [u32],
+    full: &[u32],
+    log: &mut [u32],
+    scratch: &mut [u32],
+) -> u32
+    ensures value { result ≡ take_back_number (header_of k s c.old) (buffers raw.old full.now log.old) scratch.old }
+    ensures c_after { c.new ≡ (take_back_answer (header_of k s c.old) (buffers raw.old full.now log.old) scratch.old).header.c }
+    ensures raw_after { raw.new ≡ (take_back_leaves (header_of k s c.old) (buffers raw.old full.now log.old) scratch.old).raw }
+    ensures log_after { log.new ≡ (take_back_leaves (header_of k s c.old) (buffers raw.old full.now log.old) scratch.old).log }
+    ensures scratch_after { scratch.new ≡
+        take_back_scratch (header_of k s c.old) (buffers raw.old full.now log.old) scratch.old }
+{
+    let header = Header { k, s, c: *c };
+    match calls::take_back(header, raw, full, log, scratch) {
+        Ok(before) => {
+            *c = before.c;
             0
         }
         Err(refusal) => refusal.number(),

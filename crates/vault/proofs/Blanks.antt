@@ -8,17 +8,22 @@ use native.Mathlib.Omega.{arith}
 use lib.Dec.{eqb, ltb}
 use lib.ListN.{length, replicate, length-replicate}
 use borrow.Author.Tests.{eq-eqb, lt-ltb}
-use Rattle.field.proofs.Booleans.{if_else_true, if_else_false, either}
+use Rattle.field.proofs.Booleans.{if_else, if_else_true, if_else_false, either}
+use Rattle.layout.specs.declared.Header.{Header}
 use Rattle.layout.specs.Header.{header_of, record_count, header_fits, raw_size, full_size, log_size}
 use Rattle.field.specs.Words.{every}
 use Rattle.layout.specs.Records.{is_data, are_data, is_zero, is_blank, record_in}
-use Rattle.layout.specs.Refusals.{Tests, done, test, refusal}
+use Rattle.layout.specs.Refusals.{Tests, done, test, refusal, if_taken}
 use Rattle.store.proofs.OpenRefusals.{open_data}
 use Rattle.layout.proofs.RecordWords.{data_words, are_data_lem, zeros_blank, blank_zeros, zeros_data, replaced_is, record_same, record_end, fit_all}
 use Rattle.layout.proofs.Refusals.{equal_three, test_holds, none_fails, if_refused}
+use Rattle.store.specs.Buffers.{Buffers}
 use Rattle.store.specs.Writing.{next_header, written}
 use Rattle.store.specs.StoreCalls.{buffers_fit, numbered, leaving}
-use Rattle.vault.specs.Event.{Opening, Event, write, earlier}
+use Rattle.splitting.specs.Splitting.{header_before}
+use Rattle.taking_back.specs.TakingBack.{TakenBack, stopped, goes, number_back, buffers_back}
+use Rattle.taking_back.specs.TakeBackCall.{take_back_early, take_back_comes}
+use Rattle.vault.specs.Event.{Opening, Event, write, earlier, take_back}
 use Rattle.vault.specs.History.{Vault, vault, number_on, step, Opens, opened_vault, vault_after}
 use Rattle.vault.specs.Model.{Model, words_fit, words_zero, judged, table_number, put, opened_model, model_of}
 use Rattle.vault.specs.promises.Blanks.{GivesEleven, ElseAsEarlier, FiveNotBlank, Fitting, OpensIff, ZerosOpen, BlankRefused, BlankKept}
@@ -107,9 +112,26 @@ five_not_blank v i b e blank =
 refused : (v : Vault) (i : ℕ) (b : List ℕ) {n : ℕ} → (n ≡ 0 → ⊥) → vault (numbered n v.header).header (leaving n v.header v.held i b) ≡ v
 refused v i b d = let h = v.header in ap₂ vault (if_refused (next_header h) h d) (if_refused (written h v.held i b) v.held d)
 
+-- a taking-back that comes to a number leaves the buffers, and so does one that an early test refuses
+back_stays : (h : Header) (u : Buffers) (x : TakenBack) → (number_back x ≡ 0 → ⊥) → buffers_back h u x ≡ u
+back_stays h u (stopped n) d = refl
+back_stays h u (goes bs ws) d = absurd (d refl)
+
+back_refused : (h : Header) (u : Buffers) (x : TakenBack) (early : ℕ) → (if_taken early (number_back x) early ≡ 0 → ⊥)
+    → if_taken early (buffers_back h u x) u ≡ u
+back_refused h u x early d = go (eqb early 0) d
+  where
+    go : (z : Bool) → (if_else z (number_back x) early ≡ 0 → ⊥) → if_else z (buffers_back h u x) u ≡ u
+    go true d = back_stays h u x d
+    go false d = refl
+
 pub refused_stays : (v : Vault) (next : Event) → (number_on v next ≡ 0 → ⊥) → step v next ≡ v
 refused_stays v (write i b) d = refused v i b d
 refused_stays v (earlier i b) d = refused v i b d
+refused_stays v (take_back scratch) d =
+    let h = v.header in
+    ap₂ vault (if_refused (header_before h) h d)
+    (back_refused h v.held (take_back_comes h v.held) (take_back_early h v.held scratch) d)
 
 -- ZERO RECORDS are opened, as all records of data words are
 opens_if : (o : Opening) → Fitting o → are_data o.raw ≡ true → Opens o

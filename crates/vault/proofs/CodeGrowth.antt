@@ -15,16 +15,11 @@ use Rattle.field.proofs.PowerTables.{level_root}
 use Rattle.field.proofs.Powers.{power_mul}
 use Rattle.code.specs.Transform.{mixed, transform, reversed, turned}
 use Rattle.code.specs.Stripe.{coded}
-use Rattle.code.proofs.BitReversal.{reversed_zero}
+use Rattle.code.proofs.BitReversal.{reversed_zero, reversed_suc}
 use Rattle.code.proofs.Shapes.{length_halves, length_transform, length_turned, coded_low, coded_high, mixed_low, mixed_high}
 use Rattle.vault.specs.promises.Coding.{root, CodeBegins, CodeMixes}
 use Rattle.vault.proofs.Coding.{root_is}
 use Rattle.vault.proofs.Leaving.{power_is}
-
--- BITS IN THE OPPOSITE ORDER, of one bit more
-reversed_more : (k t : ℕ) → reversed (suc k) t ≡ 2 ^ k * (t % 2) + reversed k (t / 2)
-unfolding reversed
-reversed_more k t = refl
 
 -- POWERS of the root of a vault, and of its power that mixes halves of 2^l words
 root_power : (k i : ℕ) → power 65537 (root k) i ≡ 3 ^ (32768 / 2 ^ k * i) % 65537
@@ -160,7 +155,7 @@ is_reversed (suc k) t r b f =
     f k (omega arith) ∙ ap (λ (n : ℕ). t / 2 ^ n % 2) {x = suc k - suc k} {y = 0} (omega arith) ∙ ap (λ (n : ℕ). n % 2) (div-one t) in
     let parts : r % 2 ^ k + 2 ^ k * (r / 2 ^ k) ≡ r = mod-add-div r (2 ^ k) in
     let small : r / 2 ^ k % 2 ≡ r / 2 ^ k = one_bit (2 ^ k) (r % 2 ^ k) (r / 2 ^ k) (omega arith) in
-    sym parts ∙ ap₂ (λ (x y : ℕ). x + 2 ^ k * y) rest (sym small ∙ top) ∙ omega (arith, reversed_more k t)
+    sym parts ∙ ap₂ (λ (x y : ℕ). x + 2 ^ k * y) rest (sym small ∙ top) ∙ omega (arith, reversed_suc k t)
   where
     one_bit : (n x s : ℕ) → x + n * s < 2 * n → s % 2 ≡ s
     one_bit n x zero b = refl

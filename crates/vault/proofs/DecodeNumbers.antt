@@ -34,7 +34,7 @@ use Rattle.vault.proofs.Table.{fits_iff, needed_iff, stripe_says}
 use Rattle.vault.proofs.NoRecords.{records_no}
 use Rattle.vault.proofs.ImageNumbers.{Passed, image_beside, early_then, OfStripe, rows_number, scratch_says}
 
-then_iff : {A B C : Type 0} → A ↔ B → B ↔ C → A ↔ C
+pub then_iff : {A B C : Type 0} → A ↔ B → B ↔ C → A ↔ C
 then_iff s t = (λ a. t.0 (s.0 a), λ c. s.1 (t.1 c))
 
 -- a header that fits, one of its stripes, and a well-formed list

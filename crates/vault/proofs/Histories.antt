@@ -9,30 +9,34 @@ use native.Mathlib.Omega.{arith}
 use lib.Dec.{eqb, ltb}
 use lib.ListN.{length, get_or, take, length-append}
 use lib.Pow.{pow_pos}
-use borrow.Author.Tests.{eqb-true, eqb-false, eq-eqb, ltb-true}
+use borrow.Author.Tests.{eqb-true, eqb-false, ltb-true}
 use Rattle.layout.specs.declared.Header.{Header}
-use Rattle.layout.specs.Header.{header_of, raw_size, full_size, log_size, level_for}
+use Rattle.layout.specs.Header.{header_of, level_for}
 use Rattle.field.specs.Words.{every}
 use Rattle.layout.specs.Records.{are_data, is_blank, replaced}
 use Rattle.store.specs.Buffers.{full_stripe, Buffers, buffers, opened}
 use Rattle.store.specs.Writing.{next_header, log_with, written}
 use Rattle.layout.specs.Refusals.{Tests, done, test, refusal, if_taken}
 use Rattle.store.specs.StoreCalls.{buffers_fit, write_tests, numbered, leaving, write_number, earlier_number}
-use Rattle.vault.specs.Event.{Entry, Opening, Event, write, earlier}
+use Rattle.splitting.specs.Splitting.{header_before}
+use Rattle.taking_back.specs.TakingBack.{buffers_back}
+use Rattle.taking_back.specs.TakeBackCall.{take_back_comes}
+use Rattle.vault.specs.Event.{Entry, Opening, Event, write, earlier, take_back}
 use Rattle.vault.specs.History.{Vault, vault, number_on, step, after, Opens, opened_vault, vault_after, header_after}
-use Rattle.vault.specs.Model.{Model, writes, words_fit, words_zero, judged, table_number, put, fed, fed_all, opened_model, model_of}
-use Rattle.vault.specs.Round.{Round, put_all, before_each, records_in, model_in, start_of, grown, turn_round, round_after, opened_round, round_of}
+use Rattle.vault.specs.Model.{Model, writes, words_fit, words_zero, judged, back_judged, table_number, put, cancelled}
+use Rattle.vault.specs.Model.{fed, fed_all, opened_model, model_of}
+use Rattle.vault.specs.Round.{Round, put_all, before_each, records_in, model_in, start_of, grown, cut, turn_round, round_after, opened_round, round_of}
 use Rattle.vault.specs.Round.{round_header, represent}
 use Rattle.vault.specs.promises.Histories.{SizesBegin, SizesKept, SizesStay, RecordsLong, RawIs, ModelIs, BeforeIs}
 use Rattle.field.proofs.Booleans.{if_else, if_else_true, if_else_false}
 use Rattle.layout.proofs.Refusals.{passes, none_fails}
 use Rattle.layout.proofs.RecordWords.{data_words, replaced_is, record_end}
 use Rattle.store.proofs.OpenRefusals.{open_taken, open_data}
-use Rattle.store.proofs.StoredRecords.{length_full}
-use Rattle.vault.proofs.Levels.{length_log, log_empty}
+use Rattle.vault.proofs.Levels.{log_empty}
 use Rattle.vault.proofs.Rounds.{fit_sizes, Taken, AllTaken, none, more, Good, taken_append, put_append, length_put, words_put, before_append}
-use Rattle.vault.proofs.Rounds.{length_before, before_at, records_long, header_fits_lem}
+use Rattle.vault.proofs.Rounds.{length_before, before_at, records_long, header_fits_lem, buffers_fit_lem}
 use Rattle.vault.proofs.Rebuilding.{log_written}
+use Rattle.vault.proofs.TakingBackRounds.{cut_back, some_write, back_early, back_number}
 
 -- THE INVARIANT: a vault and a model represent a round
 pub record Represents (a : Round) (v : Vault) (m : Model) : Type 0 where
@@ -131,12 +135,7 @@ module _ (a : Round) (good : Good a) (i : ℕ) (b : List ℕ) where
       ∙ ap (λ (z : Bool). refusal (test (eqb (length b) a.s) 2 (test (ltb i (2 ^ a.k)) 4 (test z 5 rest)))) (data_fit b)
     where
       sizes : (buffers_fit h u && eqb (length b) a.s) ≡ eqb (length b) a.s
-      sizes =
-          rw (
-            eq-eqb (length u.raw) (raw_size h) (records_long good),
-            eq-eqb (length u.full) (full_size h) (length_full h a.base),
-            eq-eqb (length u.log) (log_size h) (length_log h a.since a.k),
-          )
+      sizes = ap (λ (z : Bool). z && eqb (length b) a.s) (buffers_fit_lem good)
 
   write_number_lem : write_number h u i b ≡ table_number (model_in a) (write i b)
   write_number_lem = number_is (test (not (is_blank b)) 11 done) ∙ ap (judged (model_in a) i b) (blank_number b)
@@ -257,14 +256,52 @@ module _ (a : Round) (good : Good a) (i : ℕ) (b : List ℕ) where
             (ap₂ vault (if_else_false (eqb given 0) (next_header h) h (called ∙ e)) (if_else_false (eqb given 0) (written h u i b) u (called ∙ e)))
             (if_else_false judged_zero (put (model_in a) i b) (model_in a) e) (record { good = good; vault_is = refl; model_is = refl })
 
+-- A TAKING-BACK on a good round leaves the round without its last write, if its number is 0
+module _ (a : Round) (good : Good a) (scratch : List ℕ) where
+  abbrev before : Vault
+  before = vault (round_header a) (represent a)
+
+  abbrev said : ℕ
+  said = back_judged (model_in a) scratch
+
+  abbrev CutOr : (taken : Bool) → Type 0
+  CutOr z = Represents (if_else z (cut a) a) (step before (take_back scratch)) (if_else z (cancelled (model_in a)) (model_in a))
+
+  taken_back : CutOr (eqb said 0)
+  taken_back = go (eqb said 0) refl
+    where
+      h : Header
+      h = round_header a
+
+      u : Buffers
+      u = represent a
+
+      left : (z : Bool) → eqb said 0 ≡ z
+          → step before (take_back scratch) ≡ vault (if_else z (header_before h) h) (if_else z (buffers_back h u (take_back_comes h u)) u)
+      left z e =
+          ap₂ (λ (p q : ℕ). vault (if_taken p (header_before h) h) (if_taken q (buffers_back h u (take_back_comes h u)) u)) (back_number good scratch)
+          (back_early good scratch)
+          ∙ ap (λ (p : Bool). vault (if_else p (header_before h) h) (if_else p (buffers_back h u (take_back_comes h u)) u)) e
+
+      go : (z : Bool) → eqb said 0 ≡ z → CutOr (eqb said 0)
+      go true e =
+          let C = cut_back good (some_write (model_in a) scratch (eqb-true said 0 e)) in
+          along (if_else_true (eqb said 0) (cut a) a e) (left true e ∙ ap₂ vault C.header_is C.buffers_are)
+          (if_else_true (eqb said 0) (cancelled (model_in a)) (model_in a) e ∙ C.model_is) (record { good = C.good; vault_is = refl; model_is = refl })
+      go false e =
+          along (if_else_false (eqb said 0) (cut a) a e) (left false e) (if_else_false (eqb said 0) (cancelled (model_in a)) (model_in a) e)
+          (record { good = good; vault_is = refl; model_is = refl })
+
 -- ONE EVENT on a good round: its number is the table's, and what it leaves represents the round that it leaves
 number_on_lem : (a : Round) → Good a → (e : Event) → number_on (vault (round_header a) (represent a)) e ≡ table_number (model_in a) e
 number_on_lem a good (write i b) = write_number_lem a good i b
 number_on_lem a good (earlier i b) = earlier_number_lem a good i b
+number_on_lem a good (take_back scratch) = back_number good scratch
 
 turn_from : (a : Round) → Good a → (e : Event) → Represents (turn_round a e) (step (vault (round_header a) (represent a)) e) (fed (model_in a) e)
 turn_from a good (write i b) = turned a good i b (write_number_lem a good i b) (taken_is (model_in a) i b (elim (words_zero b) [ true ↦ 11 | false ↦ 0 ]))
 turn_from a good (earlier i b) = turned a good i b (earlier_number_lem a good i b) (taken_is (model_in a) i b 0)
+turn_from a good (take_back scratch) = taken_back a good scratch
 
 pub turn_represents : (a : Round) (v : Vault) (m : Model) (e : Event) → Represents a v m → Represents (turn_round a e) (step v e) (fed m e)
 turn_represents a v m e t =
@@ -284,9 +321,14 @@ put_same : (m : Model) (i : ℕ) (b : List ℕ) (z : Bool) → ((if_else z (put 
 put_same m i b true = (refl, refl)
 put_same m i b false = (refl, refl)
 
+back_same : (m : Model) (z : Bool) → ((if_else z (cancelled m) m).k ≡ m.k) × ((if_else z (cancelled m) m).s ≡ m.s)
+back_same m true = (refl, refl)
+back_same m false = (refl, refl)
+
 fed_same : (m : Model) (e : Event) → ((fed m e).k ≡ m.k) × ((fed m e).s ≡ m.s)
 fed_same m (write i b) = put_same m i b (eqb (table_number m (write i b)) 0)
 fed_same m (earlier i b) = put_same m i b (eqb (table_number m (earlier i b)) 0)
+fed_same m (take_back scratch) = back_same m (eqb (back_judged m scratch) 0)
 
 -- a list of events and one more
 pub after_more : (v : Vault) (es : List Event) (e : Event) → after v (es ++ (e ∷ [])) ≡ step (after v es) e

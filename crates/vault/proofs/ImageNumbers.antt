@@ -19,7 +19,7 @@ use Rattle.layout.specs.Refusals.{Tests, done, test, refusal, if_taken}
 use Rattle.image.specs.Erasures.{erasures_in, erasures_fit}
 use Rattle.image.specs.Loading.{rows_in, are_below}
 use Rattle.image.specs.ImageTests.{image_tests}
-use Rattle.judging.specs.Decoding.{failed, decoded, decoded_number, decode_rows, are_records}
+use Rattle.judging.specs.Decoding.{Decoded, failed, decoded, decoded_number, decode_rows, are_records}
 use Rattle.stripe_decoding.specs.Decoding.{decode_stripe}
 use Rattle.recovery.specs.Verdicts.{Verdict}
 use Rattle.recovery.specs.Recovery.{Layer, Recovered, stripes_over, records, recover}
@@ -59,23 +59,34 @@ early_then true true false d rest = refl
 early_then true true true false rest = refl
 early_then true true true true rest = refl
 
--- THE NUMBER OF A STRIPE is 0 or 7 to 10
-abbrev pub OfStripe : ℕ → Type 0
-OfStripe v = (v ≡ 0) ⊎ ((7 ≤ v) × (v ≤ 10))
+-- A STRIPE FAILS with 7 to 10 alone, and so its number is 0 or one of these
+abbrev pub FailsSo : Decoded → Type 0
+FailsSo (failed n) = (7 ≤ n) × (n ≤ 10)
+FailsSo (decoded bs) = Unit {0}
 
-pub rows_number : (st : Stripe) (ms : List Bool) (ws : List ℕ) → OfStripe (decoded_number (decode_rows st ms ws))
-rows_number st ms ws =
+pub rows_fail : (st : Stripe) (ms : List Bool) (ws : List ℕ) → FailsSo (decode_rows st ms ws)
+rows_fail st ms ws =
     let r = rows_in st ms ws in
     let bs = blocks_in st ms r in
     go (ltb (length (survivors st.level ms)) (block_count st)) (are_below (modulus_of st) r) (is_consistent st ms r) (are_records st bs (block_count st)) bs
   where
     go : (a b c d : Bool) (bs : List ℕ)
-        → let x = if_else b (if_else c (if_else d (decoded bs) (failed 10)) (failed 9)) (failed 8) in OfStripe (decoded_number (if_else a (failed 7) x))
-    go true b c d bs = inr (omega arith, omega arith)
-    go false false c d bs = inr (omega arith, omega arith)
-    go false true false d bs = inr (omega arith, omega arith)
-    go false true true false bs = inr (omega arith, omega arith)
-    go false true true true bs = inl refl
+        → let x = if_else b (if_else c (if_else d (decoded bs) (failed 10)) (failed 9)) (failed 8) in FailsSo (if_else a (failed 7) x)
+    go true b c d bs = (omega arith, omega arith)
+    go false false c d bs = (omega arith, omega arith)
+    go false true false d bs = (omega arith, omega arith)
+    go false true true false bs = (omega arith, omega arith)
+    go false true true true bs = tt
+
+abbrev pub OfStripe : ℕ → Type 0
+OfStripe v = (v ≡ 0) ⊎ ((7 ≤ v) × (v ≤ 10))
+
+pub rows_number : (st : Stripe) (ms : List Bool) (ws : List ℕ) → OfStripe (decoded_number (decode_rows st ms ws))
+rows_number st ms ws = by (decode_rows st ms ws) (rows_fail st ms ws)
+  where
+    by : (d : Decoded) → FailsSo d → OfStripe (decoded_number d)
+    by (failed n) f = inr f
+    by (decoded bs) f = inl refl
 
 -- and so is that at which the stripes end
 ends_with : (h : Header) (m e : List ℕ) (y : Layer) → OfStripe (answer_of (stripes_over h (decode_stripe h m (erasures_in e)) y)).number

@@ -1,30 +1,31 @@
 -- WHAT IS RECOVERED OF ANY IMAGE: record i is what the last block for it lays, in the order of laying, k and then the levels down. One proof for both layers,
 -- the data of `recover` and the origins of `explain`: the last two promises of the room Recovering of specs/promises. Assumes nothing.
 use mathlib.Core.Path.{◌≡◌, refl, sym, ap, ◌∙◌}
-use mathlib.Core.Bool.{Bool, true, false, false≢true}
+use mathlib.Core.Bool.{true, false, false≢true}
 use mathlib.Core.Logic.{inl, inr, ⊎_elim}
 use mathlib.Core.List.{List, [], ◌∷◌}
 use Prim.Native.Nat.{ℕ, zero, suc, ◌+◌, ◌*◌, ◌/◌, ◌^◌, ◌≤◌, ◌<◌}
-use native.Mathlib.Nat.{eq-or-lt_of_le, suc-le-suc_iff, le_refl, mul-le-mul_right}
+use native.Mathlib.Nat.{eq-or-lt_of_le, le_refl, mul-le-mul_right}
 use native.Mathlib.Decide.{ℕ_discrete}
 use native.Mathlib.Omega.{arith}
-use lib.Dec.{eqb, ltb}
 use lib.ListN.{length, get_or, drop, replicate, length-replicate, length-drop}
 use lib.Seq.{length-take-le, get_or-take, get_or-drop}
-use borrow.Author.Tests.{eqb-true, eq-eqb, ne_eqb, ltb-true}
-use Rattle.field.proofs.Booleans.{if_else, if_else_true, if_else_false, first_true, second_true}
+use borrow.Author.Tests.{eqb-true, eq-eqb, ne_eqb}
+use Rattle.field.proofs.Booleans.{if_else, if_else_true, if_else_false}
 use Rattle.code.specs.declared.Stripe.{Stripe}
 use Rattle.layout.specs.declared.Header.{Header}
 use Rattle.layout.specs.Header.{width, raw_size, header_fits, is_full, is_filled, first_of, stripe_of}
-use Rattle.layout.specs.Records.{are_data, record_in, replaced}
+use Rattle.layout.specs.Records.{record_in, replaced}
 use Rattle.layout.specs.Refusals.{if_taken}
 use Rattle.layout.proofs.Refusals.{if_taken_lem, if_refused}
 use Rattle.layout.proofs.StripePlaces.{first_level}
 use Rattle.image.specs.Erasures.{erasures_in}
 use Rattle.image.proofs.ImageRefusals.{whole}
-use Rattle.judging.specs.Decoding.{Decoded, failed, decoded, block_number, block_data, number_fits, is_record, are_records}
+use Rattle.judging.specs.Decoding.{Decoded, failed, decoded, block_number, block_data}
 use Rattle.judging.proofs.Proved as Judged
+use Rattle.judging.proofs.Judging.{number_below, number_place}
 use Rattle.judging.proofs.StripeNumbers.{stripe_fits}
+use Rattle.taking_back.proofs.FindingBack.{each_record}
 use Rattle.range_laying.specs.Laid.{laid, origins_laid}
 use Rattle.range_laying.proofs.PairLoops.{length_pairs, pair_at, same_pair}
 use Rattle.stripe_decoding.specs.Decoding.{decode_stripe}
@@ -47,24 +48,6 @@ pub record Blocks (h : Header) (l : ℕ) (bs : List ℕ) : Type 0 where
   pub below : (j : ℕ) → j < 2 ^ l → block_number (width h) bs j < 2 ^ h.k
   pub place : l ≡ h.k → (j : ℕ) → j < 2 ^ l → block_number (width h) bs j ≡ j
 
-each_record : (st : Stripe) (bs : List ℕ) (n : ℕ) → are_records st bs n ≡ true → (j : ℕ) → j < n → number_fits st j (block_number st.width bs j) ≡ true
-unfolding are_records
-each_record st bs zero e j b = absurd (omega arith)
-each_record st bs (suc n) e j b =
-    ⊎_elim
-    (λ q. first_true _ (are_data (block_data st.width bs j)) (ap (is_record st bs) q ∙ first_true (is_record st bs n) (are_records st bs n) e))
-    (λ lt. each_record st bs n (second_true (is_record st bs n) (are_records st bs n) e) j lt) (eq-or-lt_of_le (suc-le-suc_iff.0 b))
-
-number_below : (h : Header) (l j x : ℕ) → j < 2 ^ l → number_fits (stripe_of h l) j x ≡ true → (x < 2 ^ h.k) × (l ≡ h.k → x ≡ j)
-number_below h l j x b t = go (eqb l h.k) refl t
-  where
-    go : (c : Bool) → eqb l h.k ≡ c → if_else c (eqb x j) (ltb x (2 ^ h.k)) ≡ true → (x < 2 ^ h.k) × (l ≡ h.k → x ≡ j)
-    go true q u =
-        let n : 2 ^ l ≡ 2 ^ h.k = ap (λ (i : ℕ). 2 ^ i) (eqb-true l h.k q) in
-        let e : x ≡ j = eqb-true x j u in
-        (omega arith, λ _. e)
-    go false q u = (ltb-true x (2 ^ h.k) u, λ z. absurd (false≢true (sym q ∙ eq-eqb l h.k z)))
-
 not_failed : {d : Decoded} {bs : List ℕ} (n : ℕ) → d ≡ decoded bs → d ≡ failed n → ⊥
 not_failed n p q = cc
 
@@ -74,8 +57,14 @@ decoded_blocks h m e l bs fits within p =
     let st : Stripe = stripe_of h l in
     let R = (Judged.proved).else_readable st (marks h e l) (words_in h m l) (stripe_fits h l fits within) (not_failed 7 p) (not_failed 8 p) in
     let t = ((Judged.proved).decodes_iff st (marks h e l) (words_in h m l) bs R).0 p in
-    let each = λ (j : ℕ) (b : j < 2 ^ l). number_below h l j (block_number (width h) bs j) b (each_record st bs (2 ^ l) t.1 j b) in
-    record { long = t.0.blocks.long; below = λ j b. (each j b).0; place = λ q j b. (each j b).1 q }
+    let each = each_record st bs (2 ^ l) t.1 in
+    let own = λ (q : l ≡ h.k) (j : ℕ) (b : j < 2 ^ l). number_place st j (block_number (width h) bs j) q (each j b) in
+    record {
+      long = t.0.blocks.long;
+      below = λ j b. ⊎_elim (λ q. omega (arith, own q j b, ap (λ (i : ℕ). 2 ^ i) q))
+          (λ d. number_below st j (block_number (width h) bs j) d (each j b)) (eq-or-lt_of_le within);
+      place = own;
+    }
 
 -- BLOCKS LAID one after the other, each in the place of its number: what the last one of a record's number lays is there
 lay_each : {s m : ℕ} (f : ℕ → ℕ) (data_of : ℕ → List ℕ) (words : ℕ → List ℕ) (n : ℕ) → ((j : ℕ) → j < n → f j < m)

@@ -85,6 +85,12 @@ number_numbered s r i zero j h = absurd (omega arith)
 number_numbered s r i (suc n) zero h = sym (add-zero i)
 number_numbered s r i (suc n) (suc j) h = number_numbered s r (suc i) n j (omega arith) ∙ omega arith
 
+pub block_numbered : (s : ℕ) (r : List ℕ) (i n j : ℕ) → j < n → (get_or (numbered s r i n) j no_entry).block ≡ record_in s r (i + j)
+unfolding numbered
+block_numbered s r i zero j h = absurd (omega arith)
+block_numbered s r i (suc n) zero h = ap (record_in s r) (sym (add-zero i))
+block_numbered s r i (suc n) (suc j) h = block_numbered s r (suc i) n j (omega arith) ∙ ap (record_in s r) {x = suc i + j} {y = i + suc j} (omega arith)
+
 module _ (k s : ℕ) (r : List ℕ) (long : length r ≡ 2 ^ k * s) where
   pub numbered_fit : Words 65536 r → (i n : ℕ) → i + n ≤ 2 ^ k → AllTaken k s (numbered s r i n)
   unfolding numbered

@@ -2,18 +2,17 @@
 use mathlib.Core.Path.{◌≡◌, refl, sym, ap, ◌∙◌}
 use mathlib.Core.Bool.{Bool}
 use mathlib.Core.Logic.{inl, inr}
-use mathlib.Core.List.{List, [], ◌∷◌}
-use Prim.Native.Nat.{ℕ, zero, suc, ◌+◌, ◌*◌, ◌^◌, ◌≤◌}
+use mathlib.Core.List.{List}
+use Prim.Native.Nat.{ℕ, ◌^◌, ◌≤◌}
 use native.Mathlib.Omega.{arith}
 use lib.ListN.{length, replicate, length-replicate}
-use lib.Seq.{length-sets}
 use Rattle.layout.specs.declared.Header.{Header}
 use Rattle.layout.specs.Header.{record_count, width, first_of, header_fits, raw_size, scratch_size, stripe_of}
 use Rattle.layout.specs.Refusals.{done, test, if_taken}
 use Rattle.layout.proofs.Refusals.{if_taken_lem, if_refused}
 use Rattle.image.specs.Erasures.{erasures_in, marks_of, erasures_fit}
-use Rattle.judging.specs.Decoding.{Decoded, block_number, block_data}
-use Rattle.range_laying.specs.Laid.{laid, origins_laid}
+use Rattle.judging.specs.Decoding.{Decoded}
+use Rattle.range_laying.proofs.LaidRanges.{length_laid, length_origins}
 use Rattle.range_laying.proofs.PairLoops.{length_pairs}
 use Rattle.stripe_decoding.specs.Decoding.{decode_stripe}
 use Rattle.recovery.specs.Verdicts.{Verdict}
@@ -127,11 +126,6 @@ low_image h sizes e =
     low_test (header_fits h) 1 _ (omega arith) (low_test sizes 2 _ (omega arith) (low_test (erasures_fit h e) 3 done (omega arith) low_done))
 
 -- THE CALL `recover`: records laid are no more and no fewer words
-length_laid : (s : ℕ) (bs : List ℕ) (n : ℕ) (r : List ℕ) → length (laid s bs n r) ≡ length r
-unfolding laid
-length_laid s bs zero r = refl
-length_laid s bs (suc j) r = length-sets (laid s bs j r) (block_number (suc s) bs j * s) (block_data (suc s) bs j) ∙ length_laid s bs j r
-
 recover_called : (h : Header) (m e out scratch : List ℕ) → Called h m e (records h) (recover_early h m e out scratch) (raw_size h) out scratch
 recover_called h m e out scratch = record {
   low = low_image h _ e;
@@ -150,12 +144,6 @@ pub recover_taken : RecoverTaken
 recover_taken h m e out scratch t = call_taken (recover_called h m e out scratch) t
 
 -- THE CALL `explain`: nor are origins
-length_origins : (w l t : ℕ) (bs : List ℕ) (n : ℕ) (o : List ℕ) → length (origins_laid w l t bs n o) ≡ length o
-unfolding origins_laid
-length_origins w l t bs zero o = refl
-length_origins w l t bs (suc j) o =
-    length-sets (origins_laid w l t bs j o) (block_number w bs j * 2) (l ∷ (t + j) ∷ []) ∙ length_origins w l t bs j o
-
 explain_called : (h : Header) (m e n o s : List ℕ) → Called h m e (origins h) (explain_early h m e n o s) (origins_size h) o s
 explain_called h m e n o s = record {
   low = low_image h _ e;

@@ -1,5 +1,10 @@
 -- What a crate above can name: the promises' proof (Proved) and the laws under it, and those about refusals and what a call leaves.
 pub mod AnswerLaws
+pub mod BackFinds
+pub mod BackLeaves
+pub mod BackNumbers
+pub mod BackOrder
+pub mod BackReading
 pub mod Blanks
 pub mod Boundary
 pub mod CodeGrowth
@@ -9,6 +14,7 @@ pub mod Demand3
 pub mod Erasures
 pub mod ExplainedRounds
 pub mod Explaining
+pub mod HeldStripes
 pub mod Histories
 pub mod ImageNumbers
 pub mod LastBlocks
@@ -18,7 +24,9 @@ pub mod Leaving
 pub mod LeavingLayers
 pub mod LeavingStripes
 pub mod Levels
+pub mod LevelsBefore
 pub mod Loading
+pub mod LogBefore
 pub mod ModelSteps
 pub mod NoRecords
 pub mod Numbers
@@ -27,9 +35,11 @@ pub mod Origins
 pub mod PairsByBytes
 pub mod Proved
 pub mod Rebuilding
+pub mod RecordBefore
 pub mod Recovering
 pub mod RoundDecoding
 pub mod RoundRecovery
+pub mod RoundStripes
 pub mod Rounds
 pub mod SameRounds
 pub mod SomeLast
@@ -37,6 +47,8 @@ pub mod StripeCall
 pub mod StripeDecoding
 pub mod StripesEnd
 pub mod Table
+pub mod TakingBackHistories
+pub mod TakingBackRounds
 pub mod Worked
 pub mod Writing
 pub mod WrittenLog

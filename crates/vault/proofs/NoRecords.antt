@@ -93,10 +93,12 @@ record_no h l j bs u b =
     )
 
 -- of the blocks of a stripe
+pub words_no : (h : Header) (l : ℕ) (bs : List ℕ) → Words 65537 bs → HoldRecords h l bs false ↔ ((j : ℕ) × (j < 2 ^ l) × NoRecord h l bs j)
+words_no h l bs u = (
+  λ f. let t = no_record_at (stripe_of h l) bs (2 ^ l) f in (t.0, t.1, (record_no h l t.0 bs u t.1).0 t.2),
+  λ t. one_no_record (stripe_of h l) bs (2 ^ l) t.0 t.1 ((record_no h l t.0 bs u t.1).1 t.2),
+)
+
 pub records_no : (h : Header) (m e : List ℕ) (l : ℕ) (bs : List ℕ) → Codes h m e l bs
     → HoldRecords h l bs false ↔ ((j : ℕ) × (j < 2 ^ l) × NoRecord h l bs j)
-records_no h m e l bs C =
-    let u : Words 65537 bs = C.blocks.words in (
-      λ f. let t = no_record_at (stripe_of h l) bs (2 ^ l) f in (t.0, t.1, (record_no h l t.0 bs u t.1).0 t.2),
-      λ t. one_no_record (stripe_of h l) bs (2 ^ l) t.0 t.1 ((record_no h l t.0 bs u t.1).1 t.2),
-    )
+records_no h m e l bs C = words_no h l bs C.blocks.words

@@ -1,13 +1,16 @@
--- The number of each call that is lent no image, and of the model's events, both ways round: the tests of the call beside the rows of the table (Table). The
--- room Numbers of specs/promises. Assumes nothing.
-use mathlib.Core.Path.{◌≡◌, refl, sym, ap, ◌∙◌, subst}
-use mathlib.Core.Bool.{false, ◌&&◌, not}
+-- The number of each call that is lent no image (of `take_back`: BackNumbers), and of the model's events, both ways round: the tests of the call beside the
+-- rows of the table (Table). The room Numbers of specs/promises. Assumes nothing.
+use mathlib.Core.Path.{◌≡◌, refl, sym, ap, ap₂, ◌∙◌, subst}
+use mathlib.Core.Bool.{Bool, true, false, ◌&&◌, not}
+use mathlib.Core.Logic.{inl, inr}
 use mathlib.Core.List.{List}
-use Prim.Native.Nat.{ℕ, ◌*◌, ◌^◌, ◌≤◌}
+use Prim.Native.Nat.{ℕ, suc, ◌+◌, ◌*◌, ◌^◌, ◌≤◌}
 use native.Mathlib.Omega.{arith}
+use borrow.Author.Tests.{eqb-true, eq-eqb}
 use lib.Dec.{eqb, ltb}
 use lib.ListN.{length}
 use Rattle.std.specs.Prelude.{◌↔◌}
+use Rattle.field.proofs.Booleans.{if_else}
 use Rattle.layout.specs.declared.Header.{Header}
 use Rattle.layout.specs.Header.{header_of, record_count, raw_size, full_size, log_size, image_size}
 use Rattle.layout.specs.Records.{are_data, is_blank, records_fit}
@@ -16,16 +19,16 @@ use Rattle.layout.proofs.Refusals.{none_fails}
 use Rattle.layout.proofs.RecordWords.{records_data}
 use Rattle.store.specs.Buffers.{Buffers, buffers}
 use Rattle.store.specs.StoreCalls.{buffers_fit}
-use Rattle.vault.specs.Event.{write, earlier}
-use Rattle.vault.specs.Model.{Model, judged}
+use Rattle.vault.specs.Event.{write, earlier, take_back}
+use Rattle.vault.specs.Model.{Model, writes, judged}
 use Rattle.vault.specs.History.{Vault}
-use Rattle.vault.specs.promises.Table.{RawLength, FullLength, LogLength, BlockLength, ImageLength, OutOfRange, NoSuchRecord, NoDataWord, AllZero}
+use Rattle.vault.specs.promises.Table.{RawLength, FullLength, LogLength, ImageLength, OutOfRange, NoSuchRecord, NoDataWord, AllZero}
 use Rattle.vault.specs.promises.Table.{Rows, none, row, EachNumber}
 use Rattle.vault.specs.promises.Numbers.{OpenNumbers, WriteRows, WriteNumbers, EarlierNumbers, TableRows, TableNumbers, EarlierTable, SameTable}
-use Rattle.vault.specs.promises.Numbers.{ReadNumbers, ImageNumbers, PowersNumbers}
+use Rattle.vault.specs.promises.Numbers.{BackTable, SameCounted, ReadNumbers, ImageNumbers, PowersNumbers}
 use Rattle.vault.proofs.Histories.{data_fit, blank_number}
 use Rattle.vault.proofs.Table.{Beside, ended, beside, each_number, Says, fails_unless, sure, both_say, three_say, equal_says, header_fails, full_is, log_is}
-use Rattle.vault.proofs.Table.{record_number_fails, data_fails, blank_fails}
+use Rattle.vault.proofs.Table.{not_false, record_number_fails, data_fails, blank_fails}
 
 -- THE LENGTHS of a vault's buffers
 full_says : (h : Header) (f : List ℕ) → Says (eqb (length f) (full_size h)) (FullLength h f)
@@ -63,27 +66,28 @@ block_beside n i b more = beside (omega arith) (λ _. record_number_fails n i) (
 blank_beside : {others : Type 0} (b : List ℕ) → Beside 5 others (test (not (is_blank b)) 11 done) (row 11 (AllZero b) none)
 blank_beside b = beside (omega arith) (λ _. blank_fails b) ended
 
-block_says : (b : List ℕ) (s : ℕ) → Says (eqb (length b) s) (length b ≡ s)
+pub block_says : (b : List ℕ) (s : ℕ) → Says (eqb (length b) s) (length b ≡ s)
 block_says b s = equal_says {a = length b} {b = s} refl
 
-lengths_say : (v : Vault) (b : List ℕ) → let h = v.header in
-    Says (buffers_fit h v.held && eqb (length b) h.s) (RawLength h v.held.raw × FullLength h v.held.full × LogLength h v.held.log × BlockLength h b)
-lengths_say v b =
-    let t = both_say (buffers_say v.header v.held) (block_says b v.header.s) in
+-- and of one list more
+pub lengths_say : (v : Vault) {z : Bool} {A : Type 0} → Says z A → let h = v.header in
+    Says (buffers_fit h v.held && z) (RawLength h v.held.raw × FullLength h v.held.full × LogLength h v.held.log × A)
+lengths_say v s =
+    let t = both_say (buffers_say v.header v.held) s in
     (λ e. let p = t.0 e in (p.0.0, p.0.1, p.0.2, p.1), λ p. t.1 ((p.0, p.1, p.2), p.3))
 
 pub write_numbers : WriteNumbers
 write_numbers v i b =
     each_number (WriteRows v i b (row 11 (AllZero b) none))
     (beside (omega arith) (λ _. header_fails v.header)
-    (beside (omega arith) (λ _. fails_unless (lengths_say v b))
+    (beside (omega arith) (λ _. fails_unless (lengths_say v (block_says b v.header.s)))
     (block_beside (record_count v.header) i b (blank_beside b))))
 
 pub earlier_numbers : EarlierNumbers
 earlier_numbers v i b =
     each_number (WriteRows v i b none)
     (beside (omega arith) (λ _. header_fails v.header)
-    (beside (omega arith) (λ _. fails_unless (lengths_say v b))
+    (beside (omega arith) (λ _. fails_unless (lengths_say v (block_says b v.header.s)))
     (block_beside (record_count v.header) i b ended)))
 
 -- AND WHAT THE MODEL SAYS: the same tests
@@ -105,8 +109,34 @@ earlier_table x i b =
     (each_number rows (beside (omega arith) (λ _. fails_unless (block_says b x.s)) (block_beside (2 ^ x.k) i b ended)))
 
 pub same_table : SameTable
-same_table x x' (write i b) k s = rw (k, s) refl
-same_table x x' (earlier i b) k s = rw (k, s) refl
+same_table x x' next i b (inl p) k s = rw (p, k, s) refl
+same_table x x' next i b (inr p) k s = rw (p, k, s) refl
+
+-- of a taking-back, by its size and the count
+abbrev judged_back : (scratch : List ℕ) → (k s count : ℕ) → ℕ
+judged_back scratch k s c = if_else (eqb (length scratch) (2 * (2 ^ k * suc s + 4 * 2 ^ k))) (if_else (eqb c 0) 12 0) 2
+
+back_tests : (a b : Bool) → refusal (test a 2 (test (not b) 12 done)) ≡ if_else a (if_else b 12 0) 2
+unfolding refusal
+back_tests false b = refl
+back_tests true true = refl
+back_tests true false = refl
+
+no_write_fails : (n : ℕ) → (not (eqb n 0) ≡ false) ↔ (n ≡ 0)
+no_write_fails n = (λ e. eqb-true n 0 (not_false (eqb n 0) e), λ z. ap not (eq-eqb n 0 z))
+
+pub back_table : BackTable
+back_table x scratch =
+    let size = 2 * (2 ^ x.k * suc x.s + 4 * 2 ^ x.k) in
+    let rows = row 2 (length scratch ≡ size → ⊥) (row 12 (writes x ≡ 0) none) in
+    subst (λ (n : ℕ). EachNumber n rows) (back_tests (eqb (length scratch) size) (eqb (writes x) 0))
+    (each_number rows (beside (omega arith) (λ _. fails_unless (block_says scratch size)) (beside (omega arith) (λ _. no_write_fails (writes x)) ended)))
+
+pub same_counted : SameCounted
+same_counted x x' (write i b) k s c = same_table x x' (write i b) i b (inl refl) k s
+same_counted x x' (earlier i b) k s c = same_table x x' (earlier i b) i b (inr refl) k s
+same_counted x x' (take_back scratch) k s c =
+    ap (λ (n : ℕ). judged_back scratch n x.s (writes x)) k ∙ ap₂ (judged_back scratch x'.k) s c
 
 -- READING, AN IMAGE, THE TABLE OF POWERS
 pub read_numbers : ReadNumbers

@@ -18,6 +18,7 @@ use Rattle.vault.proofs.LeavingLayers.{recover_refused, recover_failed, recover_
 use Rattle.vault.proofs.CodeGrowth.{code_begins, code_mixes}
 use Rattle.vault.proofs.Coding.{codes_iff, blocks_are, full_codes}
 use Rattle.vault.proofs.AnswerLaws.{number_read, opening_read, write_read, part_read, verdict_read, header_has, buffers_have, open_answers, write_answers}
+use Rattle.vault.proofs.AnswerLaws.{back_answers}
 use Rattle.vault.proofs.Writing.{write_puts, write_counts, write_keeps, write_reduces, write_ends}
 use Rattle.vault.proofs.LastBlocks.{recover_holds, explain_holds}
 use Rattle.vault.proofs.Recovering.{answers_say, stops_iff, taken_iff, explain_stops_iff, explain_taken_iff}
@@ -30,7 +31,14 @@ use Rattle.vault.proofs.Blanks.{gives_eleven, else_as_earlier, five_not_blank, r
 use Rattle.vault.proofs.Boundary.{part_is, part_at, shelf_is, none_named, none_explained}
 use Rattle.vault.proofs.Openings.{header_as_opened, records_as_opened, before_as_opened, last_as_opened, start_as_opened, refused_as_opened, kept_as_opened}
 use Rattle.vault.proofs.Worked.{worked, worked_blanks, worked_bytes, worked_stripes, worked_strays, worked_faults, worked_histories}
-use Rattle.vault.proofs.Worked.{worked_halves, worked_numbers, worked_answers}
+use Rattle.vault.proofs.Worked.{worked_halves, worked_numbers, worked_answers, worked_back, worked_back_faults, worked_back_histories}
+use Rattle.vault.proofs.TakingBackHistories.{back_after, model_takes, back_undoes, back_again, back_to_start}
+use Rattle.vault.proofs.BackLeaves.{back_scratch, back_puts, back_log}
+use Rattle.vault.proofs.BackNumbers.{back_numbers}
+use Rattle.vault.proofs.BackOrder.{back_stops_iff, back_goes_iff}
+use Rattle.vault.proofs.BackReading.{back_reads}
+use Rattle.vault.proofs.HeldStripes.{held_is, held_fails_iff, held_numbers, held_blocks_iff}
+use Rattle.vault.proofs.Numbers.{back_table, same_counted}
 
 pub proved : Promises
 proved = record {
@@ -46,6 +54,22 @@ proved = record {
     recovers_all = recovers_all;
     no_other = no_other;
   };
+  taking_back = record {
+    back_after = back_after;
+    back_undoes = back_undoes;
+    back_again = back_again;
+    back_to_start = back_to_start;
+    held_is = held_is;
+    held_numbers = held_numbers;
+    held_fails_iff = held_fails_iff;
+    held_blocks_iff = held_blocks_iff;
+    back_stops_iff = back_stops_iff;
+    back_goes_iff = back_goes_iff;
+    back_puts = back_puts;
+    back_log = back_log;
+    back_reads = back_reads;
+    back_scratch = back_scratch;
+  };
   histories = record {
     sizes_begin = sizes_begin;
     model_begins = model_begins;
@@ -57,6 +81,7 @@ proved = record {
     before_is = before_is;
     model_kept = model_kept;
     model_puts = model_puts;
+    model_takes = model_takes;
     image_long = image_long;
   };
   decoding = record {
@@ -87,6 +112,9 @@ proved = record {
     table_numbers = table_numbers;
     earlier_table = earlier_table;
     same_table = same_table;
+    back_table = back_table;
+    same_counted = same_counted;
+    back_numbers = back_numbers;
     read_numbers = read_numbers;
     image_numbers = image_numbers;
     stripe_numbers = stripe_numbers;
@@ -153,6 +181,7 @@ proved = record {
     buffers_have = buffers_have;
     open_answers = open_answers;
     write_answers = write_answers;
+    back_answers = back_answers;
   };
   explaining = record {
     agrees = agrees;
@@ -194,4 +223,7 @@ proved = record {
   worked_halves = worked_halves;
   worked_numbers = worked_numbers;
   worked_answers = worked_answers;
+  worked_back = worked_back;
+  worked_back_faults = worked_back_faults;
+  worked_back_histories = worked_back_histories;
 }

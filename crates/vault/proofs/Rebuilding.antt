@@ -29,7 +29,7 @@ use Rattle.layout.proofs.Counting.{Carry, Carried, carried, filled_now, first_no
 use Rattle.code.proofs.CodedRows.{half_rows, length_half, words_half, coded_halves, mixed_half, half_block, half_scaled}
 
 -- a part of a list's first words
-part : (m n size : ℕ) (d : List ℕ) → n + m ≤ size → take m (drop n (take size d)) ≡ take m (drop n d)
+pub part : {A : Type 0} (m n size : ℕ) (d : List A) → n + m ≤ size → take m (drop n (take size d)) ≡ take m (drop n d)
 part m zero size d h = take-take m size d (omega arith)
 part m (suc n) zero d h = absurd (omega arith)
 part m (suc n) (suc size) [] h = refl
@@ -81,7 +81,7 @@ module _ (h : Header) (xs : List Entry) (l : ℕ) (b : l < h.k) (e : is_filled h
 
 -- parts of entries that end before the last ones
 module _ (t m : ℕ) (xs ys : List Entry) (h : t + m ≤ length xs) where
-  middle : take m (drop t (xs ++ ys)) ≡ take m (drop t xs)
+  pub middle : take m (drop t (xs ++ ys)) ≡ take m (drop t xs)
   middle =
       ap (take m) (drop-append-le t xs ys (omega arith)) ∙ take-append-le m (drop t xs) ys (rw length-drop (omega arith))
 
@@ -190,7 +190,7 @@ module _ {a : Round} {x : Entry} (good : Good a) (last : Taken a.k a.s x) where
             ∙ sym (level_filled h a.since i e)
         go false e = level_empty h' now i (same ∙ e) ∙ sym (level_empty h a.since i e)
 
-    log_above : (n : ℕ) → l < n → n ≤ a.k → log_words h' now n ≡ log_words h' now (suc l) ++ drop (level_at h (suc l)) (log_words h a.since n)
+    pub log_above : (n : ℕ) → l < n → n ≤ a.k → log_words h' now n ≡ log_words h' now (suc l) ++ drop (level_at h (suc l)) (log_words h a.since n)
     unfolding log_words
     log_above zero d f = absurd (omega arith)
     log_above (suc n) d f =

@@ -46,7 +46,7 @@ module _ {k : ℕ} (h : Header) {xs : List Entry} (E : AllTaken k h.s xs) (l : �
       both_true {a = number_fits (stripe_of h l) j (block_number (width h) (rows_of xs) j)} {b = are_data (block_data (width h) (rows_of xs) j)}
       (rw (number_at E j lt) (fit j lt)) (rw (data_at E j lt) (are_data_lem (get_or xs j no_entry).block (entry_at E j lt).words))
 
-  are_records_lem : (n : ℕ) → n ≤ length xs → are_records (stripe_of h l) (rows_of xs) n ≡ true
+  pub are_records_lem : (n : ℕ) → n ≤ length xs → are_records (stripe_of h l) (rows_of xs) n ≡ true
   unfolding are_records
   are_records_lem zero b = refl
   are_records_lem (suc j) b = both_true (is_record_lem j (omega arith)) (are_records_lem j (omega arith))
@@ -77,6 +77,21 @@ module _ {a : Round} (good : Good a) where
 
   pub start_rows : blocks_of h a.base ≡ rows_of start
   start_rows = blocks_rows 65537 a.s a.base (lit< tt) (field_words good.base_words) 0 (2 ^ a.k)
+
+  -- the numbers of a level's entries are records', and those of the full stripe's are their places
+  pub level_numbers : (l : ℕ) → l < a.k → (j : ℕ) → j < length (level_entries h a.since l)
+      → number_fits (stripe_of h l) j (get_or (level_entries h a.since l) j no_entry).number ≡ true
+  level_numbers l lt j b =
+      rw (
+        ne_eqb l a.k (λ t. omega arith),
+        number_fits,
+      ) (lt-ltb (get_or (level_entries h a.since l) j no_entry).number (2 ^ a.k) (entry_at (level_taken good l) j b).within)
+
+  pub full_numbers : (j : ℕ) → j < length start → number_fits (stripe_of h a.k) j (get_or start j no_entry).number ≡ true
+  full_numbers j b =
+      let is_k : is_full h a.k ≡ true = eq-eqb a.k a.k refl in
+      rw (is_k, number_fits)
+      (eq-eqb (get_or start j no_entry).number j (number_numbered a.s a.base 0 (2 ^ a.k) j (omega (arith, length_start)) ∙ zero-add j))
 
   -- words of the field
   words_full : Words 65537 full
@@ -133,20 +148,12 @@ module _ {a : Round} (good : Good a) where
         → decode_stripe h m (erasures_in e) l ≡ decoded (rows_of (level_entries h a.since l))
     level_decodes l lt filled same half =
         let E = level_taken good l in
-        rows_decode l (omega arith) same half (level_entries h a.since l) E (length_entries good l lt filled)
-        (λ j b. rw (
-          ne_eqb l a.k (λ t. omega arith),
-          number_fits,
-        ) (lt-ltb (get_or (level_entries h a.since l) j no_entry).number (2 ^ a.k) (entry_at E j b).within))
+        rows_decode l (omega arith) same half (level_entries h a.since l) E (length_entries good l lt filled) (level_numbers l lt)
         (λ q b. level_at_lem l lt q b ∙ ap (λ (x : List ℕ). get_or x q 0) (level_filled h a.since l filled))
 
     pub full_decodes : Kept a.k → 2 ^ a.k ≤ length (survivors a.k (marks h e a.k)) → decode_stripe h m (erasures_in e) a.k ≡ decoded (blocks_of h a.base)
     full_decodes same half =
-        let is_k : is_full h a.k ≡ true = eq-eqb a.k a.k refl in
-        let place : (j : ℕ) → j < length start → (get_or start j no_entry).number ≡ j =
-        λ j b. number_numbered a.s a.base 0 (2 ^ a.k) j (omega (arith, length_start)) ∙ zero-add j in
-        rows_decode a.k (le_refl a.k) same half start start_taken length_start
-        (λ j b. rw (is_k, number_fits) (eq-eqb (get_or start j no_entry).number j (place j b)))
+        rows_decode a.k (le_refl a.k) same half start start_taken length_start full_numbers
         (λ q b. full_at q b ∙ ap₂ (λ (t : ℕ) (x : List ℕ). get_or (coded_rows 65537 (vault_root h) a.k a.k t (width h) x) q 0)
         (sym (first_full h a.k refl)) start_rows)
         ∙ ap decoded (sym start_rows)

@@ -16,15 +16,17 @@ use Rattle.field.specs.Words.{Words}
 use Rattle.field.proofs.WordLists.{words_nil, words_cons, words_append, words_sets}
 use Rattle.code.specs.Rows.{Column}
 use Rattle.field.proofs.Booleans.{both_true}
-use Rattle.layout.specs.Header.{header_of, is_in, header_fits, is_filled, first_of}
+use Rattle.layout.specs.Header.{header_of, is_in, header_fits, raw_size, full_size, log_size, is_filled, first_of}
 use Rattle.layout.specs.Records.{replaced}
 use Rattle.store.specs.Buffers.{blocks_of}
+use Rattle.store.specs.StoreCalls.{buffers_fit}
 use Rattle.vault.specs.Event.{Entry}
-use Rattle.vault.specs.Round.{Round, put_all, before_each, rows_of, records_in, round_header, level_entries}
+use Rattle.vault.specs.Round.{Round, put_all, before_each, rows_of, records_in, round_header, level_entries, represent}
 use Rattle.layout.proofs.Bounds.{fits}
 use Rattle.layout.proofs.RecordWords.{field_words}
-use Rattle.store.proofs.StoredRecords.{length_blocks, words_blocks}
-use Rattle.vault.proofs.Levels.{filled_in}
+use Rattle.layout.proofs.Refusals.{equal_three}
+use Rattle.store.proofs.StoredRecords.{length_blocks, words_blocks, length_full}
+use Rattle.vault.proofs.Levels.{filled_in, length_log}
 
 -- k from 1 to 10 and s from 1 to 128
 pub record Sizes (k s : ℕ) : Type 0 where
@@ -156,6 +158,14 @@ module _ {a : Round} (good : Good a) where
 
   pub header_fits_lem : header_fits (round_header a) ≡ true
   header_fits_lem = sizes_fit a.k a.s (length a.since) good.sizes good.few
+
+  -- the buffers that it represents have their lengths
+  pub buffers_fit_lem : buffers_fit (round_header a) (represent a) ≡ true
+  buffers_fit_lem =
+      let h = round_header a in
+      let u = represent a in
+      equal_three (length u.raw) (raw_size h) (length u.full) (full_size h) (length u.log) (log_size h) records_long (length_full h a.base)
+      (length_log h a.since a.k)
 
   pub length_entries : (l : ℕ) → l < a.k → is_filled (round_header a) l ≡ true → length (level_entries (round_header a) a.since l) ≡ 2 ^ l
   length_entries l b e =

@@ -24,7 +24,7 @@ use Rattle.vault.proofs.Recovering.{taken_when}
 use Rattle.vault.proofs.StripeCall.{needed_passes, passes_needed}
 
 -- OF n NUMBERS f 0, f 1, .. one is the last that is i, or none is i
-last_or_none : (f : ℕ → ℕ) (n i : ℕ) → ((t : ℕ) × Last f n i t) ⊎ None f n i
+pub last_or_none : (f : ℕ → ℕ) (n i : ℕ) → ((t : ℕ) × Last f n i t) ⊎ None f n i
 last_or_none f zero i = inr (λ u b. absurd (omega arith))
 last_or_none f (suc n) i = go (ℕ_discrete (f n) i) (last_or_none f n i)
   where

@@ -3,13 +3,13 @@
 use mathlib.Core.Path.{◌≡◌, refl, sym, ap, ap₂, ◌∙◌, subst}
 use mathlib.Core.Bool.{Bool, true, false, not}
 use mathlib.Core.Logic.{◌⊎◌, inl, inr}
-use mathlib.Core.List.{List, ◌∷◌}
+use mathlib.Core.List.{List, ◌∷◌, ◌++◌}
 use Prim.Native.Nat.{ℕ, suc, ◌+◌, ◌*◌, ◌-◌, ◌^◌, ◌≤◌, ◌<◌}
 use native.Mathlib.Nat.{pow-succ'}
 use native.Mathlib.Omega.{arith}
 use borrow.Author.Tests.{eq-eqb, ne_eqb}
 use lib.Dec.{lit<}
-use lib.ListN.{length, get_or, take, drop, replicate}
+use lib.ListN.{length, get_or, take, drop, replicate, length-replicate}
 use lib.Seq.{length-sets, get_or-take, get_or-drop}
 use Rattle.field.specs.Words.{Words}
 use Rattle.field.proofs.Booleans.{if_else, if_else_true, if_else_false}
@@ -31,37 +31,31 @@ use Rattle.vault.specs.promises.Writing.{WritePuts, WriteCounts, FirstEmpty, Wri
 use Rattle.vault.proofs.Levels.{level_end, level_in}
 use Rattle.vault.proofs.WrittenLog.{level_is, parts_long, low, middle, above, length_rebuilt, words_rebuilt, reduced_by, rebuilt_same}
 
--- WHAT A TAKEN EVENT LEAVES, of the record's number and the block that it has
-abbrev number_in : Event → ℕ
-number_in (write i b) = i
-number_in (earlier i b) = i
-
-abbrev block_in : Event → List ℕ
-block_in (write i b) = b
-block_in (earlier i b) = b
-
+-- WHAT A TAKEN EVENT LEAVES, a write or an earlier write of block b to record i
 record Stepped (v : Vault) (next : Event) (i : ℕ) (b : List ℕ) : Type 0 where
   taken : WriteTaken v.header v.held.raw v.held.full v.held.log i b
   is : step v next ≡ vault (next_header v.header) (written v.header v.held i b)
 
-stepped : (v : Vault) (next : Event) → number_on v next ≡ 0 → Stepped v next (number_in next) (block_in next)
-stepped v (write i b) e = record {
+stepped_write : (v : Vault) (i : ℕ) (b : List ℕ) → number_on v (write i b) ≡ 0 → Stepped v (write i b) i b
+stepped_write v i b e = record {
   taken = write_taken v.header v.held.raw v.held.full v.held.log i b (test (not (is_blank b)) 11 done) e;
   is = ap₂ vault (if_taken_lem (next_header v.header) v.header e) (if_taken_lem (written v.header v.held i b) v.held e);
 }
-stepped v (earlier i b) e = record {
+
+stepped_earlier : (v : Vault) (i : ℕ) (b : List ℕ) → number_on v (earlier i b) ≡ 0 → Stepped v (earlier i b) i b
+stepped_earlier v i b e = record {
   taken = write_taken v.header v.held.raw v.held.full v.held.log i b done e;
   is = ap₂ vault (if_taken_lem (next_header v.header) v.header e) (if_taken_lem (written v.header v.held i b) v.held e);
 }
 
-stepped_puts : (v : Vault) (next : Event) (i : ℕ) (b : List ℕ) → Puts next i b → number_on v next ≡ 0 → Stepped v next i b
-stepped_puts v next i b (inl p) = subst (λ (x : Event). number_on v x ≡ 0 → Stepped v x i b) (sym p) (stepped v (write i b))
-stepped_puts v next i b (inr p) = subst (λ (x : Event). number_on v x ≡ 0 → Stepped v x i b) (sym p) (stepped v (earlier i b))
+stepped : (v : Vault) (next : Event) (i : ℕ) (b : List ℕ) → Puts next i b → number_on v next ≡ 0 → Stepped v next i b
+stepped v next i b (inl p) = subst (λ (x : Event). number_on v x ≡ 0 → Stepped v x i b) (sym p) (stepped_write v i b)
+stepped v next i b (inr p) = subst (λ (x : Event). number_on v x ≡ 0 → Stepped v x i b) (sym p) (stepped_earlier v i b)
 
 -- a block that is taken, with its number before it, has words of the field
-words_put : (v : Vault) (next : Event) → Stepped v next (number_in next) (block_in next) → Words 65537 (number_in next ∷ block_in next)
-words_put v next t =
-    words_cons 65537 (lit< tt) (omega (arith, t.taken.within, (fits v.header t.taken.fitting).few)) (field_words (data_words (block_in next) t.taken.words))
+words_put : (v : Vault) (next : Event) (i : ℕ) (b : List ℕ) → Stepped v next i b → Words 65537 (i ∷ b)
+words_put v next i b t =
+    words_cons 65537 (lit< tt) (omega (arith, t.taken.within, (fits v.header t.taken.fitting).few)) (field_words (data_words b t.taken.words))
 
 -- THE RAW COPY
 raw_written : (h : Header) (u : Buffers) (i : ℕ) (b : List ℕ) → (written h u i b).raw ≡ replaced h.s u.raw i b
@@ -82,19 +76,19 @@ same_from n a b e q d =
     rw s at (sym (get_or-drop n a (q - n) 0) ∙ ap (λ (x : List ℕ). get_or x (q - n) 0) e ∙ get_or-drop n b (q - n) 0)
 
 module _ (s : ℕ) (r : List ℕ) (i : ℕ) (b : List ℕ) (long : length b ≡ s) where
-  word_put : i * s + s ≤ length r → (j : ℕ) → j < s → get_or (replaced s r i b) (i * s + j) 0 ≡ get_or b j 0
+  pub word_put : i * s + s ≤ length r → (j : ℕ) → j < s → get_or (replaced s r i b) (i * s + j) 0 ≡ get_or b j 0
   word_put h j d =
       sym (get_or-take s (drop (i * s) (replaced s r i b)) j 0 d ∙ get_or-drop (i * s) (replaced s r i b) j 0)
       ∙ ap (λ (x : List ℕ). get_or x j 0) (record_same s r i b long h)
 
-  word_kept : (q : ℕ) → (q < i * s) ⊎ (suc i * s ≤ q) → get_or (replaced s r i b) q 0 ≡ get_or r q 0
+  pub word_kept : (q : ℕ) → (q < i * s) ⊎ (suc i * s ≤ q) → get_or (replaced s r i b) q 0 ≡ get_or r q 0
   word_kept q (inl d) = same_before (i * s) (replaced s r i b) r (take_sets (i * s) r (i * s) b (omega arith)) q d
   word_kept q (inr d) = same_from (suc i * s) (replaced s r i b) r (drop_sets (suc i * s) r (i * s) b (omega arith)) q d
 
 pub write_puts : WritePuts
 write_puts v next i b p e =
     let h = v.header in
-    let t = stepped_puts v next i b p e in
+    let t = stepped v next i b p e in
     let raw : (step v next).held.raw ≡ replaced h.s v.held.raw i b = ap (λ (x : Vault). x.held.raw) t.is ∙ raw_written h v.held i b in
     let inside : i * h.s + h.s ≤ length v.held.raw = omega (arith, t.taken.raw_long, record_end (2 ^ h.k) h.s i t.taken.within) in (
       ap length raw ∙ length-sets v.held.raw (i * h.s) b,
@@ -104,35 +98,33 @@ write_puts v next i b p e =
 
 -- THE HEADER
 pub write_counts : WriteCounts
-write_counts v next e =
+write_counts v next i b p e =
     let h = v.header in
-    let is : (step v next).header ≡ next_header h = ap (λ (x : Vault). x.header) (stepped v next e).is in (
+    let is : (step v next).header ≡ next_header h = ap (λ (x : Vault). x.header) (stepped v next i b p e).is in (
       ap (λ (x : Header). x.k) is,
       ap (λ (x : Header). x.s) is,
-      λ b. ap (λ (x : Header). x.c) is ∙ if_else_false (last_of_round h) 0 (suc h.c) (ne_eqb (suc h.c) (2 ^ h.k) (λ q. omega arith)),
+      λ z. ap (λ (x : Header). x.c) is ∙ if_else_false (last_of_round h) 0 (suc h.c) (ne_eqb (suc h.c) (2 ^ h.k) (λ q. omega arith)),
       λ q. ap (λ (x : Header). x.c) is ∙ if_else_true (last_of_round h) 0 (suc h.c) (eq-eqb (suc h.c) (2 ^ h.k) q),
     )
 
 -- WITHIN A ROUND: what the step holds
-record Within (v : Vault) (next : Event) (l : ℕ) : Type 0 where
+record Within (v : Vault) (next : Event) (i l : ℕ) (b : List ℕ) : Type 0 where
   full_is : (step v next).held.full ≡ v.held.full
-  log_is : (step v next).held.log ≡ log_with v.header v.held.log (number_in next ∷ block_in next) l
-  block_long : length (number_in next ∷ block_in next) ≡ width v.header
+  log_is : (step v next).held.log ≡ log_with v.header v.held.log (i ∷ b) l
+  block_long : length (i ∷ b) ≡ width v.header
   fits : level_at v.header l + stripe_size v.header l ≤ length v.held.log
 
-within : (v : Vault) (next : Event) (l : ℕ) → number_on v next ≡ 0 → suc v.header.c < 2 ^ v.header.k → FirstEmpty v.header l → Within v next l
-within v next l e b f =
+within : (v : Vault) (next : Event) (i l : ℕ) (b : List ℕ) → Stepped v next i b → suc v.header.c < 2 ^ v.header.k → FirstEmpty v.header l
+    → Within v next i l b
+within v next i l b t z f =
     let h = v.header in
     let u = v.held in
-    let i = number_in next in
-    let d = block_in next in
-    let t = stepped v next e in
-    let raw = replaced h.s u.raw i d in
-    let held : (step v next).held ≡ buffers raw u.full (log_with h u.log (i ∷ d) l) =
+    let raw = replaced h.s u.raw i b in
+    let held : (step v next).held ≡ buffers raw u.full (log_with h u.log (i ∷ b) l) =
     ap (λ (x : Vault). x.held) t.is
-    ∙ if_else_false (last_of_round h) (opened h raw) (buffers raw u.full (log_with h u.log (i ∷ d) (level_for h)))
+    ∙ if_else_false (last_of_round h) (opened h raw) (buffers raw u.full (log_with h u.log (i ∷ b) (level_for h)))
     (ne_eqb (suc h.c) (2 ^ h.k) (λ q. omega arith))
-    ∙ ap (λ (m : ℕ). buffers raw u.full (log_with h u.log (i ∷ d) m)) (level_is h l b f) in
+    ∙ ap (λ (m : ℕ). buffers raw u.full (log_with h u.log (i ∷ b) m)) (level_is h l z f) in
     record {
       full_is = ap (λ (x : Buffers). x.full) held;
       log_is = ap (λ (x : Buffers). x.log) held;
@@ -141,59 +133,61 @@ within v next l e b f =
     }
 
 pub write_keeps : WriteKeeps
-write_keeps v next l e b f =
+write_keeps v next i l b p e z f =
     let h = v.header in
     let g = v.held.log in
-    let d = number_in next ∷ block_in next in
-    let w = within v next l e b f in
+    let d = i ∷ b in
+    let w = within v next i l b (stepped v next i b p e) z f in
     let r = rebuilt h g d l in
+    let zeros : List ℕ = replicate (level_at h l) 0 in
+    let front : length zeros ≡ level_at h l = length-replicate (level_at h l) 0 in
     let long : length r ≡ stripe_size h l = length_rebuilt h g d w.block_long l in (
       w.full_is,
-      ap length w.log_is ∙ parts_long (level_at h l) (stripe_size h l) r g long w.fits,
-      λ q z. ap (λ (x : List ℕ). get_or x q 0) w.log_is ∙ low (level_at h l) (stripe_size h l) r g long w.fits q z,
-      λ q z. ap (λ (x : List ℕ). get_or x q 0) w.log_is ∙ above (level_at h l) (stripe_size h l) r g long w.fits q (rw (← level_end) z),
+      ap length w.log_is ∙ parts_long zeros r g front long w.fits,
+      λ q a. ap (λ (x : List ℕ). get_or x q 0) w.log_is ∙ low (level_at h l) (r ++ drop (level_at h l + stripe_size h l) g) q a,
+      λ q a. ap (λ (x : List ℕ). get_or x q 0) w.log_is ∙ above zeros r g front long w.fits q (rw (← level_end) a),
     )
 
 -- a word of the rebuilt level
-word_rebuilt : (v : Vault) (next : Event) (l : ℕ) → Within v next l → (q : ℕ) → level_at v.header l ≤ q → q < level_at v.header (suc l)
-    → get_or (step v next).held.log q 0 ≡ get_or (rebuilt v.header v.held.log (number_in next ∷ block_in next) l) (q - level_at v.header l) 0
-word_rebuilt v next l w q a z =
+word_rebuilt : (v : Vault) (next : Event) (i l : ℕ) (b : List ℕ) → Within v next i l b → (q : ℕ) → level_at v.header l ≤ q → q < level_at v.header (suc l)
+    → get_or (step v next).held.log q 0 ≡ get_or (rebuilt v.header v.held.log (i ∷ b) l) (q - level_at v.header l) 0
+word_rebuilt v next i l b w q a z =
     let h = v.header in
     let g = v.held.log in
-    let d = number_in next ∷ block_in next in
+    let d = i ∷ b in
     ap (λ (x : List ℕ). get_or x q 0) w.log_is
-    ∙ middle (level_at h l) (stripe_size h l) (rebuilt h g d l) g (length_rebuilt h g d w.block_long l) w.fits q a (rw (← level_end) z)
+    ∙ middle (replicate (level_at h l) 0) (rebuilt h g d l) g (length-replicate (level_at h l) 0)
+    (length_rebuilt h g d w.block_long l) w.fits q a (rw (← level_end) z)
 
 pub write_reduces : WriteReduces
-write_reduces v v' next l q e e' b f same words a z =
+write_reduces v v' next i l q b p e e' n f same words a z =
     let h = v.header in
-    let d = number_in next ∷ block_in next in
-    let w = within v next l e b f in
-    let b' : suc v'.header.c < 2 ^ v'.header.k = subst (λ (x : Header). suc x.c < 2 ^ x.k) same b in
-    let w' = within v' next l e' b' (subst (λ (x : Header). FirstEmpty x l) same f) in
-    let g : length v.held.log ≡ length v'.held.log =
-    (stepped v next e).taken.log_long ∙ ap (λ (x : Header). level_at x x.k) same ∙ sym (stepped v' next e').taken.log_long in
+    let d = i ∷ b in
+    let t = stepped v next i b p e in
+    let t' = stepped v' next i b p e' in
+    let w = within v next i l b t n f in
+    let n' : suc v'.header.c < 2 ^ v'.header.k = subst (λ (x : Header). suc x.c < 2 ^ x.k) same n in
+    let w' = within v' next i l b t' n' (subst (λ (x : Header). FirstEmpty x l) same f) in
+    let g : length v.held.log ≡ length v'.held.log = t.taken.log_long ∙ ap (λ (x : Header). level_at x x.k) same ∙ sym t'.taken.log_long in
     let below = reduced_by 65537 (level_at h l) v.held.log v'.held.log g words in
-    let word = word_rebuilt v next l w q a z in
+    let word = word_rebuilt v next i l b w q a z in
     let small : get_or (rebuilt h v.held.log d l) (q - level_at h l) 0 < 65537 =
-    (words_rebuilt h v.held.log l (words_put v next (stepped v next e))).word (q - level_at h l) in (
+    (words_rebuilt h v.held.log l (words_put v next i b t)).word (q - level_at h l) in (
       word
           ∙ ap (λ (x : List ℕ). get_or x (q - level_at h l) 0) (rebuilt_same h v.held.log v'.held.log d l below)
           ∙ ap (λ (x : Header). get_or (rebuilt x v'.held.log d l) (q - level_at x l) 0) same
-          ∙ sym (word_rebuilt v' next l w' q (subst (λ (x : Header). level_at x l ≤ q) same a) (subst (λ (x : Header). q < level_at x (suc l)) same z)),
+          ∙ sym (word_rebuilt v' next i l b w' q (subst (λ (x : Header). level_at x l ≤ q) same a) (subst (λ (x : Header). q < level_at x (suc l)) same z)),
       rw word (omega arith),
     )
 
 -- THE LAST WRITE OF A ROUND
 pub write_ends : WriteEnds
-write_ends v next e q =
+write_ends v next i b p e q =
     let h = v.header in
     let u = v.held in
-    let i = number_in next in
-    let b = block_in next in
     let raw = replaced h.s u.raw i b in
     let held : (step v next).held ≡ opened h raw =
-    ap (λ (x : Vault). x.held) (stepped v next e).is
+    ap (λ (x : Vault). x.held) (stepped v next i b p e).is
     ∙ if_else_true (last_of_round h) (opened h raw) (buffers raw u.full (log_with h u.log (i ∷ b) (level_for h))) (eq-eqb (suc h.c) (2 ^ h.k) q) in (
       ap (λ (x : Buffers). x.full) held ∙ ap (full_stripe h) (sym (ap (λ (x : Buffers). x.raw) held)),
       ap (λ (x : Buffers). x.log) held ∙ ap (λ (n : ℕ). replicate ((n - 2) * suc h.s) 0) (pow-succ' 2 h.k),

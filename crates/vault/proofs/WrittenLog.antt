@@ -26,7 +26,7 @@ use Rattle.vault.specs.promises.Writing.{FirstEmpty}
 use Rattle.vault.proofs.Levels.{level_in}
 
 -- THE FIRST EMPTY LEVEL is where carrying ends
-ended : {c l q : ℕ} → Carry c l q → c / 2 ^ l % 2 ≡ 0
+pub ended : {c l q : ℕ} → Carry c l q → c / 2 ^ l % 2 ≡ 0
 ended {c} {l} {q} carry =
     let e : c ≡ q * 2 * 2 ^ l + (2 ^ l - 1) = omega (arith, pow_pos l, rw pow-succ' at carry.next) in
     let d : c / 2 ^ l ≡ q * 2 = ap (λ (x : ℕ). x / 2 ^ l) e ∙ high (q * 2) l (ones_lt l) in
@@ -43,29 +43,29 @@ level_is h l b f = r.first ∙ zero-add r.level ∙ same (dec_lt r.level l) (dec
     same (no n) (yes d) = absurd (omega (arith, f.empty, filled_before r.carry l d))
     same (no n) (no z) = omega arith
 
--- THE LOG: a zeros, r, and what g has after that
-module _ (a s : ℕ) (r g : List ℕ) (long : length r ≡ s) (fits : a + s ≤ length g) where
+-- WORDS IN THREE PARTS: a words, s more, and what g has after that
+module _ {a s : ℕ} (front r g : List ℕ) (ef : length front ≡ a) (er : length r ≡ s) (fits : a + s ≤ length g) where
   abbrev parts : List ℕ
-  parts = replicate a 0 ++ (r ++ drop (a + s) g)
+  parts = front ++ (r ++ drop (a + s) g)
 
   pub parts_long : length parts ≡ length g
-  parts_long = simp (length-append, length-replicate, length-drop) (omega arith)
-
-  pub low : (q : ℕ) → q < a → get_or parts q 0 ≡ 0
-  low q d = get_or-append (replicate a 0) (r ++ drop (a + s) g) 0 q (rw length-replicate d) ∙ get_or-replicate a q 0 0 d
+  parts_long = simp (length-append, length-drop) (omega (arith, ef, er, fits))
 
   later : (q : ℕ) → a ≤ q → get_or parts q 0 ≡ get_or (r ++ drop (a + s) g) (q - a) 0
   later q d =
-      get_or-append_right (replicate a 0) (r ++ drop (a + s) g) q 0 (rw length-replicate d)
-      ∙ ap (λ (n : ℕ). get_or (r ++ drop (a + s) g) (q - n) 0) (length-replicate a 0)
+      get_or-append_right front (r ++ drop (a + s) g) q 0 (omega (arith, ef, d)) ∙ ap (λ (n : ℕ). get_or (r ++ drop (a + s) g) (q - n) 0) ef
 
   pub middle : (q : ℕ) → a ≤ q → q < a + s → get_or parts q 0 ≡ get_or r (q - a) 0
-  middle q d b = later q d ∙ get_or-append r (drop (a + s) g) 0 (q - a) (omega arith)
+  middle q d b = later q d ∙ get_or-append r (drop (a + s) g) 0 (q - a) (omega (arith, er))
 
   pub above : (q : ℕ) → a + s ≤ q → get_or parts q 0 ≡ get_or g q 0
   above q d =
-      later q (omega arith) ∙ get_or-append_right r (drop (a + s) g) (q - a) 0 (omega arith) ∙ get_or-drop (a + s) g (q - a - length r) 0
-      ∙ ap (λ (n : ℕ). get_or g n 0) {x = a + s + (q - a - length r)} {y = q} (omega arith)
+      later q (omega arith) ∙ get_or-append_right r (drop (a + s) g) (q - a) 0 (omega (arith, er)) ∙ get_or-drop (a + s) g (q - a - length r) 0
+      ∙ ap (λ (n : ℕ). get_or g n 0) {x = a + s + (q - a - length r)} {y = q} (omega (arith, er))
+
+-- zeros in front
+pub low : (a : ℕ) (rest : List ℕ) (q : ℕ) → q < a → get_or (replicate a 0 ++ rest) q 0 ≡ 0
+low a rest q d = get_or-append (replicate a 0) rest 0 q (rw length-replicate d) ∙ get_or-replicate a q 0 0 d
 
 -- the level is as long as its stripe
 length_new : (h : Header) (y : ℕ) (b : List ℕ) → length (new_row h y b) ≡ length b

@@ -7,6 +7,7 @@ pub mod promises
 pub mod Round
 pub mod Worked
 pub mod WorkedBytes
+pub mod WorkedBack
 pub use Rattle.code.specs.Stripe
 pub use Rattle.decoder.specs.Decoding as ColumnDecoding
 pub use Rattle.layout.specs.Header
@@ -14,6 +15,9 @@ pub use Rattle.layout.specs.Records
 pub use Rattle.layout.specs.Refusals
 pub use Rattle.store.specs.Buffers
 pub use Rattle.store.specs.StoreCalls
+pub use Rattle.splitting.specs.Splitting
+pub use Rattle.taking_back.specs.TakingBack
+pub use Rattle.taking_back.specs.TakeBackCall
 pub use Rattle.image.specs.Image
 pub use Rattle.image.specs.Erasures
 pub use Rattle.image.specs.Loading

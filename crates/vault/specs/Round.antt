@@ -1,12 +1,12 @@
 -- A round: k and s, the records when the full stripe was last built, and the blocks written since. It stands between the model and the buffers: it fixes the
 -- model, and what it represents are the buffers' words as docs/FORMAT.md fixes them (sections 3 to 5). Assumes nothing: these are definitions.
-use Rattle.std.specs.Prelude.{true, false, List, [], ◌∷◌, ◌++◌, ℕ, zero, suc, ◌^◌, eqb, length, take, drop, replicate}
+use Rattle.std.specs.Prelude.{true, false, List, [], ◌∷◌, ◌++◌, ℕ, zero, suc, ◌-◌, ◌^◌, eqb, length, take, drop, replicate}
 use Rattle.code.specs.Stripe.{coded_rows}
 use Rattle.layout.specs.declared.Header.{Header}
 use Rattle.layout.specs.Header.{header_of, prime_of, vault_root, width, is_filled, first_of, stripe_size}
 use Rattle.layout.specs.Records.{replaced}
 use Rattle.store.specs.Buffers.{full_stripe, Buffers, buffers}
-use Rattle.vault.specs.Event.{Opening, Entry, Event, write, earlier}
+use Rattle.vault.specs.Event.{Opening, Entry, Event, write, earlier, take_back}
 use Rattle.vault.specs.Model.{Model, table_number}
 
 pub record Round : Type 0 where
@@ -37,7 +37,7 @@ records_in a = put_all a.s a.base a.since
 abbrev pub model_in : Round → Model
 model_in a = record { k = a.k; s = a.s; records = records_in a; written = a.since; before = before_each a.s a.base a.since }
 
--- WHAT AN EVENT DOES to a round. A write is entered; the n-th one ends the round, and its records start the next
+-- WHAT AN EVENT DOES to a round. A write is entered; the n-th one ends the round, and its records start the next. A taking-back cuts the last one off
 abbrev pub start_of : (k s : ℕ) → (raw : List ℕ) → Round
 start_of k s r = record { k = k; s = s; base = r; since = [] }
 
@@ -48,9 +48,13 @@ grown a x =
       | false ↦ record { k = a.k; s = a.s; base = a.base; since = a.since ++ (x ∷ []) }
     ]
 
+abbrev pub cut : Round → Round
+cut a = record { k = a.k; s = a.s; base = a.base; since = take (length a.since - 1) a.since }
+
 abbrev pub advanced : Round → Event → Round
 advanced a (write i b) = grown a (record { number = i; block = b })
 advanced a (earlier i b) = grown a (record { number = i; block = b })
+advanced a (take_back scratch) = cut a
 
 -- one that the table refuses leaves it as it is
 abbrev pub turn_round : Round → Event → Round

@@ -11,6 +11,7 @@ pub mod Recovering
 pub mod Leaving
 pub mod Coding
 pub mod Writing
+pub mod TakingBack
 pub mod Answers
 pub mod Explaining
 pub mod Blanks

@@ -1,4 +1,4 @@
-// The calls of the vault (docs/FORMAT.md, section 9), all eight, by value: headers are given and come back, and nothing is kept between two calls. No call
+// The calls of the vault (docs/FORMAT.md, section 9), all nine, by value: headers are given and come back, and nothing is kept between two calls. No call
 // has a precondition. Each contract says, for every input, what the call answers (`result`), and what is left of each buffer that it may change: `x.old` is
 // the buffer x as it was lent, `x.new` as it is left, `x.now` one that does not change, and «x» a parameter whose name is a word of the language. An answer is
 // read as the number of the table of refusals and what goes with it: by answer_number, opened_as, written_as, read_part and verdict_of. Where the promises
@@ -9,6 +9,7 @@ ghost use Rattle.power_table.specs.PowersCall.{powers_number, powers_leaves};
 ghost use Rattle.store.specs.Buffers.{buffers};
 ghost use Rattle.layout.specs.Refusals.{answer_number};
 ghost use Rattle.store.specs.StoreCalls.{opened_as, open_answer, open_leaves, written_as, write_answer, write_leaves, read_part, read_number, read_gives};
+ghost use Rattle.taking_back.specs.TakeBackCall.{take_back_answer, take_back_leaves, take_back_scratch};
 ghost use Rattle.image.specs.ImageCall.{image_number, image_leaves};
 ghost use Rattle.stripe_decoding.specs.StripeCall.{decode_number, decode_leaves, decode_scratch};
 ghost use Rattle.recovery.specs.Verdicts.{verdict_of};
@@ -48,6 +49,23 @@ pub fn write(
     ensures log_after { log.new ≡ (write_leaves header (buffers raw.old full.old log.old) «record» block.now).log }
 {
     store::writing::write(header, raw, full, log, record, block)
+}
+
+// Takes back the last write of the round, and gives the header afterwards. Tests 1, 2 (raw, full, log, scratch), 12, and 8 to 10 of each stripe that it
+// decodes.
+pub fn take_back(
+    header: Header,
+    raw: &mut [u32],
+    full: &[u32],
+    log: &mut [u32],
+    scratch: &mut [u32],
+) -> Result<Header, Refusal>
+    ensures value { written_as header result ≡ take_back_answer header (buffers raw.old full.now log.old) scratch.old }
+    ensures raw_after { raw.new ≡ (take_back_leaves header (buffers raw.old full.now log.old) scratch.old).raw }
+    ensures log_after { log.new ≡ (take_back_leaves header (buffers raw.old full.now log.old) scratch.old).log }
+    ensures scratch_after { scratch.new ≡ take_back_scratch header (buffers raw.old full.now log.old) scratch.old }
+{
+    taking_back::taking::take_back(header, raw, full, log, scratch)
 }
 
 // A record, a part of the raw buffer. Tests 1, 2 (raw), 4.

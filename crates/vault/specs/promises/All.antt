@@ -12,6 +12,7 @@ use Rattle.vault.specs.promises.Leaving.{Leaving}
 use Rattle.vault.specs.promises.Recovering.{Recovering}
 use Rattle.vault.specs.promises.Coding.{Coding}
 use Rattle.vault.specs.promises.Writing.{Writing}
+use Rattle.vault.specs.promises.TakingBack.{TakingBack}
 use Rattle.vault.specs.promises.Answers.{Answers}
 use Rattle.vault.specs.promises.Explaining.{Explaining}
 use Rattle.vault.specs.promises.Blanks.{Blanks}
@@ -20,6 +21,7 @@ use Rattle.vault.specs.promises.Openings.{Openings}
 use Rattle.vault.specs.Worked.{Holds, examples, blank_examples}
 use Rattle.vault.specs.WorkedBytes.{byte_examples, stripe_examples, stray_examples, fault_examples}
 use Rattle.vault.specs.WorkedBytes.{history_examples, half_examples, number_examples, answer_examples}
+use Rattle.vault.specs.WorkedBack.{back_examples, back_faults, back_histories}
 
 -- the three demands, what else is promised, and the worked examples
 pub record Promises : Type 1 where
@@ -34,6 +36,7 @@ pub record Promises : Type 1 where
   pub recovering : Recovering
   pub coding : Coding
   pub writing : Writing
+  pub taking_back : TakingBack
   pub answers : Answers
   pub explaining : Explaining
   pub blanks : Blanks
@@ -49,3 +52,6 @@ pub record Promises : Type 1 where
   pub worked_halves : Holds half_examples
   pub worked_numbers : Holds number_examples
   pub worked_answers : Holds answer_examples
+  pub worked_back : Holds back_examples
+  pub worked_back_faults : Holds back_faults
+  pub worked_back_histories : Holds back_histories

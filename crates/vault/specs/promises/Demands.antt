@@ -1,8 +1,8 @@
 -- WHAT THE VAULT PROMISES: the three demands, as lines that can be shown. The rooms beside this file have the words that these lines use, and what else is
 -- promised: Decoding has Readable, Codes, HoldRecords, Decodes and Fails; Losses has Survives, SameRemains and Recovers; then Histories, Explaining, Blanks,
 -- Boundary and Openings. What these say by marks, lengths and numbers is said by bytes and by the rows of the table of refusals in Erasures, Table, Numbers,
--- Leaving, Recovering, Coding and Writing; Answers has what is read off an answer of the code. All has the record of everything, whose one proof is `proved` of
--- proofs/Proved. Assumes nothing.
+-- Leaving, Recovering, Coding, Writing and TakingBack; Answers has what is read off an answer of the code. All has the record of everything, whose one proof is
+-- `proved` of proofs/Proved. Assumes nothing.
 --
 -- SIGNS. First `f a`, h.k and ^ bind; then *, / and %; then + and -; then ∷ and ++; then ≡, ≤, <; then ×, ⊎, ↔; then →; and `let` what follows it
 --   (`→` groups from the right, the others from the left)
@@ -34,6 +34,7 @@
 --   i         a record's number
 --   b         the data words of a block for it
 --   t, t'     a write of the round, counted from 0
+--   low       the lowest filled level of a header
 --   l, l'     a stripe (shelf): a level below k, or k for the full stripe; it has 2^l blocks and 2^(l+1) positions
 --   q, q'     a place in a list of words, counted from 0
 --   j, j'     a block of a stripe, or a word of a record or of a block, counted from 0
@@ -50,14 +51,15 @@
 --
 -- FROM THIS CRATE
 --   Event      Opening, Event: what a history is made of. An event is `write i b` or `earlier i b`: the block b for record i, written by today's table of
---              refusals, or by an earlier vault, whose table had no 11. What is said of all events es is said of both kinds, in any order and number. A write's
---              entry has a `number` and a `block`
+--              refusals, or by an earlier vault, whose table had no 11; or `take_back scratch`: the last write of the round taken back, with the scratch lent
+--              for it. What is said of all events es is said of all kinds, in any order and number. A write's entry has a `number` and a `block`
 --   History    Opens o: the call takes the opening, that is, gives 0. vault_after o es: header and buffers as the calls leave them; header_after,
 --              image_after: its header and its image. number_on v next: the number that the call gives to an event; to an earlier write, the call as it was.
 --              step v next: header and buffers as that call leaves them
 --   Model      model_of o es: what the model (record book) says, from k, s, the opened records and the events alone. writes: its count. table_number: the
---              table's number: a write's by today's table, an earlier one's by the table without 11. written_at x t: the entry of write t of the round.
---              LastWrite x i t: write t is the last of the round to record i. NoWrite x i: the round has none to it
+--              table's number: a write's by today's table, an earlier one's by the table without 11, a taking-back's by the count and its scratch.
+--              written_at x t: the entry of write t of the round. LastWrite x i t: write t is the last of the round to record i. NoWrite x i: the round has
+--              none to it. A write that is taken back is none of the round's
 --   Boundary   read_start, read_count: what the boundary for C hands out of a reading; shelf_of: of a stripe that is named, or no_shelf where none is
 --   Worked     Holds: that each entry of a table of examples is so
 --   Round      round_of o es: the round that a history ends in: the records when the full stripe was last built, `base`, and the writes since, `since`, the
@@ -70,11 +72,16 @@
 --              first_of h l: t0, the write that the first block of a level is. stripe_at h l: the word of the image at which the stripe begins; stripe_size h
 --              l: how many it has. stripe_of h l: the stripe's numbers: l, k, its t0, and 1 + s. record_in s raw i: record i of raw records
 --              Tests: `test holds n ts`, or `done`: tests with their numbers. refusal ts: the number of the first that does not hold, 0 if all do
---   code       coded p w k l t0 column: the words that a column of blocks' words codes to, X then Y
+--   field      root_of fermat k: the root of a vault of 2^k records, modulo 65537
+--   code       coded p w k l t0 column: the words that a column of blocks' words codes to, X then Y. coded_rows p w k l t0 width blocks: those of blocks of
+--              `width` words, column by column
 --   decoder    survivors l ms: the positions of stripe l that are not erased
 --   store      open_answer, open_leaves: what the call `open` answers, a number and a header, and what it leaves. read_number, read_gives: the number that the
 --              call `read` gives, and the part. blocks_of h raw: raw records as blocks, in number order. full_stripe h raw: the full stripe of raw records.
 --              buffers raw full log: these three buffers
+--   taking_back   stripe_held h full log l: the words of a stripe, the full one's or those of the log from the level's place on. decode_held: what they
+--              decode to, none erased. take_back_answer, take_back_leaves, take_back_scratch: what the call answers, and what it leaves in its buffers
+--              and in the scratch
 --   image      word_at m q: word q of an image. words_of bytes: the words of some bytes. stripe_in h m l: the bytes of a stripe in an image. erasures_in e: the
 --              pairs of a list. erasures_fit h e: it is well formed, number 3 does not apply. marks_of h pairs l: for each position of a stripe whether a pair
 --              touches one of its bytes; true is erased. image_number, image_leaves: the number that the call `image` gives, and what it leaves

@@ -1,7 +1,7 @@
 -- HISTORIES: the model beside the round that a history ends in, and the raw copy and the image that it leaves. Signs and letters: Demands. Assumes nothing.
 use Rattle.std.specs.Prelude.{◌≡◌, ◌⊎◌, List, [], ◌∷◌, ◌++◌, ℕ, suc, ◌+◌, ◌*◌, ◌-◌, ◌^◌, ◌≤◌, ◌<◌, length, get_or, take}
 use Rattle.layout.specs.Header.{image_size}
-use Rattle.vault.specs.Event.{Opening, Event, write, earlier}
+use Rattle.vault.specs.Event.{Opening, Event, write, earlier, take_back}
 use Rattle.vault.specs.Model.{writes, table_number, model_of}
 use Rattle.vault.specs.History.{Opens, vault_after, header_after, image_after}
 use Rattle.vault.specs.Round.{put_all, model_in, round_of}
@@ -43,7 +43,7 @@ BeforeIs =
     (count ≡ length round.since) × (length (model_of o es).before ≡ count) ×
     ((back : ℕ) → back < count → get_or (model_of o es).before back [] ≡ put_all (model_of o es).s round.base (take (count - suc back) round.since))
 
--- AN EVENT THAT THE TABLE REFUSES leaves the model as it is. One that it takes puts its block's words in the place of record i, and nothing else; the count
+-- AN EVENT THAT THE TABLE REFUSES leaves the model as it is. A write that it takes puts its block's words in the place of record i, and nothing else; the count
 -- grows by 1, and at n it is 0
 abbrev pub ModelKept : Type 0
 ModelKept = (o : Opening) (es : List Event) (next : Event) → (table_number (model_of o es) next ≡ 0 → ⊥) → model_of o (es ++ (next ∷ [])) ≡ model_of o es
@@ -61,6 +61,16 @@ ModelPuts =
     ((q : ℕ) → (q < i * before.s) ⊎ (suc i * before.s ≤ q) → get_or after.records q 0 ≡ get_or before.records q 0) ×
     (suc (writes before) < 2 ^ before.k → writes after ≡ suc (writes before)) × (suc (writes before) ≡ 2 ^ before.k → writes after ≡ 0)
 
+-- A TAKING-BACK that it takes cancels the last write of the round: the records are those of the round's start with all writes but the last put in
+abbrev pub ModelTakes : Type 0
+ModelTakes =
+    (o : Opening) (es : List Event) (scratch : List ℕ) → Opens o → table_number (model_of o es) (take_back scratch) ≡ 0 →
+    let before = model_of o es in
+    let after = model_of o (es ++ (take_back scratch ∷ [])) in
+    let round = round_of o es in
+    (suc (writes after) ≡ writes before) × (after.written ≡ take (writes before - 1) before.written) ×
+    (after.records ≡ put_all before.s round.base (take (writes before - 1) round.since))
+
 -- THE IMAGE has the length that recovery asks for
 abbrev pub ImageLong : Type 0
 ImageLong = (o : Opening) (es : List Event) → Opens o → length (image_after o es) ≡ image_size (header_after o es)
@@ -77,4 +87,5 @@ pub record Histories : Type 0 where
   pub before_is : BeforeIs
   pub model_kept : ModelKept
   pub model_puts : ModelPuts
+  pub model_takes : ModelTakes
   pub image_long : ImageLong

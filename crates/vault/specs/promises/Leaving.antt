@@ -1,5 +1,6 @@
--- WHAT EVERY CALL LEAVES, by its number: with 1 to 6 and 11 everything as it was, with 7 to 10 zeros but for counts, with 0 what is promised. Of `write` it is
--- refused_stays of Demands, and with 0 the room Writing. Signs and letters: Demands. Assumes nothing.
+-- WHAT EVERY CALL LEAVES, by its number: with 1 to 6, 11 and 12 everything as it was, with 7 to 10 zeros but for counts, with 0 what is promised. Of `write`
+-- and `take_back` it is refused_stays of Demands, and with 0 the rooms Writing and TakingBack, which also has the scratch. Signs and letters: Demands. Assumes
+-- nothing.
 use Rattle.std.specs.Prelude.{◌≡◌, List, [], ℕ, suc, ◌+◌, ◌*◌, ◌-◌, ◌/◌, ◌%◌, ◌^◌, ◌≤◌, ◌<◌, length, get_or, replicate}
 use Rattle.layout.specs.declared.Header.{Header}
 use Rattle.layout.specs.Header.{header_of}

@@ -1,7 +1,8 @@
 -- EVERY CALL'S NUMBER, both ways round, for every input: each number that the call tests is given if and only if its row of the table applies (Table) and no
--- smaller one that the call tests does, and 0 if and only if none does (of `recover` and `explain`: the room Recovering). Signs and letters: Demands. Assumes
+-- smaller one that the call tests does, and 0 if and only if none does (of `recover` and `explain`: the room Recovering; of `take_back`: the
+-- room TakingBack). Signs and letters: Demands. Assumes
 -- nothing.
-use Rattle.std.specs.Prelude.{◌≡◌, ◌↔◌, List, ℕ, ◌^◌, ◌≤◌, ◌<◌, length}
+use Rattle.std.specs.Prelude.{◌≡◌, ◌↔◌, List, ℕ, suc, ◌+◌, ◌*◌, ◌^◌, ◌≤◌, ◌<◌, length}
 use Rattle.layout.specs.declared.Header.{Header}
 use Rattle.layout.specs.Header.{header_of}
 use Rattle.store.specs.StoreCalls.{open_answer, read_number}
@@ -13,13 +14,15 @@ use Rattle.stripe_decoding.specs.StripeCall.{decode_number}
 use Rattle.recovery.specs.RecoveryCall.{recover_answer}
 use Rattle.explanation.specs.ExplainCall.{explain_early, explain_answer}
 use Rattle.power_table.specs.PowersCall.{powers_number}
-use Rattle.vault.specs.Event.{Event, write, earlier}
-use Rattle.vault.specs.Model.{Model, table_number}
+use Rattle.vault.specs.Event.{Event, write, earlier, take_back}
+use Rattle.vault.specs.Model.{Model, writes, table_number}
 use Rattle.vault.specs.History.{Vault, number_on}
 use Rattle.vault.specs.promises.Table.{RawLength, FullLength, LogLength, BlockLength, ImageLength, OutLength, ScratchLength, CountsLength, OriginsLength}
+use Rattle.vault.specs.promises.Table.{BackLength, RoundBegins}
 use Rattle.vault.specs.promises.Table.{OutOfRange, IllFormed, NoSuchRecord, NoDataWord, NoStripe, TooFew, Stray, Inconsistent, NotRecords, AllZero}
 use Rattle.vault.specs.promises.Table.{InRange, IsStripe, Rows, none, row, EachRow, NoRow, EachNumber}
 use Rattle.vault.specs.promises.Decoding.{Fails, Asked}
+use Rattle.vault.specs.promises.Histories.{Puts}
 use Rattle.vault.specs.promises.Erasures.{WellFormed}
 
 -- THE CALL `open`
@@ -59,7 +62,29 @@ EarlierTable = (x : Model) (i : ℕ) (b : List ℕ) → EachNumber (table_number
 
 -- and from nothing else: two models that agree in k and s agree in it
 abbrev pub SameTable : Type 0
-SameTable = (x x' : Model) (next : Event) → x.k ≡ x'.k → x.s ≡ x'.s → table_number x next ≡ table_number x' next
+SameTable =
+    (x x' : Model) (next : Event) (i : ℕ) (b : List ℕ) → Puts next i b → x.k ≡ x'.k → x.s ≡ x'.s → table_number x next ≡ table_number x' next
+
+-- of a taking-back, from the scratch and whether the round has a write. Of any event, two models that agree in the count too agree in it
+abbrev pub BackTable : Type 0
+BackTable =
+    (x : Model) (scratch : List ℕ) →
+    EachNumber (table_number x (take_back scratch)) (row 2 (length scratch ≡ 2 * (2 ^ x.k * suc x.s + 4 * 2 ^ x.k) → ⊥) (row 12 (writes x ≡ 0) none))
+
+abbrev pub SameCounted : Type 0
+SameCounted =
+    (x x' : Model) (next : Event) → x.k ≡ x'.k → x.s ≡ x'.s → writes x ≡ writes x' → table_number x next ≡ table_number x' next
+
+-- THE CALL `take_back`. Here 1, 2 and 12; 0 and 8 to 10 are in the room TakingBack
+abbrev pub BackRows : Vault → (scratch : List ℕ) → Rows
+BackRows v scratch =
+    let h = v.header in
+    row 1 (OutOfRange h)
+    (row 2 (RawLength h v.held.raw × FullLength h v.held.full × LogLength h v.held.log × BackLength h scratch → ⊥)
+    (row 12 (RoundBegins h) none))
+
+abbrev pub BackNumbers : Type 0
+BackNumbers = (v : Vault) (scratch : List ℕ) → EachRow (number_on v (take_back scratch)) (BackRows v scratch)
 
 -- THE CALL `read`
 abbrev pub ReadNumbers : Type 0
@@ -144,6 +169,9 @@ pub record Numbers : Type 0 where
   pub table_numbers : TableNumbers
   pub earlier_table : EarlierTable
   pub same_table : SameTable
+  pub back_table : BackTable
+  pub same_counted : SameCounted
+  pub back_numbers : BackNumbers
   pub read_numbers : ReadNumbers
   pub image_numbers : ImageNumbers
   pub stripe_numbers : StripeNumbers

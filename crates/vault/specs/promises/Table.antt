@@ -45,6 +45,9 @@ OutLength h out = length out ≡ 2 ^ h.k * suc h.s
 abbrev pub ScratchLength : Header → (scratch : List ℕ) → Type 0
 ScratchLength h scratch = length scratch ≡ 2 ^ h.k * suc h.s + 4 * 2 ^ h.k
 
+abbrev pub BackLength : Header → (scratch : List ℕ) → Type 0
+BackLength h scratch = length scratch ≡ 2 * (2 ^ h.k * suc h.s + 4 * 2 ^ h.k)
+
 abbrev pub CountsLength : Header → (counts : List ℕ) → Type 0
 CountsLength h counts = length counts ≡ 2 * suc h.k
 
@@ -108,6 +111,10 @@ pub record NotRecords (h : Header) (m e : List ℕ) (l : ℕ) : Type 0 where
 -- 11, blank: all words of a block are 0
 abbrev pub AllZero : (block : List ℕ) → Type 0
 AllZero b = (q : ℕ) → get_or b q 0 ≡ 0
+
+-- 12, start of a round: it has no write that could be taken back
+abbrev pub RoundBegins : Header → Type 0
+RoundBegins h = h.c ≡ 0
 
 -- ROWS OF THE TABLE, those that a call tests: each with its number and the statement that it applies
 pub data Rows : Type 1 where

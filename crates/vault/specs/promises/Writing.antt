@@ -18,7 +18,7 @@ WritePuts =
 -- the header keeps k and s, and c grows by 1, and at n it is 0
 abbrev pub WriteCounts : Type 0
 WriteCounts =
-    (v : Vault) (next : Event) → number_on v next ≡ 0 →
+    (v : Vault) (next : Event) (i : ℕ) (b : List ℕ) → Puts next i b → number_on v next ≡ 0 →
     let before = v.header in
     let after = (step v next).header in
     (after.k ≡ before.k) × (after.s ≡ before.s) ×
@@ -32,7 +32,7 @@ pub record FirstEmpty (h : Header) (l : ℕ) : Type 0 where
 
 abbrev pub WriteKeeps : Type 0
 WriteKeeps =
-    (v : Vault) (next : Event) (l : ℕ) → number_on v next ≡ 0 → suc v.header.c < 2 ^ v.header.k → FirstEmpty v.header l →
+    (v : Vault) (next : Event) (i l : ℕ) (b : List ℕ) → Puts next i b → number_on v next ≡ 0 → suc v.header.c < 2 ^ v.header.k → FirstEmpty v.header l →
     let before = v.held.log in
     let after = (step v next).held.log in
     let row = suc v.header.s in
@@ -44,8 +44,8 @@ WriteKeeps =
 -- is the same, and its words are 0 to 65536
 abbrev pub WriteReduces : Type 0
 WriteReduces =
-    (v v' : Vault) (next : Event) (l q : ℕ) → number_on v next ≡ 0 → number_on v' next ≡ 0 → suc v.header.c < 2 ^ v.header.k → FirstEmpty v.header l →
-    v.header ≡ v'.header →
+    (v v' : Vault) (next : Event) (i l q : ℕ) (b : List ℕ) → Puts next i b → number_on v next ≡ 0 → number_on v' next ≡ 0 →
+    suc v.header.c < 2 ^ v.header.k → FirstEmpty v.header l → v.header ≡ v'.header →
     ((q' : ℕ) → q' < (2 ^ suc l - 2) * suc v.header.s → get_or v.held.log q' 0 % 65537 ≡ get_or v'.held.log q' 0 % 65537) →
     (2 ^ suc l - 2) * suc v.header.s ≤ q → q < (2 ^ suc (suc l) - 2) * suc v.header.s →
     (get_or (step v next).held.log q 0 ≡ get_or (step v' next).held.log q 0) × (get_or (step v next).held.log q 0 ≤ 65536)
@@ -53,7 +53,7 @@ WriteReduces =
 -- THE n-TH WRITE of a round codes the full stripe anew from the raw copy, as it is then, and the log is zeros
 abbrev pub WriteEnds : Type 0
 WriteEnds =
-    (v : Vault) (next : Event) → number_on v next ≡ 0 → suc v.header.c ≡ 2 ^ v.header.k →
+    (v : Vault) (next : Event) (i : ℕ) (b : List ℕ) → Puts next i b → number_on v next ≡ 0 → suc v.header.c ≡ 2 ^ v.header.k →
     let after = (step v next).held in
     (after.full ≡ full_stripe v.header after.raw) × (after.log ≡ replicate ((2 * 2 ^ v.header.k - 2) * suc v.header.s) 0)
 
