@@ -1,13 +1,16 @@
 //! The vault's calls as a table (docs/FORMAT.md, section 9): what each is given and lent, and which numbers it gives. The stored cases and the comparison with
 //! the library both go by it.
 use crate::header::Header;
-use crate::lent::{Buffer, BLOCK, COUNTS, FULL, IMAGE, LIST, LOG, OUT, RAW, SCRATCH};
+use crate::lent::{
+    Buffer, BLOCK, COUNTS, DOUBLE_SCRATCH, FULL, IMAGE, LIST, LOG, OUT, RAW, SCRATCH,
+};
 use crate::powers::ENTRIES;
 
 #[derive(Clone, Copy, Debug, PartialEq)]
 pub enum Call {
     Open,
     Write { record: u32 },
+    TakeBack,
     Read { record: u32 },
     Image,
     Decode { stripe: u32 },
@@ -35,7 +38,7 @@ pub struct Row {
     pub command: u8,
     /// The record or the stripe; 0 where the call is given none.
     pub given: u32,
-    /// The numbers that the call can give.
+    /// The numbers that the call can give, in the order of its tests.
     pub numbers: &'static [u32],
     /// The buffers that it is lent. Where it changes several, a stored case has them in this order.
     pub buffers: &'static [(Use, Buffer)],
@@ -45,13 +48,14 @@ pub struct Row {
 
 impl Call {
     /// How many calls there are.
-    pub const COUNT: usize = 8;
+    pub const COUNT: usize = 9;
 
     /// Each call once, given this record and this stripe.
     pub fn all(record: u32, stripe: u32) -> [Call; Call::COUNT] {
         [
             Call::Open,
             Call::Write { record },
+            Call::TakeBack,
             Call::Read { record },
             Call::Image,
             Call::Decode { stripe },
@@ -83,6 +87,8 @@ impl Call {
             Call::Open => row("open", 5, 0, &[0, 1, 2, 5], &[(Reads, RAW), (Stores, FULL), (Stores, LOG)], none),
             Call::Write { record } => row("write", 6, record, &[0, 1, 2, 4, 5, 11],
                 &[(Changes, RAW), (Changes, FULL), (Changes, LOG), (Reads, BLOCK)], none),
+            Call::TakeBack => row("take_back", 14, 0, &[0, 1, 2, 12, 8, 9, 10],
+                &[(Changes, RAW), (Reads, FULL), (Changes, LOG), (Stores, DOUBLE_SCRATCH)], none),
             Call::Read { record } => row("read", 7, record, &[0, 1, 2, 4], &[(Reads, RAW)], none),
             Call::Image => row("image", 8, 0, &[0, 1, 2], &[(Reads, FULL), (Reads, LOG), (Stores, IMAGE)], none),
             Call::Decode { stripe } => row("decode", 9, stripe, &[0, 1, 2, 3, 6, 7, 8, 9, 10],
@@ -115,7 +121,7 @@ impl Call {
 #[derive(Clone, Copy, Debug, Default, PartialEq)]
 pub struct Answer {
     pub number: u32,
-    /// The header that opening and writing give.
+    /// The header that opening, writing and taking back give.
     pub header: Option<Header>,
     /// The stripe at fault, where a call names one.
     pub stripe: Option<u32>,

@@ -56,6 +56,11 @@ impl Header {
         self.blocks_len() + 4 * self.records()
     }
 
+    /// The scratch of taking back: twice that of the calls on images.
+    pub fn double_scratch_len(self) -> usize {
+        2 * self.scratch_len()
+    }
+
     /// A pair for each stripe.
     pub fn counts_len(self) -> usize {
         2 * (self.k as usize + 1)
@@ -109,6 +114,16 @@ mod tests {
         let len = |k, s| Header { k, s, c: 0 }.image_len();
         assert_eq!(len(2, 1), 112);
         assert_eq!(len(10, 128), 2_112_504);
+    }
+
+    #[test]
+    fn scratch_lengths_of_the_document() {
+        let lengths = |k, s| {
+            let header = Header { k, s, c: 0 };
+            (header.scratch_len(), header.double_scratch_len())
+        };
+        assert_eq!(lengths(1, 1), (12, 24));
+        assert_eq!(lengths(10, 128), (136_192, 272_384));
     }
 
     #[test]

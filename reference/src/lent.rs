@@ -1,8 +1,8 @@
 //! What a caller of the vault lends: a header, and buffers of which each call is lent a part.
 use crate::header::Header;
 
-/// Buffers of words. By their numbers the stored cases name all but the counts, for which the command of an explanation lends. Decoding, recovery and the
-/// table of powers store to `Out`, and an explanation its origins.
+/// Buffers of words. By their numbers the stored cases name all but the last two: the counts, for which the command of an explanation lends, and the double
+/// scratch, for which that of a taking-back does. Decoding, recovery and the table of powers store to `Out`, and an explanation its origins.
 #[derive(Clone, Copy, Debug, PartialEq)]
 pub enum Words {
     Raw,
@@ -12,6 +12,7 @@ pub enum Words {
     Out,
     Scratch,
     Counts,
+    DoubleScratch,
 }
 
 /// Buffers of bytes, by number. `List` has the erasure list; a listing reads its input from it, and puts its text into `Image`.
@@ -34,14 +35,18 @@ pub const BLOCK: Buffer = Buffer::Words(Words::Block);
 pub const OUT: Buffer = Buffer::Words(Words::Out);
 pub const SCRATCH: Buffer = Buffer::Words(Words::Scratch);
 pub const COUNTS: Buffer = Buffer::Words(Words::Counts);
+pub const DOUBLE_SCRATCH: Buffer = Buffer::Words(Words::DoubleScratch);
 pub const IMAGE: Buffer = Buffer::Bytes(Bytes::Image);
 pub const LIST: Buffer = Buffer::Bytes(Bytes::List);
 
 impl Buffer {
-    pub const ALL: [Buffer; 9] = [RAW, FULL, LOG, BLOCK, OUT, SCRATCH, COUNTS, IMAGE, LIST];
+    #[rustfmt::skip]
+    pub const ALL: [Buffer; 10] = [RAW, FULL, LOG, BLOCK, OUT, SCRATCH, COUNTS, DOUBLE_SCRATCH, IMAGE, LIST];
 
+    /// The name in the document, where each call has one scratch.
     pub fn name(self) -> String {
         match self {
+            DOUBLE_SCRATCH => SCRATCH.name(),
             Buffer::Words(words) => format!("{words:?}").to_lowercase(),
             Buffer::Bytes(bytes) => format!("{bytes:?}").to_lowercase(),
         }
@@ -110,6 +115,7 @@ pub struct Lender {
     pub out: Lent<u32>,
     pub scratch: Lent<u32>,
     pub counts: Lent<u32>,
+    pub double_scratch: Lent<u32>,
     pub image: Lent<u8>,
     pub list: Lent<u8>,
 }
@@ -130,6 +136,7 @@ impl Lender {
             out: words(Words::Out),
             scratch: words(Words::Scratch),
             counts: words(Words::Counts),
+            double_scratch: words(Words::DoubleScratch),
             image: bytes(Bytes::Image),
             list: bytes(Bytes::List),
         }
@@ -144,6 +151,7 @@ impl Lender {
             Words::Out => &self.out,
             Words::Scratch => &self.scratch,
             Words::Counts => &self.counts,
+            Words::DoubleScratch => &self.double_scratch,
         }
     }
 
@@ -156,6 +164,7 @@ impl Lender {
             Words::Out => &mut self.out,
             Words::Scratch => &mut self.scratch,
             Words::Counts => &mut self.counts,
+            Words::DoubleScratch => &mut self.double_scratch,
         }
     }
 

@@ -20,4 +20,5 @@ pub mod refusal;
 pub mod script;
 pub mod stripe;
 pub mod stripe_cases;
+pub mod taking_back;
 pub mod writing;

@@ -8,7 +8,7 @@ use crate::calls::{Answer, Call, Use};
 use crate::header::Header;
 use crate::lent::{Buffer, Bytes, Lender, Lent, Words};
 use crate::listing::list;
-use crate::script::{Command, Number, BYTES, COUNT, WORDS};
+use crate::script::{Command, Number, BYTES, UNSET, WORDS};
 use std::fmt::Write;
 
 pub struct Machine {
@@ -106,6 +106,7 @@ impl Machine {
             Command::Garble { from, count, seed } => self.garble(from, count, seed),
             Command::Call(call) => self.call(call, 0),
             Command::Explain(counts) => self.call(Call::Explain, counts),
+            Command::TakeBack(scratch) => self.call(Call::TakeBack, scratch),
             Command::List => self.list(),
         }
     }
@@ -138,10 +139,15 @@ impl Machine {
         }
     }
 
-    /// Makes a call, with so many words lent for counts, and prints what it answers and leaves.
-    fn call(&mut self, call: Call, counts: u32) {
-        self.lender.counts.lend(counts as usize);
-        self.lender.counts.part_mut().fill(COUNT);
+    /// Makes a call, with so many words lent for the counts or for the double scratch, and prints what it answers and leaves.
+    fn call(&mut self, call: Call, words: u32) {
+        let buffer = match call {
+            Call::TakeBack => Words::DoubleScratch,
+            _ => Words::Counts,
+        };
+        let lent = self.lender.words_mut(buffer);
+        lent.lend(words as usize);
+        lent.part_mut().fill(UNSET);
         let answer = match call {
             Call::Write { record } if self.earlier => {
                 by_reference::earlier_write(&mut self.lender, record)

@@ -106,10 +106,20 @@ pub(crate) fn blocks(
     gaps: &[Gap],
     stripe: u32,
 ) -> Result<Vec<u64>, Refusal> {
+    let count = (2 << stripe) * header.width();
+    let words = words(image, header.stripe_start(stripe), count);
+    records(header, stripe, &erased(header, stripe, gaps), &words)
+}
+
+/// The blocks of a stripe of these words, of which positions are erased; tests 7 to 10.
+pub(crate) fn records(
+    header: Header,
+    stripe: u32,
+    erased: &[bool],
+    words: &[u64],
+) -> Result<Vec<u64>, Refusal> {
     let width = header.width();
-    let words = words(image, header.stripe_start(stripe), (2 << stripe) * width);
-    let erased = erased(header, stripe, gaps);
-    let blocks = decode(header.k, header.first(stripe), width, &erased, &words)?;
+    let blocks = decode(header.k, header.first(stripe), width, erased, words)?;
     let is_record = |(place, block): (usize, &[u64])| {
         let number = block[0] as usize;
         number < header.records()

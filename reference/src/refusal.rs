@@ -13,9 +13,10 @@ pub enum Refusal {
     Inconsistent,
     NotARecord,
     Blank,
+    RoundStart,
 }
 
-/// What holds, or the refusal. Calls make their tests in rising number.
+/// What holds, or the refusal. Calls make their tests in rising number, but for 12, which comes before 8 to 10.
 pub fn test(holds: bool, otherwise: Refusal) -> Result<(), Refusal> {
     if holds {
         Ok(())

@@ -5,11 +5,11 @@
 use crate::calls::Call;
 use crate::lent::{Bytes, Words};
 
-/// How many words a buffer of words has, and how many bytes a buffer of bytes. Of the words for counts each explanation finds the first as `COUNT`: what no
-/// count is.
-pub const WORDS: [usize; 7] = [4096, 8192, 8192, 256, 4096, 8192, 32];
+/// How many words a buffer of words has, and how many bytes a buffer of bytes. The words that a command lends for the counts, or for the double scratch, are
+/// `UNSET` each time: what no count is, and no scratch afterwards.
+pub const WORDS: [usize; 8] = [4096, 8192, 8192, 256, 4096, 8192, 32, 16384];
 pub const BYTES: [usize; 2] = [65536, 16384];
-pub const COUNT: u32 = 99999;
+pub const UNSET: u32 = 99999;
 
 /// What a `Set` sets.
 #[derive(Clone, Copy, PartialEq)]
@@ -56,6 +56,8 @@ pub enum Command {
     Call(Call),
     /// The call of that name, with so many words lent for its counts; `Call` lends none.
     Explain(u32),
+    /// The same with a double scratch.
+    TakeBack(u32),
     List,
 }
 
@@ -73,6 +75,7 @@ impl Command {
             Command::Garble { from, count, seed } => (4, [from, count, seed]),
             Command::Call(call) => (call.row().command, [call.row().given, 0, 0]),
             Command::Explain(counts) => (Call::Explain.row().command, [counts, 0, 0]),
+            Command::TakeBack(scratch) => (Call::TakeBack.row().command, [scratch, 0, 0]),
             Command::List => (11, [0; 3]),
         };
         let mut bytes = vec![kind];

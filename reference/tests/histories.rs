@@ -1,5 +1,5 @@
-//! Recovery after any history of writes and earlier writes gives the records of the model (docs/FORMAT.md), whatever half of each stripe is lost; and the
-//! explanation is the true one, whatever is lost.
+//! Recovery after any history of writes, earlier writes and takings-back gives the records of the model (docs/FORMAT.md), whatever half of each stripe is
+//! lost; and the explanation is the true one, whatever is lost.
 use random::Random;
 use reference::explanation::explain;
 use reference::header::Header;
@@ -7,6 +7,7 @@ use reference::image::image;
 use reference::opening::open;
 use reference::reading::read;
 use reference::recovery::{decode_stripe, recover};
+use reference::taking_back::take_back;
 use reference::writing::{earlier_write, write};
 
 /// Loses so many positions of each stripe: garbage in the image, and the list.
@@ -122,6 +123,8 @@ struct History {
     last: Vec<Option<u32>>,
     /// The blocks of the round, in order of time.
     blocks: Vec<u32>,
+    /// The model's records before each of them.
+    before: Vec<Vec<u32>>,
 }
 
 fn data(random: &mut Random, count: usize) -> Vec<u32> {
@@ -142,6 +145,7 @@ impl History {
             log,
             last: vec![None; header.records()],
             blocks: Vec::new(),
+            before: Vec::new(),
         }
     }
 
@@ -157,6 +161,7 @@ impl History {
             assert_eq!(after, (&before.0, &before.1, &before.2));
             return;
         }
+        self.before.push(self.book.clone());
         let start = record as usize * block.len();
         self.book[start..start + block.len()].copy_from_slice(block);
         self.last[record as usize] = Some(self.header.c);
@@ -168,8 +173,44 @@ impl History {
         if c == 0 {
             self.last.fill(None);
             self.blocks.clear();
+            self.before.clear();
         }
         assert_eq!(read(self.header, &self.raw, record), (0, block));
+    }
+
+    /// A taking-back with a scratch of so many words more than it has to have: 2 if they are any, 12 at a round's start.
+    fn take_back(&mut self, more: usize) {
+        let mut scratch = vec![9; self.header.double_scratch_len() + more];
+        let (raw, full, log) = (&mut self.raw, &self.full, &mut self.log);
+        let answer = take_back(self.header, raw, full, log, &mut scratch);
+        if more > 0 {
+            assert_eq!(answer, (2, self.header));
+            return;
+        }
+        let Some(before) = self.before.pop() else {
+            assert_eq!(answer, (12, self.header));
+            return;
+        };
+        self.book = before;
+        self.header.c -= 1;
+        assert_eq!(answer, (0, self.header));
+        let width = self.header.width();
+        self.blocks.truncate(width * self.before.len());
+        self.last.fill(None);
+        for (write, block) in (0..).zip(self.blocks.chunks(width)) {
+            self.last[block[0] as usize] = Some(write);
+        }
+        assert!(scratch.iter().all(|&x| x == 0));
+        assert_eq!(self.raw, self.book);
+    }
+
+    /// A taking-back, one that is refused, or a write.
+    fn any_event(&mut self, random: &mut Random) {
+        match random.below(16) {
+            0..4 => self.take_back(0),
+            4 => self.take_back(1),
+            _ => self.any_write(random),
+        }
     }
 
     /// A write or an earlier write of a block that is blank or not, to any record.
@@ -207,15 +248,43 @@ impl History {
     }
 }
 
-/// Opens, writes, and inspects after each `every`th write.
-fn run(random: &mut Random, k: u32, s: u32, writes: usize, every: usize) {
+/// Opens, and inspects after each `every`th event.
+fn run(random: &mut Random, k: u32, s: u32, events: usize, every: usize) {
     let count = (s as usize) << k;
     let mut history = History::open(k, s, data(random, count));
-    for i in 0..=writes {
+    for i in 0..=events {
         if i % every == 0 {
             history.inspect(random);
         }
-        history.any_write(random);
+        history.any_event(random);
+    }
+}
+
+/// Rounds of which all writes but the last are made, and are taken back to the start: the vault and the model are as they were.
+#[test]
+fn rounds_are_taken_back() {
+    let mut random = Random::new(9);
+    for (k, s) in [(1, 1), (2, 3), (3, 1), (4, 2)] {
+        let count = (s as usize) << k;
+        let mut history = History::open(k, s, data(&mut random, count));
+        for _ in 0..3 {
+            let start = (history.full.clone(), history.book.clone());
+            while history.before.len() + 1 < 1 << k {
+                history.any_write(&mut random);
+            }
+            while history.header.c > 0 {
+                history.inspect(&mut random);
+                history.take_back(0);
+            }
+            history.take_back(0);
+            history.inspect(&mut random);
+            assert_eq!((&history.full, &history.raw), (&start.0, &start.1));
+            assert!(history.log.iter().all(|&x| x == 0));
+            while history.before.len() + 1 < 1 << k {
+                history.any_write(&mut random);
+            }
+            history.write(true, 0, &vec![1; s as usize]);
+        }
     }
 }
 

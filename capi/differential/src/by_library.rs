@@ -8,7 +8,7 @@ use reference::lent::Lender;
 use std::ptr;
 use vault_sys::{
     vault_decode, vault_explain, vault_image, vault_open, vault_powers, vault_read, vault_recover,
-    vault_write, VAULT_NO_SHELF,
+    vault_take_back, vault_write, VAULT_NO_SHELF,
 };
 
 /// A slice's pointer; of an empty one the null pointer, as C has it.
@@ -40,6 +40,7 @@ pub fn call(lender: &mut Lender, call: Call) -> Answer {
     match call {
         Call::Open => open(lender),
         Call::Write { record } => write(lender, record),
+        Call::TakeBack => take_back(lender),
         Call::Read { record } => read(lender, record),
         Call::Image => image(lender),
         Call::Decode { stripe } => decode(lender, stripe),
@@ -89,6 +90,27 @@ fn write(lender: &mut Lender, record: u32) -> Answer {
             first_mut(log), log.len(),
             record,
             first(block), block.len(),
+        )
+    };
+    Answer {
+        header: Some(lender.header),
+        ..Answer::of(number)
+    }
+}
+
+fn take_back(lender: &mut Lender) -> Answer {
+    let Header { k, s, c } = &mut lender.header;
+    let (raw, full) = (lender.raw.part_mut(), lender.full.part());
+    let (log, scratch) = (lender.log.part_mut(), lender.double_scratch.part_mut());
+    // SAFETY: as said at the head of this file.
+    #[rustfmt::skip]
+    let number = unsafe {
+        vault_take_back(
+            *k, *s, c,
+            first_mut(raw), raw.len(),
+            first(full), full.len(),
+            first_mut(log), log.len(),
+            first_mut(scratch), scratch.len(),
         )
     };
     Answer {

@@ -116,6 +116,9 @@ fn any(session: &mut Session, call: Call) -> Fault {
     if call.gives(11) {
         faults.push(Fault::Blank);
     }
+    if call.gives(12) {
+        faults.push(Fault::C(0));
+    }
     if call.gives(6) {
         let level = random.below(u64::from(k)) as u32;
         let stripe = *random.one(&[level, k + 1, k + 2, u32::MAX]);

@@ -4,7 +4,7 @@ use crate::origins::origins;
 use crate::writes::{block, earlier_block};
 use random::Random;
 use reference::header::Header;
-use reference::{explanation, image, opening, recovery, writing};
+use reference::{explanation, image, opening, recovery, taking_back, writing};
 use std::path::PathBuf;
 use std::{env, fs, process};
 use vault_library as library;
@@ -38,12 +38,14 @@ impl Drop for Folder {
     }
 }
 
-/// What an implementation writes: records of zeros are opened, and then written to.
+/// What an implementation writes: records of zeros are opened, and then written to; and at the end some writes are taken back.
 struct History {
     k: u32,
     s: u32,
     /// Record numbers and their blocks.
     writes: Vec<(u32, Vec<u32>)>,
+    /// How many of the last of them are taken back.
+    taken_back: usize,
 }
 
 /// Makes histories by both, that of reference/ as an earlier vault wrote it; has each store its image and an erasure list, and the other recover from these
@@ -70,20 +72,32 @@ type Drawn = fn(&mut Random, usize) -> Vec<u32>;
 impl History {
     /// Writes of blocks that are drawn so.
     fn drawn(random: &mut Random, k: u32, s: u32, block: Drawn) -> History {
-        let writes = (0..random.below(3 << k))
+        let writes: Vec<(u32, Vec<u32>)> = (0..random.below(3 << k))
             .map(|_| {
                 let record = random.below(1 << k) as u32;
                 (record, block(random, s as usize))
             })
             .collect();
-        History { k, s, writes }
+        let of_the_round = writes.len() % (1 << k);
+        let taken_back = random.index(of_the_round.min(8) + 1);
+        History {
+            k,
+            s,
+            writes,
+            taken_back,
+        }
     }
 
-    /// The records that the writes leave.
+    /// The writes that stay.
+    fn kept(&self) -> &[(u32, Vec<u32>)] {
+        &self.writes[..self.writes.len() - self.taken_back]
+    }
+
+    /// The records that the writes and the takings-back leave.
     fn book(&self) -> Vec<u32> {
         let s = self.s as usize;
         let mut records = vec![0; s << self.k];
-        for (record, block) in &self.writes {
+        for (record, block) in self.kept() {
             let start = *record as usize * s;
             records[start..start + s].copy_from_slice(block);
         }
@@ -92,7 +106,7 @@ impl History {
 
     /// The counts and the origins that explain a recovery, where the last c writes are those of the round.
     fn explained(&self, header: Header, marks: &Marks) -> (Vec<u32>, Vec<u32>) {
-        let round = &self.writes[self.writes.len() - header.c as usize..];
+        let round = &self.kept()[self.kept().len() - header.c as usize..];
         let written: Vec<u32> = round.iter().map(|write| write.0).collect();
         (erasures::counts(header, marks), origins(header, &written))
     }
@@ -129,12 +143,15 @@ impl History {
         Ok(())
     }
 
-    /// The library's vault after the writes.
+    /// The library's vault afterwards.
     fn library_vault(&self) -> Result<library::Vault, library::Refusal> {
         let zeros = vec![0; library::sizes::raw(self.k, self.s)];
         let mut vault = library::Vault::open(self.k, self.s, zeros)?;
         for (record, block) in &self.writes {
             vault.write(*record, block)?;
+        }
+        for _ in 0..self.taken_back {
+            vault.take_back()?;
         }
         Ok(vault)
     }
@@ -187,6 +204,10 @@ impl History {
         for (record, block) in &self.writes {
             (_, header) =
                 writing::earlier_write(header, &mut raw, &mut full, &mut log, *record, block);
+        }
+        let mut scratch = vec![1; header.double_scratch_len()];
+        for _ in 0..self.taken_back {
+            (_, header) = taking_back::take_back(header, &mut raw, &full, &mut log, &mut scratch);
         }
         let mut image = vec![0; header.image_len()];
         image::image(header, &full, &log, &mut image);

@@ -20,6 +20,7 @@ pub fn guarded(header: Header, guard: usize) -> Lender {
         (Words::Block, header.data()),
         (Words::Scratch, header.scratch_len()),
         (Words::Counts, header.counts_len()),
+        (Words::DoubleScratch, header.double_scratch_len()),
     ] {
         lender.words_mut(words).resize(length, 0);
     }

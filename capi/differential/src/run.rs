@@ -38,7 +38,13 @@ fn fixed(small: bool) -> Vec<Scenario> {
     }
     let most = if small { 3 } else { 10 };
     for k in (1..=most).rev() {
-        for kind in [Kind::Losses, Kind::Refusals, Kind::Rounds, Kind::Blocks] {
+        for kind in [
+            Kind::Losses,
+            Kind::TakingBack,
+            Kind::Refusals,
+            Kind::Rounds,
+            Kind::Blocks,
+        ] {
             let slow = k == 10 && kind == Kind::Losses || k > 8 && kind == Kind::Blocks;
             if !slow {
                 list.push(scenario(kind, k, 1 + (k + kind as u32) % 4));
@@ -66,10 +72,11 @@ fn drawn(random: &mut Random, small: bool) -> Scenario {
         _ if k <= 4 => 1 + random.below(128),
         _ => 1,
     };
-    let kind = match random.below(10) {
+    let kind = match random.below(12) {
         0..6 => Kind::History,
         6 | 7 => Kind::Foreign,
-        _ => Kind::Blocks,
+        8 | 9 => Kind::Blocks,
+        _ => Kind::TakingBack,
     };
     Scenario {
         kind,

@@ -134,10 +134,11 @@ impl Session {
     }
 }
 
-/// What a call that decodes (7) cost the reference by elimination: of its stripe (6), or of all stripes, of which the full one is first.
+/// What a call that decodes (9) cost the reference by elimination: of its stripe (6), or of all stripes, of which the full one is first. Taking back may have
+/// ended at a lower stripe.
 fn cost(header: Header, call: Call, answer: Answer) -> i64 {
     let eliminated = match answer.number {
-        0 | 9 | 10 => call.gives(7),
+        0 | 9 | 10 => call.gives(9),
         7 | 8 => answer.stripe.is_some_and(|stripe| stripe != header.k),
         _ => false,
     };

@@ -4,6 +4,9 @@ use std::fmt::{self, Display, Formatter};
 
 const CALLS: usize = Call::COUNT;
 
+/// The numbers of the table of refusals, from 0.
+const NUMBERS: usize = 13;
+
 /// The calls, each with any numbers, in the order of the counts.
 fn calls() -> [Call; CALLS] {
     Call::all(0, 0)
@@ -12,7 +15,7 @@ fn calls() -> [Call; CALLS] {
 #[derive(Clone, Default)]
 pub struct Tally {
     /// How often each call gave each number.
-    numbers: [[u64; 12]; CALLS],
+    numbers: [[u64; NUMBERS]; CALLS],
     /// For each k, how often each call was taken.
     taken: [[u64; CALLS]; 11],
     /// For each number, how often each call named a level.
@@ -114,14 +117,14 @@ impl Tally {
 
 impl Display for Tally {
     fn fmt(&self, f: &mut Formatter) -> fmt::Result {
-        write!(f, "{:8}", "number")?;
-        for number in 0..=11 {
+        write!(f, "{:10}", "number")?;
+        for number in 0..NUMBERS {
             write!(f, "{number:>8}")?;
         }
         writeln!(f)?;
         let names = calls().map(Call::name);
         for (name, row) in names.iter().zip(&self.numbers) {
-            write!(f, "{name:8}")?;
+            write!(f, "{name:10}")?;
             for count in row {
                 write!(f, "{count:>8}")?;
             }
@@ -139,13 +142,13 @@ fn by_k<const N: usize>(
     names: &[&str; N],
     counts: &[[u64; N]; 11],
 ) -> fmt::Result {
-    write!(f, "{title:8}{:>8}", "")?;
+    write!(f, "{title:10}{:>8}", "")?;
     for k in 1..=10 {
         write!(f, "{k:>8}")?;
     }
     writeln!(f)?;
     for (i, name) in names.iter().enumerate() {
-        write!(f, "{name:8}{:>8}", "")?;
+        write!(f, "{name:10}{:>8}", "")?;
         for row in &counts[1..] {
             write!(f, "{:>8}", row[i])?;
         }

@@ -53,14 +53,15 @@ fn record(random: &mut Random, header: Header) -> u32 {
     }
 }
 
-/// A write that is taken.
-fn write(session: &mut Session) -> Run<()> {
+/// A write that is taken. Gives the record.
+fn write(session: &mut Session) -> Run<u32> {
     let header = session.header();
     let block = block(&mut session.random, header.data());
     let record = record(&mut session.random, header);
     session.set(|lender| lender.block.set(&block));
     let answer = session.call(Call::Write { record })?;
-    session.expect(answer.number == 0, "a write was refused")
+    session.expect(answer.number == 0, "a write was refused")?;
+    Ok(record)
 }
 
 /// A write of a blank block: it is refused and changes nothing, and made earlier it would have been taken.
@@ -76,8 +77,8 @@ pub fn blank_write(session: &mut Session) -> Run<()> {
     session.expect(*session.lent() == before, "a blank block changed something")
 }
 
-/// An earlier write of a block. The record is the block afterwards, and the count is one more.
-pub fn earlier_write(session: &mut Session, block: &[u32]) -> Run<()> {
+/// An earlier write of a block. The record, which it gives, is the block afterwards, and the count is one more.
+pub fn earlier_write(session: &mut Session, block: &[u32]) -> Run<u32> {
     let header = session.header();
     let record = record(&mut session.random, header);
     session.set(|lender| lender.block.set(block));
@@ -86,11 +87,12 @@ pub fn earlier_write(session: &mut Session, block: &[u32]) -> Run<()> {
     let start = record as usize * header.data();
     let written = &session.lent().raw.part()[start..start + header.data()];
     let holds = number == 0 && session.header().c == count && written == block;
-    session.expect(holds, "an earlier write did not write")
+    session.expect(holds, "an earlier write did not write")?;
+    Ok(record)
 }
 
-/// The next write of a history, of today or an earlier one; at times a blank block is refused before it.
-pub fn next_write(session: &mut Session) -> Run<()> {
+/// The next write of a history, of today or an earlier one; at times a blank block is refused before it. Gives the record.
+pub fn next_write(session: &mut Session) -> Run<u32> {
     if session.random.below(12) == 0 {
         blank_write(session)?;
     }

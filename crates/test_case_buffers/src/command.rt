@@ -112,6 +112,7 @@ pub enum Call {
     List,
     Explain { counts: u32 },
     Powers,
+    TakeBack { scratch: u32 },
 }
 
 // What a test does.
@@ -153,6 +154,7 @@ impl TryFrom<(u8, [u32; 3])> for Command {
             11 => Command::Call(Call::List),
             12 => Command::Call(Call::Explain { counts: a }),
             13 => Command::Call(Call::Powers),
+            14 => Command::Call(Call::TakeBack { scratch: a }),
             _ => return Err(Unknown),
         })
     }

@@ -66,6 +66,25 @@ impl<P: Print> Test<'_, P> {
         output::words(self.out, " log", self.state.log.part());
     }
 
+    // So many words are lent to it for its scratch, which hold what no scratch does afterwards.
+    pub(crate) fn take_back(&mut self, count: usize) {
+        let state = &mut self.state;
+        let before = state.header;
+        let mut all = [99999u32; 16384];
+        let scratch = &mut all[..count.min(16384)];
+        let taken_back = calls::take_back(
+            before,
+            state.raw.part_mut(),
+            state.full.part(),
+            state.log.part_mut(),
+            scratch,
+        );
+        self.header("take_back", taken_back, before);
+        output::words(self.out, " raw", self.state.raw.part());
+        output::words(self.out, " log", self.state.log.part());
+        output::words(self.out, " scratch", scratch);
+    }
+
     pub(crate) fn read(&self, record: u32) {
         let raw = self.state.raw.part();
         let record = calls::read(self.state.header, raw, record);

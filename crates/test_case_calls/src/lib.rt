@@ -28,6 +28,7 @@ impl<P: Print> Test<'_, P> {
             Call::List => self.list(),
             Call::Explain { counts } => self.explain(counts as usize),
             Call::Powers => self.powers(),
+            Call::TakeBack { scratch } => self.take_back(scratch as usize),
         }
     }
 }

@@ -12,11 +12,12 @@ use crate::writing::earlier_write;
 use random::Random;
 
 /// A vault of before number 11.
-struct Vault {
-    header: Header,
-    raw: Vec<u32>,
-    full: Vec<u32>,
-    log: Vec<u32>,
+#[derive(Clone)]
+pub struct Vault {
+    pub header: Header,
+    pub raw: Vec<u32>,
+    pub full: Vec<u32>,
+    pub log: Vec<u32>,
 }
 
 /// A record of so many data words, which are all 0 one time in two.
@@ -39,7 +40,7 @@ impl Vault {
     }
 
     /// The vault that the machine's buffers and header are.
-    fn of(script: &Script) -> Vault {
+    pub fn of(script: &Script) -> Vault {
         let [raw, full, log] =
             [Words::Raw, Words::Full, Words::Log].map(|buffer| script.machine.words(buffer));
         Vault {
@@ -60,7 +61,7 @@ impl Vault {
         self.header = header;
     }
 
-    fn any_write(&mut self, random: &mut Random) {
+    pub fn any_write(&mut self, random: &mut Random) {
         let at = random.index(self.header.records()) as u32;
         let block = record(random, self.header.data());
         self.write(at, &block);
@@ -75,7 +76,7 @@ impl Vault {
     }
 
     /// Puts what differs in the machine's buffers and header.
-    fn put(&self, script: &mut Script) {
+    pub fn put(&self, script: &mut Script) {
         for (buffer, words) in [
             (Words::Raw, &self.raw),
             (Words::Full, &self.full),

@@ -1,4 +1,4 @@
-//! Calls with one fault, and with two: the smallest number that applies must be given.
+//! Calls with one fault, and with two: the number of the first test that applies must be given.
 use super::Script;
 use crate::lent::{Bytes, Words};
 use crate::script::{Command, Number};
@@ -8,7 +8,7 @@ use crate::script::{Command, Number};
 pub enum Fault {
     Set(Number, u32),
     Put(Words, u32, u32),
-    /// The record or stripe that the call is given, or the words that are lent for counts.
+    /// The record or stripe that the call is given, or the words that are lent for counts or a double scratch.
     Given(u32),
     /// The erasure list's bytes.
     List(Vec<u8>),
@@ -48,10 +48,16 @@ pub fn add(script: &mut Script, call: &Accepted) {
         run(script, call, *number, &[fault]);
         for (other_number, other) in &call.faults[i + 1..] {
             if other_number != number && !fault.clashes(other) {
-                run(script, call, *number.min(other_number), &[other, fault]);
+                let first = [*number, *other_number].into_iter().min_by_key(turn);
+                run(script, call, first.expect("two"), &[other, fault]);
             }
         }
     }
+}
+
+/// Tests are made in rising number, but those of a stripe come last.
+fn turn(number: &u32) -> (bool, u32) {
+    ((7..=10).contains(number), *number)
 }
 
 fn run(script: &mut Script, call: &Accepted, number: u32, faults: &[&Fault]) {
@@ -71,7 +77,7 @@ fn run(script: &mut Script, call: &Accepted, number: u32, faults: &[&Fault]) {
     script.push((call.command)(given));
     assert_eq!(
         script.machine.answered, number,
-        "the smallest number is given"
+        "the first test that applies is given"
     );
     for command in undo.into_iter().rev() {
         script.push(command);

@@ -9,6 +9,7 @@ mod losses;
 mod openings;
 mod recoveries;
 mod tables;
+mod taking_back;
 mod writes;
 
 use crate::calls::Call;
@@ -151,6 +152,11 @@ impl Script {
         self.push(Command::Explain(counts as u32));
     }
 
+    fn take_back(&mut self) {
+        let scratch = self.machine.header().double_scratch_len();
+        self.push(Command::TakeBack(scratch as u32));
+    }
+
     /// Lends the output of a call on an image: it and the scratch hold garbage before the call.
     fn lend_garbage(&mut self, call: Call) {
         let count = (call.row().out)(self.machine.header());
@@ -183,6 +189,7 @@ fn script() -> Script {
     blanks::add(&mut script);
     earlier::add(&mut script);
     listings::add_blanks(&mut script);
+    taking_back::add(&mut script);
     script
 }
 

@@ -10,14 +10,19 @@ use reference::by_reference;
 use reference::calls::Call;
 use reference::lent::Lender;
 
-/// Writes a round but for its last write, loses half of each stripe, recovers and explains: by the library alone, but for the earlier writes.
+/// Writes a round but for its last write, loses half of each stripe, recovers and explains, and takes back some writes: by the library alone, but for the
+/// earlier writes.
 pub fn alone(session: &mut Session) -> Run<()> {
     let mut lender = guarded(session.header(), 0);
     let mut book = data(&mut session.random, lender.raw.part().len());
     lender.raw.set(&book);
     taken(session, &mut lender, Call::Open)?;
     let mut written = Vec::new();
-    for _ in 1..lender.header.records() {
+    let mut before = Vec::new();
+    for left in (1..lender.header.records()).rev() {
+        if left <= TAKEN_BACK {
+            before.push(lender.clone());
+        }
         written.push(write(session, &mut lender, &mut book)?);
     }
     taken(session, &mut lender, Call::Image)?;
@@ -26,7 +31,24 @@ pub fn alone(session: &mut Session) -> Run<()> {
     let list = erasures::list(&mut session.random, header, &marks);
     lender.list.set(&list);
     read_back(session, &mut lender, &book)?;
-    explained(session, &mut lender, &marks, &written)
+    explained(session, &mut lender, &marks, &written)?;
+    before
+        .iter()
+        .rev()
+        .try_for_each(|before| taken_back(session, &mut lender, before))
+}
+
+/// How many writes are taken back: the last of them alone on its level, and one from a level that is split.
+const TAKEN_BACK: usize = 3;
+
+/// Takes back a write: header and buffers are as they were before it.
+fn taken_back(session: &Session, lender: &mut Lender, before: &Lender) -> Run<()> {
+    taken(session, lender, Call::TakeBack)?;
+    let same = lender.header == before.header
+        && lender.raw == before.raw
+        && lender.full == before.full
+        && lender.log == before.log;
+    session.expect(same, "the library alone did not take back a write")
 }
 
 /// Makes a call, which has to be taken.

@@ -38,11 +38,14 @@ fn lend_words(session: &mut Session) {
 pub fn foreign(session: &mut Session) -> Run<()> {
     lend_words(session);
     for _ in 0..40 + session.header().records() {
-        match session.random.below(10) {
-            0..6 => next_write(session)?,
+        match session.random.below(12) {
+            0..6 => {
+                next_write(session)?;
+            }
             6 => read(session)?,
             7 => any_refusal(session)?,
             8 => inspect(session)?,
+            9 | 10 => session.call_allowed(Call::TakeBack)?,
             _ => {
                 // An opening over the records, which are perhaps no data words.
                 session.call_changed(Call::Open, |_| ())?;

@@ -1,6 +1,7 @@
-//! Histories: writes of several rounds, alone or mixed with everything else.
+//! Histories: writes of several rounds, alone or mixed with everything else, takings-back among it.
 use super::refusals::any_refusal;
 use super::steps::{inspect, open, read, recover_after};
+use super::taking_back::take_back;
 use crate::erasures::Loss;
 use crate::session::{Run, Session};
 use crate::writes::next_write;
@@ -34,7 +35,10 @@ pub fn history(session: &mut Session) -> Run<()> {
 fn mixed(session: &mut Session, steps: usize) -> Run<()> {
     for _ in 0..steps {
         match session.random.below(100) {
-            0..60 => next_write(session)?,
+            0..52 => {
+                next_write(session)?;
+            }
+            52..60 if session.is_allowed() => take_back(session)?,
             60..66 => read(session)?,
             66..72 if session.is_allowed() => {
                 let loss = *session.random.one(&Loss::ALL);

@@ -7,6 +7,7 @@ mod histories;
 mod losses;
 mod refusals;
 mod steps;
+mod taking_back;
 
 use crate::session::{Run, Session, Settings};
 use crate::tally::Tally;
@@ -21,12 +22,14 @@ pub enum Kind {
     Losses,
     /// Writes of several rounds and nothing else.
     Rounds,
-    /// Writes of several rounds, readings, images, losses and refusals, mixed.
+    /// Writes of several rounds, takings-back, readings, images, losses and refusals, mixed.
     History,
     /// Buffers that no opening made.
     Foreign,
     /// Images of blocks that no history wrote, some of which are no records.
     Blocks,
+    /// Rounds that are taken back and written anew, and buffers of writes that no history made, with faults on some stripes.
+    TakingBack,
     /// Recovery at sizes where the reference is too slow: the library alone, against the records written.
     Alone,
 }
@@ -52,6 +55,7 @@ impl Scenario {
             Kind::History => histories::history(&mut session)?,
             Kind::Foreign => foreign::foreign(&mut session)?,
             Kind::Blocks => blocks::blocks(&mut session)?,
+            Kind::TakingBack => taking_back::taking_back(&mut session)?,
             Kind::Alone => alone::alone(&mut session)?,
         }
         Ok(session.tally)

@@ -33,6 +33,9 @@ pub fn refusals(session: &mut Session) -> Run<()> {
         if call.gives(11) {
             each_number(session, call, &[Fault::Blank])?;
         }
+        if call.gives(12) {
+            each_number(session, call, &[Fault::C(0)])?;
+        }
     }
     powers(session)?;
     some_refusals(session)
@@ -92,6 +95,7 @@ fn faults_for(session: &mut Session, call: Call, number: u32) -> Vec<Fault> {
             .to_vec(),
         6 => no_stripes(header),
         11 => vec![Fault::Blank],
+        12 => vec![Fault::C(0)],
         _ => Vec::new(),
     }
 }

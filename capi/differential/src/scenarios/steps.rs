@@ -44,8 +44,8 @@ pub fn recover_allowed(session: &mut Session) -> Run<()> {
     Ok(())
 }
 
-/// Recovers the records of buffers that a history left, after a loss of that kind: they are the raw copy, if enough survives.
-pub fn recover_after(session: &mut Session, loss: Loss) -> Run<()> {
+/// Recovers the records of buffers that a history left, after a loss of that kind: they are the raw copy, if enough survives. Gives whether it does.
+pub fn recover_after(session: &mut Session, loss: Loss) -> Run<bool> {
     let header = session.header();
     session.call(Call::Image)?;
     let marks = loss.marks(&mut session.random, header);
@@ -54,14 +54,15 @@ pub fn recover_after(session: &mut Session, loss: Loss) -> Run<()> {
     let counted = session.lent().counts.part() == erasures::counts(header, &marks);
     session.expect(counted, "the counts are not those of the loss")?;
     if !erasures::enough(header, &marks) {
-        return session.expect(answer.number == 7, "too few were not refused");
+        session.expect(answer.number == 7, "too few were not refused")?;
+        return Ok(false);
     }
     let holds = answer.number == 0 && records == session.lent().raw.part();
     session.expect(holds, "the records are not what was written")?;
     if has_blank_write(session.lent()) {
         session.tally.count_recovered(header.k);
     }
-    Ok(())
+    Ok(true)
 }
 
 /// Whether a record is zeros that a write of the round left: by its origin, after an explanation that was taken.

@@ -2,6 +2,7 @@
 use differential::both::Both;
 use reference::calls::{Answer, Call};
 use reference::header::Header as ReferenceHeader;
+use reference::lent::{Lender, Words};
 use reference::powers::ENTRIES;
 use vault_library::Header;
 
@@ -14,7 +15,13 @@ pub fn reference_header(header: Header) -> ReferenceHeader {
 /// The elements of a guard.
 const GUARD: usize = 3;
 
+/// Whether all are 0.
+fn zeros(words: &[u32]) -> bool {
+    words.iter().all(|&x| x == 0)
+}
+
 /// A vault of the library's, and one of reference/ that is given the same: they have the same header and buffers after each call.
+#[derive(Clone)]
 pub struct Vault {
     both: Both,
 }
@@ -53,6 +60,35 @@ impl Vault {
     pub fn earlier_write(&mut self, record: u32, block: &[u32]) -> u32 {
         self.both.set(|lender| lender.block.set(block));
         self.both.earlier_write(record)
+    }
+
+    /// A taking-back with a scratch of so many words, which both accept or refuse. Gives its number, with the buffers afterwards as section 10 has them.
+    pub fn take_back(&mut self, scratch: usize) -> u32 {
+        let soil = |both: &mut Both| both.soil(Call::TakeBack, BEFORE);
+        let resize = |lender: &mut Lender| lender.double_scratch.resize(scratch, 0);
+        self.both.set(resize);
+        soil(&mut self.both);
+        let before = self.both.clone();
+        let number = made(&mut self.both, Call::TakeBack).number;
+        if [0, 8, 9, 10].contains(&number) {
+            assert!(zeros(self.both.lent().double_scratch.part()));
+            soil(&mut self.both);
+        }
+        if number != 0 {
+            assert!(self.both.lent() == before.lent());
+        }
+        number
+    }
+
+    /// Puts another word into a buffer of both.
+    pub fn set_word(&mut self, buffer: Words, at: usize, word: u32) {
+        let set = |lender: &mut Lender| lender.words_mut(buffer).part_mut()[at] = word;
+        self.both.set(set);
+    }
+
+    /// Puts another k into the header of both.
+    pub fn set_k(&mut self, k: u32) {
+        self.both.set(|lender| lender.header.k = k);
     }
 
     /// Puts another c into the header of both.
@@ -100,7 +136,6 @@ impl Left {
         let Answer { number, stripe, .. } = made(&mut both, call);
         let lent = both.lent();
         let unchanged = lent == before.lent();
-        let zeros = |words: &[u32]| words.iter().all(|&x| x == 0);
         assert_eq!(unchanged, (1..=6).contains(&number));
         if call.gives(7) && !unchanged {
             assert!(zeros(lent.scratch.part()));

@@ -41,6 +41,15 @@ impl Story {
             then,
         }
     }
+
+    /// The vault that the calls make.
+    pub fn vault(&self) -> Vault {
+        let mut vault = Vault::open(self.k, self.s, self.opened.clone());
+        for (record, block) in &self.writes {
+            vault.write(*record, block);
+        }
+        vault
+    }
 }
 
 /// Puts a block in the place of a record.
@@ -67,11 +76,7 @@ impl Example {
     pub fn read() -> Example {
         let lines = section("### A whole image");
         let story = Story::read(&lines);
-        let mut vault = Vault::open(story.k, story.s, story.opened.clone());
-        for (record, block) in &story.writes {
-            vault.write(*record, block);
-        }
-        let (header, whole) = vault.image();
+        let (header, whole) = story.vault().image();
         let [list, length] = said(&lines, "The erasure list ", "{} is these {} bytes:");
         let pairs = pairs(&list);
         let mut damaged = whole.clone();

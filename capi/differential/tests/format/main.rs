@@ -13,4 +13,5 @@ mod places;
 mod powers;
 mod racklist;
 mod table;
+mod taking_back;
 mod variations;

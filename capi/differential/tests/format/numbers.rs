@@ -55,6 +55,11 @@ fn length(what: &str, formula: &str, k: u32, s: u32) -> [usize; 3] {
             let formula = n * width + 4 * n;
             [formula, sizes::scratch(k, s), header.scratch_len()]
         }
+        ("scratch of take_back", "2n(s + 1) + 8n") => {
+            let formula = 2 * n * width + 8 * n;
+            let wrapped = sizes::take_back_scratch(k, s);
+            [formula, wrapped, header.double_scratch_len()]
+        }
         ("counts of explain", "2(k + 1)") => {
             let formula = 2 * (k as usize + 1);
             [formula, sizes::counts(k, s), header.counts_len()]
@@ -70,14 +75,16 @@ fn length(what: &str, formula: &str, k: u32, s: u32) -> [usize; 3] {
 }
 
 /// Makes the library's calls over buffers of these lengths: those of the table in its order, and the output of recovery.
-fn all_calls(k: u32, s: u32, lengths: [usize; 11]) -> Result<(), Refusal> {
-    let [block, raw, full, log, blocks, scratch, counts, origins, powers, image, records] = lengths;
+#[rustfmt::skip]
+fn all_calls(k: u32, s: u32, lengths: [usize; 12]) -> Result<(), Refusal> {
+    let [block, raw, full, log, blocks, scratch, double, counts, origins, powers, image, records] = lengths;
     let words = |length| vec![0; length];
     let (mut raw, mut full, mut log) = (words(raw), words(full), words(log));
     let (mut scratch, mut image) = (words(scratch), vec![0; image]);
     let mut header = calls::open(k, s, &raw, &mut full, &mut log)?;
     let block = vec![1; block];
     calls::write(&mut header, &mut raw, &mut full, &mut log, 0, &block)?;
+    calls::take_back(&mut header, &mut raw, &full, &mut log, &mut words(double))?;
     calls::image(header, &full, &log, &mut image)?;
     calls::powers(&mut words(powers))?;
     calls::decode(header, &image, &[], k, &mut words(blocks), &mut scratch)?;
@@ -92,7 +99,7 @@ fn all_calls(k: u32, s: u32, lengths: [usize; 11]) -> Result<(), Refusal> {
 fn section_3_lengths() {
     let lines = section("## 3 ");
     let head = "| what | length | k=1 s=1 | k=2 s=1 | k=2 s=3 | k=4 s=2 | k=5 s=16 | k=10 s=3 | k=10 s=128 |";
-    let rows = table(&lines, head, 10);
+    let rows = table(&lines, head, 11);
     for (column, name) in cells(head).into_iter().enumerate().skip(2) {
         let [k, s] = fit(name, "k={} s={}").map(number);
         let mut lengths = Vec::new();
@@ -102,7 +109,7 @@ fn section_3_lengths() {
             lengths.push(given);
         }
         lengths.push(lengths[1]);
-        let lengths = lengths.try_into().expect("ten lengths and one more");
+        let lengths = lengths.try_into().expect("eleven lengths and one more");
         assert_eq!(all_calls(k, s, lengths), Ok(()));
         for i in 0..lengths.len() {
             for other in [lengths[i] - 1, lengths[i] + 1] {
