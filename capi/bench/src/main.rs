@@ -3,15 +3,18 @@
 mod measure;
 mod par2;
 mod plain;
+mod taking_back;
 mod tuned;
 mod vaults;
 
-use measure::{interleaved, thread_time, Effort, Subject, Time};
+use measure::{interleaved, restored, thread_time, Effort, Subject, Time};
 use std::fs;
 use std::hint::black_box;
 use std::process::ExitCode;
 use std::thread;
 use std::time::Duration;
+use taking_back::{case, Before};
+use vault_library::Header;
 use vaults::{By, Job, Vault};
 
 const SIZES: [(u32, u32); 4] = [(10, 128), (10, 3), (6, 3), (10, 1)];
@@ -19,6 +22,9 @@ const SIZES: [(u32, u32); 4] = [(10, 128), (10, 3), (6, 3), (10, 1)];
 const OPERATIONS: [&str; 4] = ["opening", "write", "recovery", "intact"];
 /// The sizes at which explaining is timed beside recovery.
 const EXPLAINED: [(u32, u32); 2] = [(10, 128), (10, 3)];
+
+/// The k at which taking back is timed beside decoding, and each s.
+const TAKEN_BACK: (u32, [u32; 3]) = (10, [128, 3, 1]);
 
 /// The implementations that are timed in turn.
 const IN_TURN: [By; 3] = [By::Library, By::Plain, By::Tuned];
@@ -206,6 +212,52 @@ fn print_explaining(effort: Effort) -> [f64; EXPLAINED.len()] {
     })
 }
 
+/// The counts of a vault of 2^k records, and where its last write's record was written before, from the fewest stripes that are decoded to all.
+fn taken_back(k: u32) -> [(u32, Before); 3] {
+    let n = 1 << k;
+    [
+        (n / 2, Before::OnItsLevel),
+        (n / 2, Before::Nowhere),
+        (n - 1, Before::Nowhere),
+    ]
+}
+
+/// Stripes in a few characters: levels in rising order, and the full stripe.
+fn listed(k: u32, stripes: &[u32]) -> String {
+    let levels: Vec<u32> = stripes.iter().copied().filter(|&l| l < k).collect();
+    let name = match levels[..] {
+        [] => String::new(),
+        [level] => level.to_string(),
+        [first, .., last] => format!("{first} to {last}"),
+    };
+    let full = stripes.contains(&k);
+    name + if full { ", full" } else { "" }
+}
+
+/// The table of taking back and of the decoding of the same stripes; gives the greatest ratio at each s.
+fn print_taking_back(effort: Effort) -> [f64; 3] {
+    println!(
+        "{:>4}{:>5}{:>6}  {:<14}{:>20}{:>20}{:>22}",
+        "k", "s", "c", "stripes", "taking back", "decoding", "taking back/decoding"
+    );
+    let (k, sizes) = TAKEN_BACK;
+    sizes.map(|s| {
+        let ratios = taken_back(k).map(|(c, before)| {
+            let (mut taking_back, mut decoding) = case(Header { k, s, c }, before);
+            let [one, other] = restored(effort, [&mut taking_back, &mut decoding]);
+            println!(
+                "{k:>4}{s:>5}{c:>6}  {:<14}{:>20}{:>20}{:>22}",
+                listed(k, &decoding.stripes),
+                both(one),
+                both(other),
+                ratio(one, other)
+            );
+            one.median / other.median
+        });
+        ratios.into_iter().fold(0.0, f64::max)
+    })
+}
+
 /// Times of an operation at each k, and its growth from the k before; gives the last growth.
 fn growth(effort: Effort, s: u32, operation: usize, name: &str) -> f64 {
     let jobs: Vec<Job> = (4..=10).map(|k| Job::new(k, s)).collect();
@@ -277,17 +329,14 @@ fn print_par2(row: &Row) {
     }
 }
 
+/// What is held to a target, its ratio, and the most that it may be.
+type Target = (&'static str, f64, f64);
+
 /// The targets beside plain Rust at each size are on the best of the runs, since times vary from run to run, the best ones least; the others on medians.
-fn print_targets(rows: &[Row; SIZES.len()], explaining: [f64; EXPLAINED.len()], growth: [f64; 2]) {
+fn beside_plain([wide, large, small, single]: &[Row; SIZES.len()]) -> [Target; 11] {
     let ratio = |row: &Row, i: usize| row.library[i].best / row.plain[i].best;
     let middle = |row: &Row, i: usize| row.library[i].median / row.plain[i].median;
-    let intact = |row: &Row| row.library[3].median / row.library[2].median;
-    // In the order of SIZES.
-    let [wide, large, small, single] = rows;
-    let narrow = [large, small, single].map(|row| [0, 1, 2].map(|i| middle(row, i)));
-    let narrow = narrow.as_flattened().iter().copied().fold(0.0, f64::max);
-    let recovery = wide.library[2].median / wide.library[0].median;
-    for (what, is, most) in [
+    [
         ("opening / plain Rust", ratio(wide, 0), 0.57),
         ("opening / plain Rust at s = 3", ratio(large, 0), 0.5),
         ("opening / plain Rust at s = 1", ratio(single, 0), 0.36),
@@ -303,15 +352,46 @@ fn print_targets(rows: &[Row; SIZES.len()], explaining: [f64; EXPLAINED.len()], 
             ratio(small, 2),
             0.75,
         ),
+    ]
+}
+
+/// The other targets.
+fn beside_itself(
+    [wide, large, small, single]: &[Row; SIZES.len()],
+    explaining: [f64; EXPLAINED.len()],
+    growth: [f64; 2],
+    taking_back: [f64; 3],
+) -> [Target; 11] {
+    let middle = |row: &Row, i: usize| row.library[i].median / row.plain[i].median;
+    let intact = |row: &Row| row.library[3].median / row.library[2].median;
+    let narrow = [large, small, single].map(|row| [0, 1, 2].map(|i| middle(row, i)));
+    let narrow = narrow.as_flattened().iter().copied().fold(0.0, f64::max);
+    let recovery = wide.library[2].median / wide.library[0].median;
+    [
         ("intact / recovery", intact(wide), 0.85),
         ("intact / recovery at s = 3", intact(large), 0.85),
         ("narrow rows / plain Rust, worst", narrow, 1.4),
         ("recovery / opening", recovery, 8.0),
         ("explaining / recovery", explaining[0], 1.15),
         ("explaining / recovery at s = 3", explaining[1], 1.15),
+        ("taking back / decoding, worst", taking_back[0], 1.3),
+        (
+            "taking back / decoding at s = 3, worst",
+            taking_back[1],
+            1.3,
+        ),
+        (
+            "taking back / decoding at s = 1, worst",
+            taking_back[2],
+            1.3,
+        ),
         ("opening at k = 10 / at k = 9", growth[0], 2.6),
         ("recovery at k = 10 / at k = 9, s = 3", growth[1], 2.6),
-    ] {
+    ]
+}
+
+fn print_targets(targets: impl IntoIterator<Item = Target>) {
+    for (what, is, most) in targets {
         let verdict = if is <= most { "met" } else { "MISSED" };
         println!("  {what:<38}{is:>6.2}, at most {most}: {verdict}");
     }
@@ -336,11 +416,14 @@ fn main() -> ExitCode {
     let rows = print_sizes(effort);
     println!("\nexplaining beside recovery, both by the library, from the same image with the same positions lost\n");
     let explaining = print_explaining(effort);
+    println!("\ntaking back the last of c writes beside decoding the same stripes in the image, both by the library, nothing lost\n");
+    let taking_back = print_taking_back(effort);
     println!("\nthe library's growth with k, and its ratio to the size before (n log n: 2.22 from k = 9 to 10)\n");
     let growth = print_growth(effort);
     println!();
     print_par2(&rows[0]);
     println!("\ntargets at k = 10, s = 128 where no other k or s is named");
-    print_targets(&rows, explaining, growth);
+    print_targets(beside_plain(&rows));
+    print_targets(beside_itself(&rows, explaining, growth, taking_back));
     ExitCode::SUCCESS
 }

@@ -117,3 +117,32 @@ pub fn interleaved(effort: Effort, mut subjects: Vec<Subject>) -> Vec<Time> {
     }
     samples.into_iter().map(Time::of).collect()
 }
+
+/// A subject that changes what it works on, or that runs beside one that does.
+pub trait Restored {
+    /// Copies all that it works on anew. This is not timed.
+    fn restore(&mut self);
+
+    fn run(&mut self);
+}
+
+/// Restores and runs each subject once unmeasured, then samples both in turn, a run at a time.
+pub fn restored(effort: Effort, mut subjects: [&mut dyn Restored; 2]) -> [Time; 2] {
+    let mut samples = [Vec::new(), Vec::new()];
+    let start = Instant::now();
+    for count in 0..=effort.most {
+        if count > effort.least && start.elapsed() > effort.time {
+            break;
+        }
+        for (subject, samples) in subjects.iter_mut().zip(&mut samples) {
+            subject.restore();
+            let start = thread_time();
+            subject.run();
+            let time = thread_time() - start;
+            if count > 0 {
+                samples.push(time.as_secs_f64());
+            }
+        }
+    }
+    samples.map(Time::of)
+}

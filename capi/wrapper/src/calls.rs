@@ -1,13 +1,13 @@
 //! The library's calls over slices. Each tests everything it is given, in the order of the table of refusals, and is proved to leave what the
-//! specification says: after refusals 1 to 6 and 11 all buffers are as they were, after 7 to 10 output and scratch are zeros, but for the counts of
-//! [`explain`].
+//! specification says: after refusals 1 to 6, 11 and 12 all buffers are as they were, after 7 to 10 output and scratch are zeros, but for the counts of
+//! [`explain`], and the buffers of a vault as they were.
 //!
 //! What `vault_sys` asks of a caller holds of every call here: a pointer and its count are those of one slice, which is aligned and valid, and what a call
 //! may change is borrowed for that call alone.
 use crate::{Fault, Header, Refusal};
 use vault_sys::{
     vault_decode, vault_explain, vault_image, vault_open, vault_powers, vault_read, vault_recover,
-    vault_write, VAULT_NO_SHELF,
+    vault_take_back, vault_write, VAULT_NO_SHELF,
 };
 
 /// Builds the full stripe of raw records, which may be zeros, and zeroes the log. Gives the header.
@@ -51,6 +51,29 @@ pub fn write(
             log.as_mut_ptr(), log.len(),
             record,
             block.as_ptr(), block.len(),
+        )
+    };
+    Refusal::test(number)
+}
+
+/// Takes back the last write of the round: the record is as before it, and so are the header and the log. Where the round has none, it is refused
+/// ([`Refusal::RoundStart`]), also after the write that ended a round.
+pub fn take_back(
+    header: &mut Header,
+    raw: &mut [u32],
+    full: &[u32],
+    log: &mut [u32],
+    scratch: &mut [u32],
+) -> Result<(), Refusal> {
+    // SAFETY: as said at the head of this file; c is borrowed with the header.
+    #[rustfmt::skip]
+    let number = unsafe {
+        vault_take_back(
+            header.k, header.s, &mut header.c,
+            raw.as_mut_ptr(), raw.len(),
+            full.as_ptr(), full.len(),
+            log.as_mut_ptr(), log.len(),
+            scratch.as_mut_ptr(), scratch.len(),
         )
     };
     Refusal::test(number)

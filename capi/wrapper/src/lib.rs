@@ -27,6 +27,11 @@
 //! // Record 1 comes from write 1 of the round, which level 1 holds.
 //! let origins = Explanation::new(header, &image, &erasures)?.origins?;
 //! assert_eq!(origins[1], Origin::Level { stripe: 1, write: 1 });
+//!
+//! // That write is taken back, and record 1 is what it was before.
+//! vault.take_back()?;
+//! assert_eq!(vault.header().c, 1);
+//! assert_eq!(vault.read(1)?, [7]);
 //! # Ok::<(), Box<dyn std::error::Error>>(())
 //! ```
 pub mod calls;

@@ -16,10 +16,11 @@ pub enum Refusal {
     Inconsistent = vault_sys::VAULT_DISCORD,
     NotARecord = vault_sys::VAULT_NO_SHEET,
     Blank = vault_sys::VAULT_BLANK,
+    RoundStart = vault_sys::VAULT_ROUND_START,
 }
 
 /// Each refusal, by rising number from 1, with the table's name and what it means.
-const TABLE: [(Refusal, &str, &str); 11] = [
+const TABLE: [(Refusal, &str, &str); 12] = [
     (
         Refusal::Header,
         "plate",
@@ -75,6 +76,11 @@ const TABLE: [(Refusal, &str, &str); 11] = [
         Refusal::Blank,
         "blank",
         "each data word of the sheet is 0, as when the press's probe is unplugged",
+    ),
+    (
+        Refusal::RoundStart,
+        "round start",
+        "this round has no write to take back",
     ),
 ];
 

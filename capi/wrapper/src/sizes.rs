@@ -46,6 +46,11 @@ pub fn scratch(k: u32, s: u32) -> usize {
     length(k, s, |n, s| n * (s + 1) + 4 * n)
 }
 
+/// The scratch buffer of taking back: twice that of recovery.
+pub fn take_back_scratch(k: u32, s: u32) -> usize {
+    2 * scratch(k, s)
+}
+
 /// The counts of explaining: two for each stripe from 0 to k.
 pub fn counts(k: u32, s: u32) -> usize {
     length(k, s, |_, _| 2 * (k as usize + 1))
@@ -69,6 +74,8 @@ mod tests {
         assert_eq!(image(10, 128), 2_112_504);
         assert_eq!((raw(2, 1), full(2, 1), log(2, 1)), (4, 16, 12));
         assert_eq!((blocks(2, 1), scratch(2, 1)), (8, 24));
+        let back = (take_back_scratch(2, 1), take_back_scratch(10, 128));
+        assert_eq!(back, (48, 272_384));
         assert_eq!((counts(2, 1), origins(2, 1)), (6, 8));
         assert_eq!((counts(10, 128), origins(10, 128)), (22, 2048));
         // The root of the largest vault has 2n powers.
@@ -78,9 +85,10 @@ mod tests {
     #[test]
     fn out_of_range() {
         for (k, s) in [(0, 1), (11, 1), (1, 0), (1, 129), (u32::MAX, u32::MAX)] {
-            for size in [raw, full, log, image, blocks, scratch, counts, origins] {
+            for size in [raw, full, log, image, blocks, counts, origins] {
                 assert_eq!(size(k, s), 0);
             }
+            assert_eq!((scratch(k, s), take_back_scratch(k, s)), (0, 0));
         }
     }
 }

@@ -40,6 +40,32 @@ impl Vault {
         calls::write(header, raw, full, log, record, block)
     }
 
+    /// Takes back the last write of the round: the vault is as it was before it, each buffer and the header. So it can be done again and again, back to the
+    /// round's start, where it is refused ([`Refusal::RoundStart`]). The write that ends a round cannot be taken back. After a refusal the vault is as it was.
+    ///
+    /// ```
+    /// use vault_library::{Refusal, Vault};
+    ///
+    /// let mut vault = Vault::open(2, 1, vec![5, 6, 7, 8])?;
+    /// let opened = vault.clone();
+    /// // For record 0, but record 1 was keyed.
+    /// vault.write(1, &[9])?;
+    /// vault.take_back()?;
+    /// assert!(vault == opened);
+    /// assert_eq!(vault.take_back(), Err(Refusal::RoundStart));
+    /// # Ok::<(), Refusal>(())
+    /// ```
+    pub fn take_back(&mut self) -> Result<(), Refusal> {
+        let Vault {
+            header,
+            raw,
+            full,
+            log,
+        } = self;
+        let mut scratch = vec![0; sizes::take_back_scratch(header.k, header.s)];
+        calls::take_back(header, raw, full, log, &mut scratch)
+    }
+
     pub fn read(&self, record: u32) -> Result<&[u32], Refusal> {
         calls::read(self.header, &self.raw, record)
     }

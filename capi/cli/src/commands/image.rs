@@ -6,7 +6,7 @@ use crate::files;
 use std::ffi::OsStr;
 use std::fmt;
 use std::io::{self, BufRead, Read};
-use vault_library::{sizes, Vault};
+use vault_library::{sizes, Refusal, Vault};
 
 pub const COMMAND: Command = Command {
     name: "image",
@@ -26,17 +26,21 @@ standard error as a line 'plate K S C'; recover, explain, decode and list ask fo
           which K and S stand for
   --text  standard input has a line for each write instead: the record's number and the S
           words, in decimal, with spaces between, as recover prints them; empty lines are
-          passed over
+          passed over. A line 'back' takes back the last write of the round: the rack is then
+          as if it had never been made. Several take back as many, at most to the round's
+          start; the write that ends a round, after which C is 0, cannot be taken back
 
 A sheet whose S words are all 0 is blank: it comes from a press whose probe is unplugged, and
 the vault refuses it. A record that no write names is all zeros: of the lines that recover
 printed, leave those out that have zeros alone.
 
-Refused with exit status 1: 1 (plate), 2 (length), 4 (record), 5 (data word), 11 (blank). A
-refused write stops the command, and no image is written. Standard error names the write's
-place among the writes, counted from 0, and with --text its line, counted from 1 as editors
-do, empty lines too: 'refused 11 (blank) at write 1, line 3'. Writes that end inside a write
-are refused with 2.
+Refused with exit status 1: 1 (plate), 2 (length), 4 (record), 5 (data word), 11 (blank),
+12 (round start). What is refused stops the command, and no image is written. Standard error
+names a write's place among the writes, counted from 0, those taken back too, and with --text
+its line, counted from 1 as editors do, empty lines too:
+'refused 11 (blank) at write 1, line 3'. Of a 'back' that finds no write to take back it
+names the line: 'refused 12 (round start) at line 3'. Writes that end inside a write are
+refused with 2.
 ",
     options: Options {
         flags: &["--text"],
@@ -48,14 +52,33 @@ are refused with 2.
 /// The longest line of text: far longer than the numbers of a write.
 const LINE: u64 = 1 << 16;
 
-/// A write as it was read: the record's number and its words, which may be too few or too many.
-type Write = (u32, Vec<u32>);
+/// The line that takes a write back.
+const BACK: &str = "back";
 
-/// Where a write stands in the input: its number among the writes, from 0; and in text its line, from 1, where empty lines count, so that an editor finds it.
+/// What the vault is to do next.
+enum Event {
+    /// A write as it was read: the record's number and its words, which may be too few or too many.
+    Write(u32, Vec<u32>),
+    /// The last write of the round is taken back.
+    Back,
+}
+
+/// Where an event stands in the input: the number that a write has among the writes, from 0; and in text its line, from 1, where empty lines count, so that an
+/// editor finds it.
 #[derive(Default)]
 struct Place {
     write: u64,
     line: Option<u64>,
+}
+
+impl Place {
+    /// The place of an event. A taking-back is no write, and has its line alone.
+    fn of(&self, event: &Event) -> String {
+        match (event, self.line) {
+            (Event::Back, Some(line)) => format!("line {line}"),
+            _ => self.to_string(),
+        }
+    }
 }
 
 impl fmt::Display for Place {
@@ -77,16 +100,15 @@ fn run(mut arguments: Arguments) -> Result<(), Failure> {
     let mut input = io::stdin().lock();
     let mut place = Place::default();
     loop {
-        let write = if text {
+        let event = if text {
             from_text(&mut input, &mut place)?
         } else {
             from_bytes(&mut input, s)?
         };
-        let Some((record, block)) = write else { break };
-        vault
-            .write(record, &block)
-            .map_err(|refusal| Failure::Refused(refusal, format!(" at {place}")))?;
-        place.write += 1;
+        let Some(event) = event else { break };
+        apply(&event, &mut vault)
+            .map_err(|refusal| Failure::Refused(refusal, format!(" at {}", place.of(&event))))?;
+        place.write += u64::from(matches!(event, Event::Write(..)));
     }
     let header = vault.header();
     files::print(&vault.image()?)?;
@@ -94,8 +116,16 @@ fn run(mut arguments: Arguments) -> Result<(), Failure> {
     Ok(())
 }
 
+/// Does what the event asks for.
+fn apply(event: &Event, vault: &mut Vault) -> Result<(), Refusal> {
+    match event {
+        Event::Write(record, block) => vault.write(*record, block),
+        Event::Back => vault.take_back(),
+    }
+}
+
 /// The next write of the input. Of one whose bytes run out, what is there: it has too few words, and the vault refuses it.
-fn from_bytes(input: &mut impl Read, s: u32) -> Result<Option<Write>, Failure> {
+fn from_bytes(input: &mut impl Read, s: u32) -> Result<Option<Event>, Failure> {
     let mut bytes = Vec::new();
     let all = 2 * (u64::from(s) + 1);
     let count = input
@@ -105,11 +135,12 @@ fn from_bytes(input: &mut impl Read, s: u32) -> Result<Option<Write>, Failure> {
     let mut words = bytes
         .chunks_exact(2)
         .map(|pair| u32::from(pair[0]) | u32::from(pair[1]) << 8);
-    Ok((count > 0).then(|| (words.next().unwrap_or(0), words.collect())))
+    let record = words.next().unwrap_or(0);
+    Ok((count > 0).then(|| Event::Write(record, words.collect())))
 }
 
-/// The write in the next line that is not empty. Counts the lines.
-fn from_text(input: &mut impl BufRead, place: &mut Place) -> Result<Option<Write>, Failure> {
+/// The event in the next line that is not empty. Counts the lines.
+fn from_text(input: &mut impl BufRead, place: &mut Place) -> Result<Option<Event>, Failure> {
     loop {
         let mut line = Vec::new();
         let count = input
@@ -120,18 +151,28 @@ fn from_text(input: &mut impl BufRead, place: &mut Place) -> Result<Option<Write
         if count as u64 == LINE {
             return usage(format!("{place}, is too long"));
         }
-        let name = format!("a number of {place},");
         let text = String::from_utf8_lossy(&line);
-        let words = text.split_ascii_whitespace();
-        let numbers = words.map(|word| number(&name, OsStr::new(word)));
-        let numbers = numbers.collect::<Result<Vec<u32>, Failure>>()?;
-        if let Some((record, block)) = numbers.split_first() {
-            return Ok(Some((*record, block.to_vec())));
-        }
-        if count == 0 {
-            return Ok(None);
+        let words: Vec<&str> = text.split_ascii_whitespace().collect();
+        match words[..] {
+            [] if count == 0 => return Ok(None),
+            [] => {}
+            [BACK] => return Ok(Some(Event::Back)),
+            [BACK, ..] => {
+                let at = place.of(&Event::Back);
+                return usage(format!("{at}: '{BACK}' stands alone on its line"));
+            }
+            _ => return numbers(&words, place).map(Some),
         }
     }
+}
+
+/// The write that a line's words are.
+fn numbers(words: &[&str], place: &Place) -> Result<Event, Failure> {
+    let name = format!("a number of {place},");
+    let numbers = words.iter().map(|word| number(&name, OsStr::new(word)));
+    let mut numbers = numbers.collect::<Result<Vec<u32>, Failure>>()?;
+    let block = numbers.split_off(1);
+    Ok(Event::Write(numbers[0], block))
 }
 
 fn cannot_read(error: io::Error) -> Failure {

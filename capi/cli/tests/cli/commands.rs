@@ -337,13 +337,24 @@ fn demo_is_the_same_for_a_seed() {
     );
     assert!(text.contains("refused 7 (too few) on shelf ") && !text.contains("DIFFERENT"));
     assert!(text.contains("\n   refused 11 (blank): "));
-    assert!(text.contains("\n   992 of 992 bytes of the rack are as they were.\n"));
+    // After the blank sheet, and after the one that is taken back.
+    let unchanged = "\n   992 of 992 bytes of the rack are as they were.\n";
+    assert_eq!(text.matches(unchanged).count(), 2);
+    for (when, record) in [
+        ("before    ", "     2      3    400     268       13"),
+        ("keyed     ", "     2     13   1800      11       14"),
+        ("taken back", "     2      3    400     268       13"),
+    ] {
+        let row = format!("\n   {when}   {record}\n");
+        assert!(text.contains(&row), "{row}");
+    }
     for step in [
         "1. THE RACK. ",
         "2. THE PROBE. ",
-        "3. THE LOSS. ",
-        "4. THE RECOVERY. ",
-        "5. ONE POSITION MORE. ",
+        "3. THE WRONG RECORD. ",
+        "4. THE LOSS. ",
+        "5. THE RECOVERY. ",
+        "6. ONE POSITION MORE. ",
     ] {
         assert!(text.contains(&format!("\n\n{step}")), "{step}");
     }

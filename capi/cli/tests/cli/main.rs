@@ -4,4 +4,5 @@ mod blank;
 mod commands;
 mod program;
 mod refusals;
+mod taking_back;
 mod usage;

@@ -1,4 +1,5 @@
-//! `vault demo`: a small rack is written, is sent a blank sheet, loses half of every shelf, is brought back, and loses one position too many.
+//! `vault demo`: a small rack is written, is sent a blank sheet and one for the wrong record, loses half of every shelf, is brought back, and loses one
+//! position too many.
 mod rack;
 mod sheets;
 
@@ -11,7 +12,7 @@ use crate::files;
 use crate::rack::shelf_name;
 use rack::Rack;
 use random::Random;
-use sheets::{Sheet, OPENED, UNPLUGGED, WRITTEN};
+use sheets::{Sheet, MISKEYED, OPENED, UNPLUGGED, WRITTEN};
 use std::time::{SystemTime, UNIX_EPOCH};
 use vault_library::{stripes, Explanation, Header, Origin, Vault};
 
@@ -22,9 +23,9 @@ pub const COMMAND: Command = Command {
 usage: vault demo [--seed N]
 
 Shows the vault at work on data of its own: writes the sheets of a pressing, draws the rack,
-has a blank sheet turned away, loses half of every shelf at random, brings all records back
-and says where each sheet came from, then loses one position too many and says what is
-missing. No file is read or written.
+has a blank sheet turned away, takes back one that was keyed to the wrong record, loses half
+of every shelf at random, brings all records back and says where each sheet came from, then
+loses one position too many and says what is missing. No file is read or written.
 
   --seed N  lose the same positions as the run that printed this seed; without it, each run
             loses others
@@ -73,22 +74,21 @@ fn story(seed: u32) -> Result<String, Failure> {
     text += "\n2. THE PROBE. ";
     text += &unplugged(&mut vault)?;
 
-    for stripe in header.stripes() {
-        for _ in 0..stripes::positions(stripe) / 2 {
-            rack.lose(stripe, &mut random);
-        }
-    }
-    text += "\n3. THE LOSS. Half of every shelf is lost, picked at random ";
+    text += "\n3. THE WRONG RECORD. ";
+    text += &wrong_record(&mut vault)?;
+
+    lose_halves(header, &mut rack, &mut random);
+    text += "\n4. THE LOSS. Half of every shelf is lost, picked at random ";
     text += &format!("(seed {seed}).\n\n");
     let Explanation { counts, origins } = rack.explained()?;
     text += &rack.picture(&counts).rack();
 
     let refused = |fault| refused(header, fault);
     let records = recovered(header, &rack.image, &rack.gaps()).map_err(refused)?;
-    text += "\n4. THE RECOVERY. All sheets, from the halves that are left, and where each came from.\n\n";
+    text += "\n5. THE RECOVERY. All sheets, from the halves that are left, and where each came from.\n\n";
     text += &comparison(header, &written, &records, &origins.map_err(refused)?);
 
-    text += "\n5. ONE POSITION MORE. ";
+    text += "\n6. ONE POSITION MORE. ";
     text += &one_more(header, &mut rack, &mut random)?;
     text += "\nThe same again: vault demo --seed ";
     text += &format!("{seed}. With your own files: vault --help.\n");
@@ -111,8 +111,6 @@ fn unplugged(vault: &mut Vault) -> Result<String, Failure> {
     let (record, sheet) = UNPLUGGED;
     let before = vault.image()?;
     let answer = vault.write(record, &sheet);
-    let after = vault.image()?;
-    let same = before.iter().zip(&after).filter(|pair| pair.0 == pair.1);
     let mut text = "It is unplugged, and the press sends a sheet of zeros ".to_owned();
     text += &format!("for record {record}.\n\n");
     text += &match answer {
@@ -122,8 +120,51 @@ fn unplugged(vault: &mut Vault) -> Result<String, Failure> {
             format!("   The vault turns it away. The write is\n   {refusal}")
         }
     };
+    text += "\n\n";
+    Ok(text + &unchanged(&before, &vault.image()?))
+}
+
+/// Keys a sheet to the wrong record and takes it back, and tells what the record holds meanwhile, and how much of the rack is as it was.
+fn wrong_record(vault: &mut Vault) -> Result<String, Failure> {
+    let (record, sheet) = MISKEYED;
+    let before = vault.image()?;
+    let (step, over) = (sheet[0], vault.read(record)?[0]);
+    let meant = UNPLUGGED.0;
+    let mut text =
+        format!("Step {step} is keyed to record {record}, not {meant}, over step {over}, ");
+    text += "and taken back.\n\n";
+    text += &format!("   {:<13}record   {NAMES}   writes today\n", "");
+    text += &held(vault, "before", record)?;
+    vault.write(record, &sheet)?;
+    text += &held(vault, "keyed", record)?;
+    vault.take_back()?;
+    text += &held(vault, "taken back", record)?;
+    text.push('\n');
+    Ok(text + &unchanged(&before, &vault.image()?))
+}
+
+/// A line for what a record holds now.
+fn held(vault: &Vault, when: &str, record: u32) -> Result<String, Failure> {
+    let (sheet, writes) = (columns(vault.read(record)?), vault.header().c);
+    Ok(format!(
+        "   {when:<10}   {record:>6}   {sheet}   {writes:>6}\n"
+    ))
+}
+
+/// How many bytes of a rack are as they were.
+fn unchanged(before: &[u8], after: &[u8]) -> String {
+    let same = before.iter().zip(after).filter(|pair| pair.0 == pair.1);
     let (same, all) = (same.count(), before.len());
-    Ok(text + &format!("\n\n   {same} of {all} bytes of the rack are as they were.\n"))
+    format!("   {same} of {all} bytes of the rack are as they were.\n")
+}
+
+/// Loses half of every shelf.
+fn lose_halves(header: Header, rack: &mut Rack, random: &mut Random) {
+    for stripe in header.stripes() {
+        for _ in 0..stripes::positions(stripe) / 2 {
+            rack.lose(stripe, random);
+        }
+    }
 }
 
 /// Loses a position of any shelf, and tells what recovery says, and what would help.
@@ -144,15 +185,21 @@ fn one_more(header: Header, rack: &mut Rack, random: &mut Random) -> Result<Stri
     Ok(text + &shortfalls(header, &counts))
 }
 
+/// The heading over [`columns`].
+const NAMES: &str = "step   mbar  litres";
+
+/// The words of a sheet.
+fn columns(sheet: &[u32]) -> String {
+    format!("{:>4} {:>6} {:>7}", sheet[0], sheet[1], sheet[2])
+}
+
 /// A line for each record: what was written to it last, what came back, and from where.
 fn comparison(header: Header, written: &[Sheet], recovered: &[u32], origins: &[Origin]) -> String {
-    let columns = |sheet: &[u32]| format!("{:>4} {:>6} {:>7}", sheet[0], sheet[1], sheet[2]);
-    let names = "step   mbar  litres";
     let mut text = format!(
         "   {:<21}{:<24}{:<22}from\n",
         "", "written last", "recovered"
     );
-    text += &format!("   record   day         {names}     {names}   {SOURCE}\n");
+    text += &format!("   record   day         {NAMES}     {NAMES}   {SOURCE}\n");
     let mut same = 0;
     for (record, (sheet, &origin)) in written.iter().zip(origins).enumerate() {
         let back = &recovered[record * sheet.len()..][..sheet.len()];

@@ -42,3 +42,6 @@ pub const WRITTEN: [(u32, Sheet); 13] = [
 
 /// The sheet that follows these, of a press whose probe is unplugged.
 pub const UNPLUGGED: (u32, Sheet) = (12, [0, 0, 0]);
+
+/// The sheet of step 13 when the probe is plugged in again, with the record that it is keyed to: 2, where 12 is meant.
+pub const MISKEYED: (u32, Sheet) = (2, [13, 1800, 11]);
