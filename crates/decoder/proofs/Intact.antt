@@ -41,24 +41,25 @@ unmarked_to ms zero e = λ i b. absurd (omega arith)
 unmarked_to ms (suc n) e =
     ⊎_elim (λ m. absurd (omega (arith, erased_true ms n m))) (λ m. last ms n m (unmarked_to ms n (sym (erased_false ms n m) ∙ e))) (either (get_or ms n false))
 
-module _ (p w k l : ℕ) (ms : List Bool) (big : 1 < p) (none : erased_count l ms ≡ 0) where
-  unmarked : (i : ℕ) → i < 2 ^ suc l → get_or ms i false ≡ false
-  unmarked = unmarked_to ms (2 ^ suc l) (sym (count ms l) ∙ none)
+-- no position is marked of a stripe of which all are left
+pub unmarked : (l : ℕ) (ms : List Bool) → erased_count l ms ≡ 0 → (i : ℕ) → i < 2 ^ suc l → get_or ms i false ≡ false
+unmarked l ms none = unmarked_to ms (2 ^ suc l) (sym (count ms l) ∙ none)
 
+module _ (p w k l : ℕ) (ms : List Bool) (big : 1 < p) (none : erased_count l ms ≡ 0) where
   weight_none : (i n : ℕ) → n ≤ 2 ^ suc l → weight_to p w k l ms i n ≡ 1
   weight_none i zero b = weight_zero p w k l ms i
-  weight_none i (suc n) b = weight_survivor p w k l ms i n (unmarked n (omega arith)) ∙ weight_none i n (omega arith)
+  weight_none i (suc n) b = weight_survivor p w k l ms i n (unmarked l ms none n (omega arith)) ∙ weight_none i n (omega arith)
 
   pub factor_none : (i : ℕ) → i < 2 ^ suc l → factor_at p w k l ms i ≡ 1
   unfolding factor_at
-  factor_none i b = rw (unmarked i b, factor_at) (weight_none i (2 ^ suc l) (omega arith))
+  factor_none i b = rw (unmarked l ms none i b, factor_at) (weight_none i (2 ^ suc l) (omega arith))
 
   pub weighed_none : (c : List ℕ) → Column p (2 ^ suc l) c → weighed p l ms (factors p w k l ms) c ≡ c
   unfolding weighed weighed_at
   weighed_none c C =
       let ws = factors p w k l ms in
       sym (is_table c (2 ^ suc l) (weighed_at p ms ws c) C.long
-      (λ i b. sym (rw (unmarked i b, weighed_at)
+      (λ i b. sym (rw (unmarked l ms none i b, weighed_at)
       (ap (λ (f : ℕ). times p f (get_or c i 0)) (get_or_table (2 ^ suc l) i (factor_at p w k l ms) b ∙ factor_none i b)
       ∙ times_comm p (omega arith) 1 (get_or c i 0) ∙ times_one p (omega arith) (get_or c i 0) (C.words.word i)))))
 
@@ -88,6 +89,6 @@ module _ (p w k l t : ℕ) (ms : List Bool) (stripe : Parameters p w k l t) (eno
       let long : length (coded p w k l t xs) ≡ 2 ^ suc l = length_coded p w k l t xs x.0.long in
       let same : c ≡ coded p w k l t xs =
       ext_get_or 0 c (coded p w k l t xs) (C.long ∙ sym long)
-      (λ i b. let b' : i < 2 ^ suc l = omega (arith, C.long) in sym (x.1.same i b' (unmarked p w k l ms stripe.prime.big none i b'))) in
+      (λ i b. let b' : i < 2 ^ suc l = omega (arith, C.long) in sym (x.1.same i b' (unmarked l ms none i b'))) in
       ap (λ (d : List ℕ). unscaled p l (halves_unmixed p (inverse p w) k l t d)) (weighed_none p w k l ms stripe.prime.big none c C ∙ same)
       ∙ unscaled_coded p w k l t xs stripe x.0

@@ -7,8 +7,8 @@ use Prim.Native.Nat.{ℕ, zero, suc, ◌+◌, ◌^◌, ◌≤◌, ◌<◌}
 use native.Mathlib.Nat.{zero-add, add-zero}
 use native.Mathlib.Omega.{arith}
 use lib.ListN.{length, get_or, take}
-use Rattle.std.specs.List.{count_by}
-use Rattle.std.proofs.lemmas.List.Sums.{count_by_more_yes, count_by_more_no}
+use mir.Val.{bool_byte}
+use Rattle.std.proofs.lemmas.List.{get_or-take}
 use Rattle.logarithms.specs.Weights.{erased_to}
 use Rattle.decoder.specs.Decoding.{survivors_from}
 use Rattle.decoder.specs.steps.Decoder.{erased_count}
@@ -75,14 +75,15 @@ module _ (ms : List Bool) where
   unfolding erased_to
   erased_false n e = rw (e, erased_to)
 
-  -- which is their count
-  pub marks_counted : (n : ℕ) → n ≤ length ms → count_by (λ m. m) (take n ms) ≡ erased_to ms n
-  marks_counted zero b = sym erased_zero
-  marks_counted (suc n) b =
-      let r : count_by (λ m. m) (take n ms) ≡ erased_to ms n = marks_counted n (omega arith) in
-      ap (λ k. count_by (λ m. m) (take k ms)) {x = suc n} {y = n + 1} (omega arith)
-      ∙ ⊎_elim (λ e. count_by_more_yes (λ m. m) ms n false (omega arith) e ∙ omega (arith, r, erased_true n e))
-      (λ e. count_by_more_no (λ m. m) ms n false (omega arith) e ∙ r ∙ sym (erased_false n e)) (either (get_or ms n false))
+  -- one more mark, as a number
+  pub mark_added : (m n : ℕ) → n < m → erased_to ms (n + 1) ≡ erased_to ms n + bool_byte (get_or (take m ms) n false)
+  mark_added m n b =
+      ap (erased_to ms) {x = n + 1} {y = suc n} (omega arith) ∙ by (get_or ms n false) refl
+      ∙ ap (λ x. erased_to ms n + bool_byte x) (sym (get_or-take m ms n false b))
+    where
+      by : (x : Bool) → get_or ms n false ≡ x → erased_to ms (suc n) ≡ erased_to ms n + bool_byte x
+      by true e = omega (arith, erased_true n e)
+      by false e = omega (arith, erased_false n e)
 
   survivors_true : (i n : ℕ) → get_or ms i false ≡ true → length (survivors_from ms i (suc n)) ≡ length (survivors_from ms (suc i) n)
   unfolding survivors_from
@@ -107,6 +108,9 @@ module _ (ms : List Bool) where
 
   pub no_more : (l : ℕ) → length (survivors_from ms 0 (2 ^ suc l)) ≤ 2 ^ suc l
   no_more l = omega (arith, counted 0 (2 ^ suc l), erased_zero)
+
+  pub no_more_erased : (n : ℕ) → erased_to ms n ≤ n
+  no_more_erased n = omega (arith, counted 0 n, erased_zero, ap (erased_to ms) (zero-add n))
 
   pub count : (l : ℕ) → erased_count l ms ≡ erased_to ms (2 ^ suc l)
   count l = omega (arith, counted 0 (2 ^ suc l), erased_zero, ap (erased_to ms) (zero-add (2 ^ suc l)))
