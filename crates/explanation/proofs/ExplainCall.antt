@@ -10,7 +10,8 @@ use Rattle.layout.specs.declared.Header.{Header}
 use Rattle.layout.specs.Header.{header_fits, image_size, scratch_size, has_stripe}
 use Rattle.image.specs.Erasures.{Erasure}
 use Rattle.recovery.specs.Origins.{origins_size}
-use Rattle.explanation.specs.Counts.{counts_size, positions_left, left, shortfall}
+use Rattle.stripe_decoding.specs.Decoding.{positions_left}
+use Rattle.explanation.specs.Counts.{counts_size, left, shortfall}
 use Rattle.explanation.specs.ExplainCall.{explain_early}
 use Rattle.field.proofs.Booleans.{first_true, second_true}
 use Rattle.image.proofs.ImageRefusals.{whole}

@@ -5,24 +5,13 @@ ghost use Rattle.layout.specs.Refusals.{answer_number};
 ghost use Rattle.image.specs.Erasures.{erasures_in};
 ghost use Rattle.image.specs.Readings.{Reads};
 ghost use Rattle.recovery.specs.Verdicts.{verdict_of};
-ghost use Rattle.explanation.specs.Counts.{counts_size, positions_left, left, shortfall, counts_of};
+ghost use Rattle.explanation.specs.Counts.{counts_size, left, shortfall, counts_of};
 ghost use Rattle.explanation.specs.ExplainCall.{explain_early, explain_answer, explain_counts, explain_origins, explain_scratch};
 
 use image::Reading;
 use layout::{Header, Refusal, ValidHeader};
 use range_laying::Content;
 use recovery::Fault;
-
-// How many positions of a stripe are left.
-fn positions_left(reading: Reading, level: usize) -> usize
-    requires { level ≤ reading.header.header.k }
-    ensures { result ≡ positions_left reading.entry.header.header (erasures_in reading.entry.erasures.now) level }
-{
-    let marks = reading.marks(level);
-    let all = code::number::two_to(level + 1);
-    let erased = decoder::decoding::count_erased(&marks, level);
-    all - erased
-}
 
 // Stores the counts of a stripe: the positions left, and how many more it needs; zeros if recovery does not need it.
 fn count_stripe(reading: Reading, level: usize, counts: &mut [u32])
@@ -37,7 +26,8 @@ fn count_stripe(reading: Reading, level: usize, counts: &mut [u32])
         range_laying::pairs::put_pair(counts, level, 0, 0);
         return;
     }
-    let left = positions_left(reading, level);
+    let marks = reading.marks(level);
+    let left = judging::counting::positions_left(&marks, level);
     let needed = code::number::two_to(level);
     let short = needed.saturating_sub(left);
     range_laying::pairs::put_pair(counts, level, left as u32, short as u32);

@@ -4,12 +4,12 @@
 // stands beside it.
 ghost use Rattle.std.specs.Prelude.{◌≡◌, false, ◌&&◌, true, [], ◌∷◌, ◌+◌, ◌*◌, ◌%◌, ◌≤◌, ◌<◌, ◌-◌, suc, eqb, length, replicate};
 ghost use Rattle.image.specs.Image.{number_at};
-ghost use Rattle.image.specs.Erasures.{erasures_in, erasures_rise, marks_of};
+ghost use Rattle.image.specs.Erasures.{erasures_in, erasures_rise, erasures_fit, marks_of};
 ghost use Rattle.image.specs.ImageTests.{image_tests};
 ghost use Rattle.image.specs.Readings.{Reads};
 ghost use Rattle.image.specs.steps.Marking.{Marked, erasure, mark_for, marks_for};
-ghost use Rattle.layout.specs.Header.{record_count, scratch_size};
-ghost use Rattle.layout.specs.Refusals.{done, refusal, answer_number};
+ghost use Rattle.layout.specs.Header.{record_count, scratch_size, image_size};
+ghost use Rattle.layout.specs.Refusals.{done, test, refusal, answer_number};
 
 use crate::Reading;
 use layout::{Header, Refusal, ValidHeader};
@@ -106,6 +106,26 @@ fn mark(marks: &mut [bool], erasures: &[u8], places: Places)
     }
 }
 
+// Test 3 of a call that is lent an image of its size: what it reads.
+pub fn reading<'a>(
+    header: ValidHeader,
+    image: &'a [u8],
+    erasures: &'a [u8],
+) -> Result<Reading<'a>, Refusal>
+    requires { length image.now ≡ image_size header.header }
+    ensures number { answer_number result ≡ refusal (test (erasures_fit header.header erasures.now) 3 done) }
+    ensures same { Reads header.header image.now erasures.now result }
+{
+    if !erasures_fit(erasures, image.len()) {
+        return Err(Refusal::ErasureList);
+    }
+    Ok(Reading {
+        header,
+        image,
+        erasures,
+    })
+}
+
 // Tests 2 and 3 of a call that is lent an image, an output of `row` words for each record, and a scratch.
 pub fn check_sized<'a>(
     header: ValidHeader,
@@ -121,18 +141,13 @@ pub fn check_sized<'a>(
         (eqb out (record_count header.header * row) && eqb scratch (scratch_size header.header)) done) }
     ensures same { Reads header.header image.now erasures.now result }
 {
-    let size = header.image_size();
-    if image.len() != size || out != header.rows_size(row) || scratch != header.scratch_size() {
+    if image.len() != header.image_size()
+        || out != header.rows_size(row)
+        || scratch != header.scratch_size()
+    {
         return Err(Refusal::Length);
     }
-    if !erasures_fit(erasures, size) {
-        return Err(Refusal::ErasureList);
-    }
-    Ok(Reading {
-        header,
-        image,
-        erasures,
-    })
+    reading(header, image, erasures)
 }
 
 // Tests 1, 2 and 3 of such a call.

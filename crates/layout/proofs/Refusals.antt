@@ -13,7 +13,7 @@ use Rattle.std.proofs.lemmas.Result.{err_from_is_err_and}
 use Rattle.layout.specs.declared.Header.{Header}
 use Rattle.layout.specs.declared.refusal.Refusal.{Refusal}
 use Rattle.layout.specs.declared.refusal.Refusal.TheVariants.{HeaderRange, Length, ErasureList, RecordNumber, DataWord, NoStripe}
-use Rattle.layout.specs.declared.refusal.Refusal.TheVariants.{TooFew, OutOfField, Inconsistent, NotRecords, Blank, RoundStart}
+use Rattle.layout.specs.declared.refusal.Refusal.TheVariants.{TooFew, OutOfField, Inconsistent, NotRecords, Blank, RoundStart, ReadingsDiffer}
 use Rattle.layout.specs.Header.{header_fits}
 use Rattle.layout.specs.Refusals.{Tests, done, test, refusal, if_taken, number_of, answer_number}
 
@@ -90,6 +90,7 @@ some_number Inconsistent = omega arith
 some_number NotRecords = omega arith
 some_number Blank = omega arith
 some_number RoundStart = omega arith
+some_number ReadingsDiffer = omega arith
 
 pub not_zero : (x : Refusal) → number_of x ≡ 0 → ⊥
 not_zero x z = absurd (omega (arith, some_number x))

@@ -1,8 +1,9 @@
 -- The refusals of a call, their numbers, and what it leaves of a buffer when it is refused. Assumes nothing: these are definitions.
-use Rattle.std.specs.Prelude.{Bool, true, false, ℕ, eqb, Result, Ok, Err}
+use Rattle.std.specs.Prelude.{Bool, true, false, List, [], ℕ, eqb, Result, Ok, Err}
+use Rattle.std.specs.Borrow.{Bor}
 use Rattle.layout.specs.declared.refusal.Refusal.{Refusal}
 use Rattle.layout.specs.declared.refusal.Refusal.TheVariants.{HeaderRange, Length, ErasureList, RecordNumber, DataWord, NoStripe, TooFew, OutOfField}
-use Rattle.layout.specs.declared.refusal.Refusal.TheVariants.{Inconsistent, NotRecords, Blank, RoundStart}
+use Rattle.layout.specs.declared.refusal.Refusal.TheVariants.{Inconsistent, NotRecords, Blank, RoundStart, ReadingsDiffer}
 
 -- THE TABLE OF REFUSALS (docs/FORMAT.md, section 10): the number of each
 abbrev pub number_of : Refusal → ℕ
@@ -18,13 +19,19 @@ number_of Inconsistent = 9
 number_of NotRecords = 10
 number_of Blank = 11
 number_of RoundStart = 12
+number_of ReadingsDiffer = 13
 
 -- the number of an answer: 0 if the call is taken
 abbrev pub answer_number : {A : Type 0} → Result A Refusal → ℕ
 answer_number (Ok x) = 0
 answer_number (Err e) = number_of e
 
--- REFUSALS in rising number: the smallest that applies, 0 if none does
+-- the part of a lent buffer that an answer gives: an empty one if the call is refused
+abbrev pub read_part : Result (Bor (List ℕ)) Refusal → List ℕ
+read_part (Ok part) = part.now
+read_part (Err e) = []
+
+-- TESTS IN A ROW: the number of the first that fails, 0 if none does
 pub data Tests : Type 0 where
   done : Tests
   test : (holds : Bool) → (number : ℕ) → Tests → Tests

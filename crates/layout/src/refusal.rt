@@ -20,6 +20,7 @@ pub enum Refusal {
     NotRecords = 10,
     Blank = 11,
     RoundStart = 12,
+    ReadingsDiffer = 13,
 }
 
 impl Refusal {
@@ -48,6 +49,7 @@ impl fmt::Display for Refusal {
             Refusal::NotRecords => "not a record",
             Refusal::Blank => "blank block",
             Refusal::RoundStart => "start of a round",
+            Refusal::ReadingsDiffer => "readings differ",
         })
     }
 }

@@ -1,6 +1,5 @@
 -- What opening, writing and reading answer, and what they leave in each lent buffer, for every input. Assumes nothing: these are definitions.
 use Rattle.std.specs.Prelude.{Bool, ◌&&◌, not, List, [], ℕ, ltb, eqb, length, Result, Ok, Err}
-use Rattle.std.specs.Borrow.{Bor}
 use Rattle.layout.specs.declared.Header.{Header}
 use Rattle.layout.specs.declared.refusal.Refusal.{Refusal}
 use Rattle.layout.specs.Header.{header_of, record_count, header_fits, raw_size, full_size, log_size}
@@ -83,11 +82,7 @@ earlier_answer h u i b = numbered (earlier_number h u i b) h
 abbrev pub earlier_leaves : Header → Buffers → (number : ℕ) → (block : List ℕ) → Buffers
 earlier_leaves h u i b = leaving (earlier_number h u i b) h u i b
 
--- READING gives a part of the raw buffer; a refused one an empty part. First what an answer of the code gives
-abbrev pub read_part : Result (Bor (List ℕ)) Refusal → List ℕ
-read_part (Ok p) = p.now
-read_part (Err e) = []
-
+-- READING gives a part of the raw buffer; a refused one an empty part
 abbrev pub read_number : Header → (raw : List ℕ) → (number : ℕ) → ℕ
 read_number h raw i = refusal (test (header_fits h) 1 (test (eqb (length raw) (raw_size h)) 2 (test (ltb i (record_count h)) 4 done)))
 

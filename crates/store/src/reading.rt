@@ -1,7 +1,7 @@
 // Reading: a record as a part of the raw buffer.
 ghost use Rattle.std.specs.Prelude.{◌≡◌};
-ghost use Rattle.layout.specs.Refusals.{answer_number};
-ghost use Rattle.store.specs.StoreCalls.{read_number, read_part, read_gives};
+ghost use Rattle.layout.specs.Refusals.{answer_number, read_part};
+ghost use Rattle.store.specs.StoreCalls.{read_number, read_gives};
 
 use layout::{Header, Refusal, ValidHeader};
 

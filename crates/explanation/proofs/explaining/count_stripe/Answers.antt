@@ -1,12 +1,15 @@
 -- `explanation::explaining::count_stripe` meets its contract. Assumes nothing.
-use mathlib.Core.Path.{◌≡◌, sym, ap₂, ◌∙◌}
-use Rattle.std.proofs.Common.{ℕ, [], ◌∷◌, suc, ◌-◌, ◌^◌, arith}
+use mathlib.Core.Path.{◌≡◌, refl, sym, ap, ap₂, ◌∙◌}
+use Rattle.std.proofs.Common.{ℕ, List, Bool, length, [], ◌∷◌, suc, ◌-◌, ◌^◌, arith}
 use lib.Pow.{pow_mono}
+use Rattle.decoder.specs.Decoding.{survivors}
 use Rattle.decoder.proofs.Survivors.{no_more}
+use Rattle.layout.specs.Header.{stripe_of}
 use Rattle.layout.specs.Records.{replaced}
 use Rattle.layout.proofs.Bounds.{fits}
-use Rattle.image.specs.Erasures.{erasures_in, marks_of}
-use Rattle.explanation.specs.Counts.{positions_left}
+use Rattle.image.specs.Erasures.{erasures_in}
+use Rattle.stripe_decoding.specs.Decoding.{positions_left}
+use Rattle.stripe_decoding.proofs.StripeAnswers.{marks_fit}
 use Rattle.explanation.proofs.ExplainCall.{left_needed, left_none, short_needed, short_none}
 use Rattle.explanation.proofs.explaining.count_stripe.Goals as goal
 
@@ -19,6 +22,12 @@ returns-then-not-has_stripe c =
     c.put_pair.ensures ∙ ap₂ (λ (x y : ℕ). replaced 2 a.counts.now a.level (x ∷ y ∷ [])) (sym (left_none h gs a.level e))
     (sym (short_none h gs a.level e))
 
+pub positions_left-left-requires-clause-level_in_bounds : goal.positions_left-left-requires-clause-level_in_bounds
+positions_left-left-requires-clause-level_in_bounds c =
+    let a = c.args in
+    let h = a.reading.header in
+    marks_fit h.header a.level {st = stripe_of h.header a.level} refl (erasures_in a.reading.erasures.now) h.fits c.requires.within c.marks-marks.ensures
+
 -- what is left is small
 pub overflow_cast-left : goal.overflow_cast-left
 overflow_cast-left c =
@@ -30,7 +39,7 @@ overflow_cast-left c =
       fits = omega (
         arith,
         c.positions_left-left.ensures,
-        no_more (marks_of h (erasures_in a.reading.erasures.now) a.level) a.level,
+        no_more c.marks-marks.result a.level,
         pow_mono {i = suc a.level} {j = 11} (omega (arith, b, w)),
       );
     }
@@ -42,7 +51,8 @@ returns c =
     let h = a.reading.header.header in
     let gs = erasures_in a.reading.erasures.now in
     let e = sym c.has_stripe.ensures ∙ c.if-not-has_stripe.false in
-    let left = c.positions_left-left.ensures in
+    let left : c.positions_left-left.result ≡ positions_left h gs a.level =
+    c.positions_left-left.ensures ∙ ap (λ (ms : List Bool). length (survivors a.level ms)) c.marks-marks.ensures in
     let needed = c.two_to-needed.ensures in
     let lacks : c.saturating_sub-short.result ≡ 2 ^ a.level - positions_left h gs a.level = omega (arith, c.saturating_sub-short.ensures, left, needed) in
     c.put_pair-2.ensures ∙ ap₂ (λ (x y : ℕ). replaced 2 a.counts.now a.level (x ∷ y ∷ []))

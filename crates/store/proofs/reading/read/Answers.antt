@@ -14,9 +14,9 @@ use Rattle.layout.specs.declared.Header.{Header}
 use Rattle.layout.specs.declared.refusal.Refusal.{Refusal}
 use Rattle.layout.specs.Header.{header_fits, record_count, raw_size}
 use Rattle.layout.specs.Records.{record_in}
-use Rattle.layout.specs.Refusals.{refusal, answer_number}
+use Rattle.layout.specs.Refusals.{refusal, answer_number, read_part}
 use Rattle.layout.proofs.Refusals.{header_passed_on, header_taken, some_refused, if_taken_lem, if_refused}
-use Rattle.store.specs.StoreCalls.{read_number, read_part, read_gives}
+use Rattle.store.specs.StoreCalls.{read_number, read_gives}
 use Rattle.store.proofs.reading.read.Goals as goal
 
 module _ (h : Header) (r : List ℕ) (i : ℕ) where
