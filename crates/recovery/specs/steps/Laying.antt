@@ -17,11 +17,11 @@ layer_of Blocks h = record { full = λ (bs : List ℕ). bs; over = λ (l : ℕ) 
 layer_of Records h = records h
 layer_of Origins h = origins h
 
--- AN IMAGE with some erasures: what each stripe decodes to, and what all of them come to
-abbrev pub decoding : Header → (image erasures : List ℕ) → (stripe : ℕ) → Decoded
-decoding h m e = decode_stripe h m (erasures_in e)
+-- READINGS: by the image and the erasure list from which each stripe is taken, what it decodes to, and what all of them come to
+abbrev pub decoding : Header → (image erasures : (stripe : ℕ) → List ℕ) → (stripe : ℕ) → Decoded
+decoding h m e l = decode_stripe h (m l) (erasures_in (e l)) l
 
-abbrev pub stripes_laid : Header → Content → (image erasures : List ℕ) → Recovered
+abbrev pub stripes_laid : Header → Content → (image erasures : (stripe : ℕ) → List ℕ) → Recovered
 stripes_laid h c m e = stripes_over h (decoding h m e) (layer_of c h)
 
 -- THE LOOP from the full stripe down: what the stripes below n come to over some words, each by its own numbers

@@ -4,8 +4,9 @@ use Rattle.recovery.proofs.StripesLaid.{Left}
 use Rattle.recovery.proofs.stripes.lay_each.Given as goal
 
 abbrev pub invariant-loop-level : goal.invariant-loop-level
-invariant-loop-level l =
-    let h = l.reading.header.header in
-    let m = l.reading.image.now in
-    let e = l.reading.erasures.now in
+invariant-loop-level g l =
+    let r = l.readings in
+    let h = g.R.Readings.its_header r in
+    let m = g.R.Readings.image r in
+    let e = g.R.Readings.erasures r in
     Left h l.content (decoding h m e) (stripes_laid h l.content m e) l.out l.level-counter
