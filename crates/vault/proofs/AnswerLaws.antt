@@ -1,6 +1,6 @@
 -- The promises of the room Answers, which hold as they are defined. Assumes nothing.
 use mathlib.Core.Path.{refl}
-use Rattle.vault.specs.promises.Answers.{NumberRead, OpeningRead, WriteRead, PartRead, VerdictRead, HeaderHas, BuffersHave}
+use Rattle.vault.specs.promises.Answers.{NumberRead, OpeningRead, WriteRead, PartRead, VerdictRead, PlaceRead, HeaderHas, BuffersHave}
 use Rattle.vault.specs.promises.Answers.{OpenAnswers, WriteAnswers, BackAnswers}
 
 pub number_read : NumberRead
@@ -17,6 +17,9 @@ part_read part refusal = (refl, refl)
 
 pub verdict_read : VerdictRead
 verdict_read T given refusal l = (refl, refl, refl)
+
+pub place_read : PlaceRead
+place_read reading start count refusal = (refl, refl, refl, refl, refl, refl)
 
 pub header_has : HeaderHas
 header_has k s c = (refl, refl, refl)

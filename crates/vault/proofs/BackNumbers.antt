@@ -2,18 +2,16 @@
 -- Assumes nothing.
 use mathlib.Core.Path.{◌≡◌, refl}
 use mathlib.Core.Bool.{Bool, true, false}
-use mathlib.Core.Logic.{inl, inr, ⊎_elim}
+use mathlib.Core.Logic.{inl, inr}
 use mathlib.Core.List.{List}
-use Prim.Native.Nat.{ℕ, zero, suc, ◌*◌, ◌-◌, ◌^◌, ◌≤◌, ◌<◌}
+use Prim.Native.Nat.{ℕ, zero, suc, ◌*◌, ◌-◌, ◌^◌, ◌≤◌}
 use native.Mathlib.Omega.{arith}
-use borrow.Author.Tests.{eqb-true}
-use lib.Dec.{eqb}
 use Rattle.std.specs.Prelude.{◌↔◌, Option, Some, None}
 use Rattle.field.proofs.Booleans.{if_else}
 use Rattle.layout.specs.declared.Header.{Header}
-use Rattle.layout.specs.Header.{scratch_size, width, is_filled, stripe_of}
+use Rattle.layout.specs.Header.{scratch_size, width, is_filled}
 use Rattle.judging.specs.Decoding.{Decoded, failed, decoded}
-use Rattle.taking_back.specs.TakingBack.{stripe_held, none_erased, decode_held, last_of, Before, fails, found, then_find, found_at, find_from, find_before}
+use Rattle.taking_back.specs.TakingBack.{none_erased, decode_held, last_of, Before, fails, found, then_find, found_at, find_from, find_before}
 use Rattle.taking_back.specs.TakingBack.{last_block, record_taken}
 use Rattle.taking_back.specs.TakingBack.{with_words, with_blocks, goes_back, number_back}
 use Rattle.taking_back.specs.TakeBackCall.{take_back_early, take_back_comes}
@@ -22,10 +20,9 @@ use Rattle.vault.specs.Event.{take_back}
 use Rattle.vault.specs.History.{Vault, number_on}
 use Rattle.vault.specs.promises.Table.{NoRow, EachNumber}
 use Rattle.vault.specs.promises.Numbers.{BackRows, BackNumbers}
-use Rattle.vault.proofs.DecodeNumbers.{then_iff}
-use Rattle.vault.proofs.ImageNumbers.{FailsSo, OfStripe, rows_fail}
+use Rattle.vault.proofs.ImageNumbers.{FailsSo, OfStripe, rows_fail, early_given, below_seven, above_ten}
 use Rattle.vault.proofs.Numbers.{block_says, lengths_say}
-use Rattle.vault.proofs.Table.{ended, beside, each_number, fails_unless, header_fails, record_number_fails}
+use Rattle.vault.proofs.Table.{ended, beside, each_number, then_iff, fails_unless, header_fails, record_number_fails}
 
 -- WHAT THE STRIPES COME TO: 0 or 7 to 10
 abbrev BeforeSo : Before → Type 0
@@ -83,25 +80,17 @@ module _ (v : Vault) (scratch : List ℕ) where
       (beside (omega arith) (λ _. let r = record_number_fails h.c 0 in (λ e. omega (arith, r.0 e), λ z. r.1 (omega (arith, z)))) ended)))
 
   -- a number that no stripe has is the call's if and only if it is theirs
-  same_given : (n : ℕ) → 0 < n → ((7 ≤ n) × (n ≤ 10) → ⊥) → (number_on v (take_back scratch) ≡ n) ↔ (early ≡ n)
-  same_given n z out =
-      let h = v.header in
-      let u = v.held in
-      go (number_back (take_back_comes h u))
-      (back_so h (decode_held h u.full u.log) (λ l. rows_fail (stripe_of h l) none_erased (stripe_held h u.full u.log l))) (eqb early 0) refl
-    where
-      go : (x : ℕ) → OfStripe x → (a : Bool) → eqb early 0 ≡ a → (if_else a x early ≡ n) ↔ (early ≡ n)
-      go x o true t =
-          let never : x ≡ n → early ≡ n = λ e. ⊎_elim (λ q. absurd (omega arith)) (λ q. absurd (out (omega (arith, q.0), omega (arith, q.1)))) o in
-          (never, λ e. absurd (omega (arith, eqb-true early 0 t)))
-      go x o false t = (λ e. e, λ e. e)
+  same_given : (n : ℕ) → (OfStripe n → ⊥) → (number_on v (take_back scratch) ≡ n) ↔ (early ≡ n)
+  same_given n out =
+      let d = decode_held v.header v.held.full v.held.log in
+      early_given early (number_back (take_back_comes v.header v.held)) n (back_so v.header d (λ l. rows_fail _ none_erased _)) out
 
 pub back_numbers : BackNumbers
 back_numbers v scratch =
     let rows = (early_number v scratch).0 in
-    let one = same_given v scratch 1 (omega arith) (λ b. omega (arith, b.0)) in
-    let two = same_given v scratch 2 (omega arith) (λ b. omega (arith, b.0)) in
-    let twelve = same_given v scratch 12 (omega arith) (λ b. omega (arith, b.1)) in
+    let one = same_given v scratch 1 (below_seven (omega arith) (omega arith)) in
+    let two = same_given v scratch 2 (below_seven (omega arith) (omega arith)) in
+    let twelve = same_given v scratch 12 (above_ten (omega arith)) in
     (then_iff one rows.0, (then_iff two rows.1.0, (then_iff twelve rows.1.1.0, tt)))
 
 -- it goes on to the stripes if and only if no row applies

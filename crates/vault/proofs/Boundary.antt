@@ -19,8 +19,10 @@ use Rattle.recovery.specs.Recovery.{Layer, Recovered, stripes_over, records}
 use Rattle.recovery.specs.Origins.{origins}
 use Rattle.recovery.specs.RecoveryCall.{recover_answer, unnamed, answer_of}
 use Rattle.explanation.specs.ExplainCall.{explain_answer}
+use Rattle.two_readings.specs.Choosing.{decoding_of_two}
+use Rattle.two_readings.specs.RecoverTwoCall.{recover_two_answer}
 use Rattle.store.specs.StoreCalls.{read_number}
-use Rattle.vault.specs.promises.Boundary.{PartIs, PartAt, ShelfIs, NoneNamed, NoneExplained}
+use Rattle.vault.specs.promises.Boundary.{PartIs, PartAt, ShelfIs, NoneNamed, NoneExplained, NoneNamedOfTwo}
 use Rattle.vault.specs.Boundary.{no_shelf, shelf_of}
 use Rattle.layout.proofs.Bounds.{fits}
 use Rattle.field.proofs.Booleans.{is_false, if_else, if_else_true, if_else_false}
@@ -74,3 +76,6 @@ none_named h m e o s = named_none (recover_answer h m e o s) (low_answer h (deco
 
 pub none_explained : NoneExplained
 none_explained h m e n o s = named_none (explain_answer h m e n o s) (low_answer h (decode_stripe h m (erasures_in e)) (origins h) _)
+
+pub none_named_of_two : NoneNamedOfTwo
+none_named_of_two h m e m' e' o s = named_none (recover_two_answer h m e m' e' o s) (low_answer h (decoding_of_two h m e m' e') (records h) _)

@@ -29,13 +29,10 @@ use Rattle.vault.specs.promises.Numbers.{ImageRows, StripeRows, StripeNumbers, F
 use Rattle.vault.proofs.StripeDecoding.{nine_iff, ten_iff}
 use Rattle.vault.proofs.StripeCall.{failed_number, number_fails, needed_within}
 use Rattle.vault.proofs.Erasures.{stripe_word, well_formed_iff, marked_iff}
-use Rattle.vault.proofs.Table.{Beside, ended, beside, each_number, Says, not_false, fails_unless, sure, both_say, equal_says}
+use Rattle.vault.proofs.Table.{Beside, ended, beside, each_number, then_iff, Says, not_false, fails_unless, sure, both_say, equal_says}
 use Rattle.vault.proofs.Table.{fits_iff, needed_iff, stripe_says}
 use Rattle.vault.proofs.NoRecords.{records_no}
-use Rattle.vault.proofs.ImageNumbers.{Passed, image_beside, early_then, OfStripe, rows_number, scratch_says}
-
-pub then_iff : {A B C : Type 0} → A ↔ B → B ↔ C → A ↔ C
-then_iff s t = (λ a. t.0 (s.0 a), λ c. s.1 (t.1 c))
+use Rattle.vault.proofs.ImageNumbers.{Passed, image_beside, OfStripe, rows_number, scratch_says}
 
 -- a header that fits, one of its stripes, and a well-formed list
 record Tested (h : Header) (e : List ℕ) (l : ℕ) : Type 0 where
@@ -147,6 +144,17 @@ stripe_numbers h m e l range formed stripe =
     let rows = StripeRows h m e l in
     subst (λ (n : ℕ). EachNumber n rows) (number_tested h m e l)
     (each_number rows (stripe_beside h m e l (omega arith) (λ _. tested range formed stripe)))
+
+-- THE NUMBER of a call that goes on where its early tests hold
+early_then : (a b c d : Bool) (rest : Tests)
+    → let early = refusal (test a 1 (test b 2 (test c 3 (test d 6 done)))) in
+    if_taken early (refusal rest) early ≡ refusal (test a 1 (test b 2 (test c 3 (test d 6 rest))))
+unfolding refusal
+early_then false b c d rest = refl
+early_then true false c d rest = refl
+early_then true true false d rest = refl
+early_then true true true false rest = refl
+early_then true true true true rest = refl
 
 -- THE CALL
 module _ (h : Header) (m e : List ℕ) (l : ℕ) (out scratch : List ℕ) where

@@ -1,6 +1,5 @@
 -- Demand 3, and one stripe alone (the room Losses of specs/promises). After any history, whatever erasures leave half of the positions of each needed stripe,
--- decoding gives what was
--- coded and recovery gives every record as last written. Assumes nothing.
+-- decoding gives what was coded and recovery gives every record as last written; each stripe may be taken from another image. Assumes nothing.
 use mathlib.Core.Path.{◌≡◌, refl, sym, ap, ap₂, ◌∙◌, subst}
 use mathlib.Core.Bool.{true}
 use mathlib.Core.Logic.{inl, inr}
@@ -16,15 +15,16 @@ use Rattle.layout.specs.Header.{width, header_fits, raw_size, full_size, log_siz
 use Rattle.store.specs.Buffers.{full_stripe, blocks_of}
 use Rattle.image.specs.Image.{image_of}
 use Rattle.image.specs.Erasures.{erasures_in, erasures_fit}
+use Rattle.judging.specs.Decoding.{Decoded}
 use Rattle.stripe_decoding.specs.Decoding.{decode_stripe}
 use Rattle.recovery.specs.Recovery.{recovered, recover}
 use Rattle.recovery.specs.RecoveryCall.{recover_early, recover_answer, recover_leaves, recover_scratch, unnamed}
 use Rattle.layout.specs.Refusals.{refusal}
 use Rattle.vault.specs.Event.{Opening, Event}
 use Rattle.vault.specs.Model.{model_of}
-use Rattle.vault.specs.History.{Vault, Opens, vault_after, header_after, image_after}
-use Rattle.vault.specs.Round.{Round, rows_of, records_in, round_of, round_header, level_entries, log_words, model_in}
-use Rattle.vault.specs.promises.Losses.{Needed, LeavesHalf, SameWords, Survives, SameRemains, Recovers, LevelsDecode, FullDecodes}
+use Rattle.vault.specs.History.{Opens, vault_after, header_after, image_after}
+use Rattle.vault.specs.Round.{Round, rows_of, round_of, round_header, level_entries, log_words, model_in}
+use Rattle.vault.specs.promises.Losses.{SameWords, Survives, SameRemains, Recovers, LevelsDecode, FullDecodes}
 use Rattle.vault.specs.promises.Histories.{ImageLong}
 use Rattle.store.proofs.StoredRecords.{length_full}
 use Rattle.vault.proofs.Levels.{length_log}
@@ -32,7 +32,7 @@ use Rattle.vault.proofs.Rounds.{header_fits_lem}
 use Rattle.vault.proofs.Histories.{histories, model_is}
 use Rattle.image.proofs.WordBytes.{length_bytes}
 use Rattle.vault.proofs.StripeCall.{call_gives}
-use Rattle.vault.proofs.RoundDecoding.{level_decodes, full_decodes}
+use Rattle.vault.proofs.RoundDecoding.{level_decodes, full_decodes, TakesAll, takes_one, round_decodes}
 use Rattle.vault.proofs.RoundRecovery.{recover_round}
 use Rattle.vault.proofs.SameRounds.{DecodesRound, one_round}
 
@@ -72,22 +72,6 @@ full_decodes_lem o es m e O =
     call_gives (round_header a) m e a.k (blocks_of (round_header a) a.base) (header_fits_lem t.good) formed (inl (eq-eqb a.k a.k refl))
     (full_decodes t.good e m same half))
 
-pub recovers_all : (o : Opening) (es : List Event) (m e : List ℕ) → Opens o → Survives o es m e → Recovers (header_after o es) m e (model_of o es).records
-recovers_all o es m e O X = recovers X.leaves X.long X.words
-  where
-    recovers : let h = header_after o es in LeavesHalf h e → length m ≡ image_size h → SameWords h e (image_after o es) m
-        → Recovers h m e (model_of o es).records
-    recovers =
-        let t = histories o es O in
-        let a = round_of o es in
-        rw (header_after, image_after, vault_after, t.vault_is, t.model_is)
-        (λ L long S.
-        record {
-          call = λ out scratch out_long scratch_long.
-              found (round_header a) m e out scratch (header_fits_lem t.good) L.well_formed long out_long scratch_long (records_in a)
-              (recover_round t.good e m L.keeps S);
-        })
-
 pub image_long : ImageLong
 image_long o es O =
     let a = round_of o es in
@@ -95,25 +79,45 @@ image_long o es O =
     rw (header_after, image_after, vault_after, (histories o es O).vault_is)
     (length_image h (full_stripe h a.base) (log_words h a.since a.k) (length_full h a.base) (length_log h a.since a.k))
 
--- TWO HISTORIES with the same header and surviving words decode alike, and so are in one round
-decodes_history : (o : Opening) (es : List Event) (m e : List ℕ) → Opens o → LeavesHalf (header_after o es) e
-    → SameWords (header_after o es) e (image_after o es) m → DecodesRound (header_after o es) m e (round_of o es)
-decodes_history o es m e O L S =
+-- A DECODING that takes each needed stripe from some image that keeps half of it: it decodes the blocks of the round, and recovery gives every record
+abbrev pub OfHistory : Opening → List Event → (decoding : ℕ → Decoded) → Type 0
+OfHistory o es d = TakesAll (header_after o es) (image_after o es) d
+
+decodes_history : (o : Opening) (es : List Event) (d : ℕ → Decoded) → Opens o → OfHistory o es d → DecodesRound (header_after o es) d (round_of o es)
+decodes_history o es d O =
+    let t = histories o es O in
+    rw (header_after, image_after, vault_after, t.vault_is) (λ T. record { good = t.good; header_is = refl; decodes = round_decodes t.good d T })
+
+pub recovers_history : (o : Opening) (es : List Event) (d : ℕ → Decoded) → Opens o → OfHistory o es d
+    → recover (header_after o es) d ≡ recovered (model_of o es).records
+recovers_history o es d O =
+    let t = histories o es O in
+    rw (header_after, image_after, vault_after, t.vault_is, t.model_is) (λ T. recover_round t.good (round_decodes t.good d T))
+
+-- and it is of no other history with the same header
+pub same_history : (o o' : Opening) (es es' : List Event) (d : ℕ → Decoded) → Opens o → Opens o' → header_after o es ≡ header_after o' es'
+    → OfHistory o es d → OfHistory o' es' d → model_of o es ≡ model_of o' es'
+same_history o o' es es' d O O' e T T' =
+    let other = subst (λ (h : Header). DecodesRound h d (round_of o' es')) (sym e) (decodes_history o' es' d O' T') in
+    model_is o es O ∙ ap (λ (a : Round). model_in a) (one_round (decodes_history o es d O T) other) ∙ sym (model_is o' es' O')
+
+-- ONE IMAGE that keeps half of each
+pub fits_after : (o : Opening) (es : List Event) → Opens o → header_fits (header_after o es) ≡ true
+fits_after o es O = let t = histories o es O in rw (header_after, vault_after, t.vault_is) (header_fits_lem t.good)
+
+pub recovers_all : (o : Opening) (es : List Event) (m e : List ℕ) → Opens o → Survives o es m e → Recovers (header_after o es) m e (model_of o es).records
+recovers_all o es m e O X =
     let h = header_after o es in
-    let whole : Needed h h.k = inl (eq-eqb h.k h.k refl) in
+    let all = recovers_history o es (decode_stripe h m (erasures_in e)) O (takes_one X.leaves.keeps X.words) in
     record {
-      good = (histories o es O).good;
-      header_is = ap (λ (v : Vault). v.header) (histories o es O).vault_is;
-      full = (full_decodes_lem o es m e O L.well_formed (L.keeps.half h.k whole) (S.same h.k whole)).decodes;
-      levels = λ l b filled.
-          let need : Needed h l = inr (b, filled) in
-          (levels_decode o es m e l O L.well_formed (L.keeps.half l need) (S.same l need) b filled).decodes;
+      call = λ out scratch out_long scratch_long.
+          found h m e out scratch (fits_after o es O) X.leaves.well_formed X.long out_long scratch_long (model_of o es).records all;
     }
 
 pub no_other : (o o' : Opening) (es es' : List Event) (e : List ℕ) → Opens o → Opens o' → SameRemains o es o' es' e → model_of o es ≡ model_of o' es'
 no_other o o' es es' e O O' R =
     let m = image_after o' es' in
-    let L' : LeavesHalf (header_after o' es') e = subst (λ (h : Header). LeavesHalf h e) R.header R.leaves in
-    let self : SameWords (header_after o' es') e m m = record { same = λ l need position column b c free. refl } in
-    let other = subst (λ (h : Header). DecodesRound h m e (round_of o' es')) (sym R.header) (decodes_history o' es' m e O' L' self) in
-    model_is o es O ∙ ap (λ (a : Round). model_in a) (one_round (decodes_history o es m e O R.leaves R.words) other) ∙ sym (model_is o' es' O')
+    let d = decode_stripe (header_after o es) m (erasures_in e) in
+    let self : SameWords (header_after o es) e m m = record { same = λ l need position column b c free. refl } in
+    let other = subst (λ (h : Header). TakesAll h m d) R.header (takes_one R.leaves.keeps self) in
+    same_history o o' es es' d O O' R.header (takes_one R.leaves.keeps R.words) other

@@ -9,16 +9,16 @@ use native.Mathlib.Omega.{arith}
 use lib.Arith.{digits_lt}
 use lib.Dec.{eqb}
 use lib.ListN.{length, get_or}
-use lib.Pow.{pow_mono}
-use borrow.Author.Tests.{lt-ltb, eqb-true, eq-eqb}
+use borrow.Author.Tests.{eqb-true, eq-eqb}
+use Rattle.std.specs.Prelude.{◌↔◌}
 use Rattle.field.proofs.Booleans.{both_true, first_true, second_true}
 use Rattle.decoder.specs.Decoding.{survivors_from}
 use Rattle.decoder.proofs.Survivors.{survivors_are}
 use Rattle.layout.specs.declared.Header.{Header}
 use Rattle.layout.specs.Header.{width, image_size, stripe_at}
 use Rattle.image.specs.Image.{word_at}
-use Rattle.image.specs.Erasures.{erasures_in, touched, position_at, mark_at}
-use Rattle.image.proofs.Marking.{get_or_flags}
+use Rattle.image.specs.Erasures.{erasures_in, touched, position_at, is_erased}
+use Rattle.two_readings.proofs.Comparing as Marks
 use Rattle.vault.specs.promises.Decoding.{marks, words_in}
 use Rattle.vault.specs.promises.Losses.{Needed}
 use Rattle.vault.specs.promises.Erasures.{four_bytes, WordIs, offset_at, size_at, InPair, WellFormed, WellFormedIff, stripe_place, InPosition, Untouched}
@@ -115,25 +115,26 @@ module _ (h : Header) (l i : ℕ) where
     untouched_clear : WellFormed h e → Untouched h e l i → AllApart
     untouched_clear W U = bytes_clear e begin end W.some (omega arith) (λ x a b. U x (in_position x a b))
 
+    -- what is not erased is untouched, and the other way round
+    pub erased_iff : WellFormed h e → (is_erased h (erasures_in e) l i ≡ false) ↔ Untouched h e l i
+    erased_iff W = (
+      λ q. clear_untouched (untouched (pairs_are e) begin end 0 (length e / 8) q),
+      λ U. touch_none (pairs_are e) begin end 0 (length e / 8) (untouched_clear W U),
+    )
+
     -- its mark tells whether a pair touches it
     module _ (few : h.k ≤ 10) (within : l ≤ h.k) (low : i < 2 ^ suc l) where
       mark_is : get_or (marks h e l) i false ≡ touched begin end (erasures_in e)
-      unfolding mark_at
-      mark_is =
-          get_or_flags 2048 (mark_at h (erasures_in e) l) i (omega (arith, pow_mono {i = suc l} {j = 11} (omega arith)))
-          ∙ rw (lt-ltb i (2 ^ suc l) low, mark_at)
+      mark_is = Marks.mark_is h l i few within low (erasures_in e)
 
       unmarked_clear : get_or (marks h e l) i false ≡ false → AllApart
       unmarked_clear q = untouched (pairs_are e) begin end 0 (length e / 8) (sym mark_is ∙ q)
 
-      clear_unmarked : AllApart → get_or (marks h e l) i false ≡ false
-      clear_unmarked C = mark_is ∙ touch_none (pairs_are e) begin end 0 (length e / 8) C
-
 pub marked_iff : MarkedIff
-marked_iff h e l i few within W low = (
-  λ q. clear_untouched h l i e (unmarked_clear h l i e few within low q),
-  λ U. clear_unmarked h l i e few within low (untouched_clear h l i e W U),
-)
+marked_iff h e l i few within W low =
+    let m = mark_is h l i e few within low in
+    let u = erased_iff h l i e W in
+    (λ q. u.0 (sym m ∙ q), λ U. m ∙ u.1 U)
 
 -- THE SURVIVORS are all that are not marked
 later : (b : Bool) (i x : ℕ) (s : List ℕ) → Among x s → Among x (elim b [ true ↦ s | false ↦ i ∷ s ])

@@ -34,11 +34,10 @@ use Rattle.vault.specs.History.{Vault}
 use Rattle.vault.specs.promises.Decoding.{HoldRecords}
 use Rattle.vault.specs.promises.Table.{FullLength, LogLength, InRange, NoRecord, EachNumber}
 use Rattle.vault.specs.promises.TakingBack.{HeldIs, HeldDecodes, HeldFails, CodesHeld, HeldRows, HeldNumbers, HeldFailsIff, HeldBlocksIff}
-use Rattle.vault.proofs.DecodeNumbers.{then_iff}
 use Rattle.vault.proofs.ImageNumbers.{OfStripe, rows_number}
 use Rattle.vault.proofs.NoRecords.{words_no}
 use Rattle.vault.proofs.StripeCall.{failed_number, number_fails}
-use Rattle.vault.proofs.Table.{ended, beside, each_number, not_false, fits_iff, full_is, log_is}
+use Rattle.vault.proofs.Table.{ended, beside, each_number, then_iff, not_false, fits_iff, full_is, log_is}
 
 -- ITS WORDS
 pub held_is : HeldIs

@@ -6,7 +6,7 @@ use mathlib.Core.Logic.{◌⊎◌, inl, inr, ⊎_elim}
 use mathlib.Core.List.{List}
 use Prim.Native.Nat.{ℕ, ◌≤◌, ◌<◌}
 use native.Mathlib.Omega.{arith}
-use borrow.Author.Tests.{eqb-true, eqb-false, eq-eqb}
+use borrow.Author.Tests.{eqb-true}
 use lib.Dec.{eqb, ltb}
 use lib.ListN.{length}
 use Rattle.std.specs.Prelude.{◌↔◌}
@@ -14,9 +14,9 @@ use Rattle.decoder.specs.Decoding.{survivors, is_consistent, blocks_in}
 use Rattle.code.specs.declared.Stripe.{Stripe}
 use Rattle.code.specs.Stripe.{modulus_of, block_count}
 use Rattle.layout.specs.declared.Header.{Header}
-use Rattle.layout.specs.Header.{header_fits, raw_size, scratch_size, image_size}
-use Rattle.layout.specs.Refusals.{Tests, done, test, refusal, if_taken}
-use Rattle.image.specs.Erasures.{erasures_in, erasures_fit}
+use Rattle.layout.specs.Header.{raw_size, scratch_size, image_size}
+use Rattle.layout.specs.Refusals.{Tests, done, refusal, if_taken}
+use Rattle.image.specs.Erasures.{erasures_in}
 use Rattle.image.specs.Loading.{rows_in, are_below}
 use Rattle.image.specs.ImageTests.{image_tests}
 use Rattle.judging.specs.Decoding.{Decoded, failed, decoded, decoded_number, decode_rows, are_records}
@@ -30,11 +30,11 @@ use Rattle.explanation.specs.ExplainCall.{explain_early}
 use Rattle.field.proofs.Booleans.{if_else}
 use Rattle.vault.specs.promises.Losses.{Needed}
 use Rattle.vault.specs.promises.Table.{RawLength, ImageLength, ScratchLength, CountsLength, OriginsLength, OutOfRange, IllFormed}
-use Rattle.vault.specs.promises.Table.{Rows, none, row, EachRow, NoRow}
+use Rattle.vault.specs.promises.Table.{Rows, none, EachRow, NoRow, EachNumber}
 use Rattle.vault.specs.promises.Numbers.{ImageRows, RecoverRows, RecoverNumbers, ExplainRows, ExplainNumbers, ExplainAskedIff}
 use Rattle.vault.proofs.Erasures.{well_formed_iff}
 use Rattle.vault.proofs.StripesEnd.{Ends, stops, passes, stripes_end}
-use Rattle.vault.proofs.Table.{Beside, ended, beside, each_number, Says, fails_unless, both_say, three_say, equal_says, header_fails}
+use Rattle.vault.proofs.Table.{Beside, ended, beside, each_number, then_iff, Says, fails_unless, both_say, three_say, equal_says, header_fails}
 
 -- TESTS 1 TO 3, and what is known where their rows do not apply
 abbrev pub Passed : Header → (image erasures : List ℕ) → (lengths : Type 0) → Type 0
@@ -48,20 +48,12 @@ image_beside h m e s more =
     (beside (omega arith) (λ _. fails_unless (both_say image s))
     (beside (omega arith) (λ _. fails_unless (well_formed_iff h e)) more))
 
--- THE NUMBER of a call that goes on where its early tests hold
-pub early_then : (a b c d : Bool) (rest : Tests)
-    → let early = refusal (test a 1 (test b 2 (test c 3 (test d 6 done)))) in
-    if_taken early (refusal rest) early ≡ refusal (test a 1 (test b 2 (test c 3 (test d 6 rest))))
-unfolding refusal
-early_then false b c d rest = refl
-early_then true false c d rest = refl
-early_then true true false d rest = refl
-early_then true true true false rest = refl
-early_then true true true true rest = refl
-
 -- A STRIPE FAILS with 7 to 10 alone, and so its number is 0 or one of these
+abbrev pub Fault : ℕ → Type 0
+Fault n = (7 ≤ n) × (n ≤ 10)
+
 abbrev pub FailsSo : Decoded → Type 0
-FailsSo (failed n) = (7 ≤ n) × (n ≤ 10)
+FailsSo (failed n) = Fault n
 FailsSo (decoded bs) = Unit {0}
 
 pub rows_fail : (st : Stripe) (ms : List Bool) (ws : List ℕ) → FailsSo (decode_rows st ms ws)
@@ -79,7 +71,7 @@ rows_fail st ms ws =
     go false true true true bs = tt
 
 abbrev pub OfStripe : ℕ → Type 0
-OfStripe v = (v ≡ 0) ⊎ ((7 ≤ v) × (v ≤ 10))
+OfStripe v = (v ≡ 0) ⊎ Fault v
 
 pub rows_number : (st : Stripe) (ms : List Bool) (ws : List ℕ) → OfStripe (decoded_number (decode_rows st ms ws))
 rows_number st ms ws = by (decode_rows st ms ws) (rows_fail st ms ws)
@@ -89,62 +81,57 @@ rows_number st ms ws = by (decode_rows st ms ws) (rows_fail st ms ws)
     by (decoded bs) f = inl refl
 
 -- and so is that at which the stripes end
-ends_with : (h : Header) (m e : List ℕ) (y : Layer) → OfStripe (answer_of (stripes_over h (decode_stripe h m (erasures_in e)) y)).number
-ends_with h m e y = by (stripes_end h (decode_stripe h m (erasures_in e)) y)
+pub ends_with : (h : Header) (d : ℕ → Decoded) (y : Layer) → ((l : ℕ) → FailsSo (d l)) → OfStripe (answer_of (stripes_over h d y)).number
+ends_with h d y so = by (stripes_end h d y)
   where
-    by : {x : Recovered} → Ends (decode_stripe h m (erasures_in e)) (Needed h) x → OfStripe (answer_of x).number
-    by (stops n l q f) = subst OfStripe (ap decoded_number f.1 ∙ ap (λ (x : Recovered). (answer_of x).number) (sym q)) (rows_number _ _ _)
+    by : {x : Recovered} → Ends d (Needed h) x → OfStripe (answer_of x).number
+    by (stops n l q f) = subst OfStripe (ap (λ (x : Recovered). (answer_of x).number) (sym q)) (inr (subst FailsSo f.1 (so l)))
     by (passes r q all) = inl (ap (λ (x : Recovered). (answer_of x).number) q)
 
--- THE CALLS `recover` AND `explain`: a number of a stripe is none of 1 to 3
-verdict_number : (n : ℕ) (x y : Verdict) → (if_taken n x y).number ≡ if_taken n x.number y.number
-verdict_number n x y = go (eqb n 0)
+-- A CALL THAT GOES ON to the stripes where its early tests hold has a number that no stripe has if and only if they give it
+pub early_given : (early v n : ℕ) → OfStripe v → (OfStripe n → ⊥) → (if_taken early v early ≡ n) ↔ (early ≡ n)
+early_given early v n o out = go (eqb early 0) refl
   where
-    go : (b : Bool) → (if_else b x y).number ≡ if_else b x.number y.number
-    go true = refl
-    go false = refl
+    go : (a : Bool) → eqb early 0 ≡ a → (if_else a v early ≡ n) ↔ (early ≡ n)
+    go true t = (λ e. absurd (out (subst OfStripe e o)), λ e. absurd (out (inl (sym e ∙ eqb-true early 0 t))))
+    go false t = (λ e. e, λ e. e)
 
--- one more test stands for that number, v
-abbrev above_three : (v : ℕ) → ℕ
-above_three v = if_else (eqb v 0) 4 v
-
-stripe_test : (v : ℕ) → OfStripe v → (3 < above_three v) × (refusal (test (eqb v 0) (above_three v) done) ≡ v)
-unfolding refusal
-stripe_test v o = go (eqb v 0) refl
+pub verdict_given : (early n : ℕ) (a : Verdict) → OfStripe a.number → (OfStripe n → ⊥)
+    → ((if_taken early a (unnamed early)).number ≡ n) ↔ (early ≡ n)
+verdict_given early n a o out = go (eqb early 0) (early_given early a.number n o out)
   where
-    go : (b : Bool) → eqb v 0 ≡ b → (3 < if_else b 4 v) × (refusal (test b (if_else b 4 v) done) ≡ v)
-    go true t = (omega arith, sym (eqb-true v 0 t))
-    go false t = (⊎_elim (λ z. absurd (eqb-false v 0 t z)) (λ z. omega (arith, z.0)) o, refl)
+    go : (b : Bool) → (if_else b a.number early ≡ n) ↔ (early ≡ n) → ((if_else b a (unnamed early)).number ≡ n) ↔ (early ≡ n)
+    go true f = f
+    go false f = f
 
+-- as those below 7 are, and those above 10
+pub below_seven : {n : ℕ} → 0 < n → n < 7 → OfStripe n → ⊥
+below_seven a b o = ⊎_elim (λ z. omega arith) (λ t. omega (arith, t.0)) o
+
+pub above_ten : {n : ℕ} → 10 < n → OfStripe n → ⊥
+above_ten a o = ⊎_elim (λ z. omega arith) (λ t. omega (arith, t.1)) o
+
+-- THE CALLS `recover` AND `explain`
 module _ (h : Header) (m e : List ℕ) {sizes : Bool} {lengths : Type 0} (s : Says sizes lengths) where
   abbrev early : ℕ
   early = refusal (image_tests h m e sizes done)
 
-  early_iff : (early ≡ 0) ↔ NoRow (ImageRows h m e lengths none)
-  early_iff = (each_number (ImageRows h m e lengths none) (image_beside h m e s {rest = done} ended)).1
-
-  stripe_rows : (v : ℕ) → OfStripe v → EachRow (if_taken early v early) (ImageRows h m e lengths none)
-  unfolding refusal
-  stripe_rows v o =
-      let w : ℕ = above_three v in
-      let t = stripe_test v o in
-      let last : Tests = test (eqb v 0) w done in
-      let more : Rows = row w (v ≡ 0 → ⊥) none in
-      let fails = fails_unless {b = eqb v 0} (eqb-true v 0, eq-eqb v 0) in
-      let each = each_number (ImageRows h m e lengths more) (image_beside h m e s {rest = last} (beside t.0 (λ _. fails) ended)) in
-      let same : if_taken early v early ≡ refusal (image_tests h m e sizes last) =
-      ap (λ (n : ℕ). if_taken early n early) (sym t.1)
-      ∙ early_then (header_fits h) (eqb (length m) (image_size h) && sizes) (erasures_fit h e) true last in
-      subst (λ (n : ℕ). EachRow n (ImageRows h m e lengths none)) (sym same) (each.0.0, (each.0.1.0, (each.0.1.1.0, tt)))
+  early_number : EachNumber early (ImageRows h m e lengths none)
+  early_number = each_number (ImageRows h m e lengths none) (image_beside h m e s {rest = done} ended)
 
   verdict_rows : (a : Verdict) → OfStripe a.number → EachRow (if_taken early a (unnamed early)).number (ImageRows h m e lengths none)
   verdict_rows a o =
-      subst (λ (n : ℕ). EachRow n (ImageRows h m e lengths none)) (sym (verdict_number early a (unnamed early))) (stripe_rows a.number o)
+      let rows = early_number.0 in
+      let given = λ (n : ℕ) (some : 0 < n) (low : n < 7). verdict_given early n a o (below_seven some low) in
+      let one = given 1 (omega arith) (omega arith) in
+      let two = given 2 (omega arith) (omega arith) in
+      let three = given 3 (omega arith) (omega arith) in
+      (then_iff one rows.0, (then_iff two rows.1.0, (then_iff three rows.1.1.0, tt)))
 
 pub scratch_says : (h : Header) (scratch : List ℕ) → Says (eqb (length scratch) (scratch_size h)) (ScratchLength h scratch)
 scratch_says h scratch = equal_says {a = length scratch} {b = scratch_size h} refl
 
-recover_says : (h : Header) (out scratch : List ℕ)
+pub recover_says : (h : Header) (out scratch : List ℕ)
     → Says (eqb (length out) (raw_size h) && eqb (length scratch) (scratch_size h)) (RawLength h out × ScratchLength h scratch)
 recover_says h out scratch = both_say (equal_says {a = length out} {b = raw_size h} refl) (scratch_says h scratch)
 
@@ -158,19 +145,19 @@ explain_says h n o scratch =
 pub recover_numbers : RecoverNumbers
 recover_numbers h m e out scratch =
     let d = decode_stripe h m (erasures_in e) in
-    verdict_rows h m e (recover_says h out scratch) (answer_of (recover h d)) (ends_with h m e (records h))
+    verdict_rows h m e (recover_says h out scratch) (answer_of (recover h d)) (ends_with h d (records h) (λ l. rows_fail _ _ _))
 
 pub explain_numbers : ExplainNumbers
 explain_numbers h m e n o scratch =
     let d = decode_stripe h m (erasures_in e) in
-    verdict_rows h m e (explain_says h n o scratch) (answer_of (explain h d)) (ends_with h m e (origins h))
+    verdict_rows h m e (explain_says h n o scratch) (answer_of (explain h d)) (ends_with h d (origins h) (λ l. rows_fail _ _ _))
 
 -- they go on if and only if no row applies
 pub recover_asked : (h : Header) (m e out scratch : List ℕ) → NoRow (RecoverRows h m e out scratch) → recover_early h m e out scratch ≡ 0
-recover_asked h m e out scratch = (early_iff h m e (recover_says h out scratch)).1
+recover_asked h m e out scratch = (early_number h m e (recover_says h out scratch)).1.1
 
 pub explain_asked_iff : ExplainAskedIff
-explain_asked_iff h m e n o s = early_iff h m e (explain_says h n o s)
+explain_asked_iff h m e n o s = (early_number h m e (explain_says h n o s)).1
 
 pub explain_asked : (h : Header) (m e n o s : List ℕ) → NoRow (ExplainRows h m e n o s) → explain_early h m e n o s ≡ 0
 explain_asked h m e n o s = (explain_asked_iff h m e n o s).1

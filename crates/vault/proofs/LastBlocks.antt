@@ -1,12 +1,12 @@
--- WHAT IS RECOVERED OF ANY IMAGE: record i is what the last block for it lays, in the order of laying, k and then the levels down. One proof for both layers,
--- the data of `recover` and the origins of `explain`: the last two promises of the room Recovering of specs/promises. Assumes nothing.
+-- WHAT IS RECOVERED OF ANY IMAGE: record i is what the last block for it lays, in the order of laying, k and then the levels down. One proof for all that
+-- stripes may decode to and for both layers, the data of `recover` and the origins of `explain`: the last two promises of the room Recovering of
+-- specs/promises. Assumes nothing.
 use mathlib.Core.Path.{◌≡◌, refl, sym, ap, ◌∙◌}
 use mathlib.Core.Bool.{true, false, false≢true}
 use mathlib.Core.Logic.{inl, inr, ⊎_elim}
 use mathlib.Core.List.{List, [], ◌∷◌}
 use Prim.Native.Nat.{ℕ, zero, suc, ◌+◌, ◌*◌, ◌/◌, ◌^◌, ◌≤◌, ◌<◌}
 use native.Mathlib.Nat.{eq-or-lt_of_le, le_refl, mul-le-mul_right}
-use native.Mathlib.Decide.{ℕ_discrete}
 use native.Mathlib.Omega.{arith}
 use lib.ListN.{length, get_or, drop, replicate, length-replicate, length-drop}
 use lib.Seq.{length-take-le, get_or-take, get_or-drop}
@@ -17,9 +17,8 @@ use Rattle.layout.specs.declared.Header.{Header}
 use Rattle.layout.specs.Header.{width, raw_size, header_fits, is_full, is_filled, first_of, stripe_of}
 use Rattle.layout.specs.Records.{record_in, replaced}
 use Rattle.layout.specs.Refusals.{if_taken}
-use Rattle.layout.proofs.Refusals.{if_taken_lem, if_refused}
+use Rattle.layout.proofs.Refusals.{if_taken_lem}
 use Rattle.layout.proofs.StripePlaces.{first_level}
-use Rattle.image.specs.Erasures.{erasures_in}
 use Rattle.image.proofs.ImageRefusals.{whole}
 use Rattle.judging.specs.Decoding.{Decoded, failed, decoded, block_number, block_data}
 use Rattle.judging.proofs.Proved as Judged
@@ -28,19 +27,17 @@ use Rattle.judging.proofs.StripeNumbers.{stripe_fits}
 use Rattle.taking_back.proofs.FindingBack.{each_record}
 use Rattle.range_laying.specs.Laid.{laid, origins_laid}
 use Rattle.range_laying.proofs.PairLoops.{length_pairs, pair_at, same_pair}
-use Rattle.stripe_decoding.specs.Decoding.{decode_stripe}
-use Rattle.recovery.specs.Verdicts.{Verdict}
-use Rattle.recovery.specs.Recovery.{Layer, Recovered, stripes_over, records}
+use Rattle.recovery.specs.Recovery.{Layer, stripes_over, records, recover}
 use Rattle.recovery.specs.Origins.{origins_size, full_origins, origins}
-use Rattle.recovery.specs.RecoveryCall.{recover_early, recover_leaves, unnamed, answer_of, recovered_words}
+use Rattle.recovery.specs.RecoveryCall.{recover_early, unnamed, recovered_words}
 use Rattle.explanation.specs.ExplainCall.{explain_early, explain_origins}
-use Rattle.vault.specs.promises.Decoding.{marks, words_in, Decodes}
+use Rattle.vault.specs.promises.Decoding.{marks, words_in}
 use Rattle.vault.specs.promises.Losses.{Needed}
-use Rattle.vault.specs.promises.Recovering.{LastBlock, RecoverHolds, ExplainHolds}
+use Rattle.vault.specs.promises.Recovering.{in_image, AllDecode, LastBlock, RecoverHolds, ExplainHolds}
 use Rattle.vault.proofs.LastWrites.{Last, Holds, Written, written_none, written_more}
+use Rattle.vault.proofs.Recovering.{call_answer, when_taken}
 use Rattle.vault.proofs.RoundRecovery.{levels_keep}
 use Rattle.vault.proofs.StripeCall.{needed_within}
-use Rattle.vault.proofs.StripesEnd.{all_if, stripes_end}
 
 -- BLOCKS that are records: how many words they are, and their numbers
 pub record Blocks (h : Header) (l : ℕ) (bs : List ℕ) : Type 0 where
@@ -51,9 +48,13 @@ pub record Blocks (h : Header) (l : ℕ) (bs : List ℕ) : Type 0 where
 not_failed : {d : Decoded} {bs : List ℕ} (n : ℕ) → d ≡ decoded bs → d ≡ failed n → ⊥
 not_failed n p q = cc
 
--- those of a stripe that decodes are
-pub decoded_blocks : (h : Header) (m e : List ℕ) (l : ℕ) (bs : List ℕ) → header_fits h ≡ true → l ≤ h.k → Decodes h m e l bs → Blocks h l bs
-decoded_blocks h m e l bs fits within p =
+-- WHAT STRIPES DECODE TO, where they do, are such blocks
+abbrev pub AreBlocks : Header → (d : ℕ → Decoded) → Type 0
+AreBlocks h d = (l : ℕ) (bs : List ℕ) → l ≤ h.k → d l ≡ decoded bs → Blocks h l bs
+
+-- in one image they are
+pub decoded_blocks : (h : Header) (m e : List ℕ) → header_fits h ≡ true → AreBlocks h (in_image h m e)
+decoded_blocks h m e fits l bs within p =
     let st : Stripe = stripe_of h l in
     let R = (Judged.proved).else_readable st (marks h e l) (words_in h m l) (stripe_fits h l fits within) (not_failed 7 p) (not_failed 8 p) in
     let t = ((Judged.proved).decodes_iff st (marks h e l) (words_in h m l) bs R).0 p in
@@ -93,12 +94,8 @@ reaches : {k l l' : ℕ} → l ≤ k → l' ≤ k → (l < k → l' ≤ l) → l
 reaches w w' g = ⊎_elim (λ q. omega arith) g (eq-or-lt_of_le w)
 
 -- WHERE ALL STRIPES DECODE, what the last block for a record lays stays there
-module _ {h : Header} {m e : List ℕ} {i l j : ℕ} {bs : List ℕ} (B : LastBlock h m e i l bs j) (fits : header_fits h ≡ true)
-    (all : (l' : ℕ) → Needed h l' → (cs : List ℕ) × Decodes h m e l' cs)
+module _ {h : Header} {d : ℕ → Decoded} {i l j : ℕ} {bs : List ℕ} (B : LastBlock h d i l bs j) (are : AreBlocks h d) (all : AllDecode h d)
     {y : Layer} {s : ℕ} {data_of : (stripe : ℕ) → (blocks : List ℕ) → (j : ℕ) → List ℕ} (Y : Lays h y s data_of) where
-  abbrev d : ℕ → Decoded
-  d = decode_stripe h m (erasures_in e)
-
   abbrev blocks : ℕ → List ℕ
   blocks l' = blocks_of (d l')
 
@@ -109,7 +106,7 @@ module _ {h : Header} {m e : List ℕ} {i l j : ℕ} {bs : List ℕ} (B : LastBl
   is_decoded l' n = let p = (all l' n).1 in p ∙ ap decoded (sym (ap blocks_of p))
 
   are_blocks : (l' : ℕ) → Needed h l' → Blocks h l' (blocks l')
-  are_blocks l' n = decoded_blocks h m e l' (blocks l') fits (needed_within h l' n) (is_decoded l' n)
+  are_blocks l' n = are l' (blocks l') (needed_within h l' n) (is_decoded l' n)
 
   -- it is there when the stripes from l' on are laid, if its own is among them
   record Placed (l' : ℕ) (r : List ℕ) : Type 0 where
@@ -188,27 +185,13 @@ module _ {h : Header} {m e : List ℕ} {i l j : ℕ} {bs : List ℕ} (B : LastBl
       let t = levels_keep h d y blocks Placed (λ l' b f. is_decoded l' (inr (b, f))) lay_level past_level h.k (y.full (blocks h.k)) (le_refl h.k) lay_full in
       rw (is_decoded h.k needed_full, t.1) (t.2.here (λ b. omega arith))
 
--- A CALL THAT GIVES 0: its tests gave 0, so that it leaves what the stripes come to, and they all decode
-pub none_early : (early : ℕ) (x : Verdict) → if_taken early x (unnamed early) ≡ unnamed 0 → early ≡ 0
-none_early early x taken = go (ℕ_discrete early 0)
-  where
-    go : Dec (early ≡ 0) → early ≡ 0
-    go (yes q) = q
-    go (no f) = ap (λ (a : Verdict). a.number) (sym (if_refused x (unnamed early) f) ∙ taken)
-
-abbrev came : Header → (image erasures : List ℕ) → Layer → Recovered
-came h m e y = stripes_over h (decode_stripe h m (erasures_in e)) y
-
-call_leaves : {h : Header} {m e : List ℕ} {y : Layer} {s : ℕ} {data_of : (stripe : ℕ) → (blocks : List ℕ) → (j : ℕ) → List ℕ} {i l j : ℕ} {bs : List ℕ}
-    → Lays h y s data_of → LastBlock h m e i l bs j → (early size : ℕ) (out : List ℕ) → (early ≡ 0 → header_fits h ≡ true)
-    → if_taken early (answer_of (came h m e y)) (unnamed early) ≡ unnamed 0
-    → record_in s (if_taken early (recovered_words (came h m e y) size) out) i ≡ data_of l bs j
-call_leaves {h} {m} {e} {y} {s} {i = i} Y B early size out fits taken =
-    let x : Recovered = came h m e y in
-    let z : early ≡ 0 = none_early early (answer_of x) taken in
-    let all = all_if (decode_stripe h m (erasures_in e)) (stripes_end h (decode_stripe h m (erasures_in e)) y)
-    (sym (if_taken_lem (answer_of x) (unnamed early) z) ∙ taken) in
-    ap (λ (r : List ℕ). record_in s r i) (if_taken_lem (recovered_words x size) out z) ∙ stays B (fits z) all Y size
+-- A CALL THAT GIVES 0 leaves what the stripes come to
+call_leaves : {h : Header} {d : ℕ → Decoded} {y : Layer} {s : ℕ} {data_of : (stripe : ℕ) → (blocks : List ℕ) → (j : ℕ) → List ℕ} {i l j : ℕ} {bs : List ℕ}
+    → Lays h y s data_of → LastBlock h d i l bs j → (early size : ℕ) (out : List ℕ) → (early ≡ 0 → AreBlocks h d) → call_answer h d y early ≡ unnamed 0
+    → record_in s (if_taken early (recovered_words (stripes_over h d y) size) out) i ≡ data_of l bs j
+call_leaves {h} {d} {y} {s} {i = i} Y B early size out are taken =
+    let t = when_taken h d y early taken in
+    ap (λ (r : List ℕ). record_in s r i) (if_taken_lem (recovered_words (stripes_over h d y) size) out t.0) ∙ stays B (are t.0) t.1 Y size
 
 -- THE CALL `recover` lays the blocks' data
 length_data : (s n : ℕ) (bs : List ℕ) (j : ℕ) → length bs ≡ n * suc s → j < n → length (block_data (suc s) bs j) ≡ s
@@ -234,14 +217,20 @@ records_lay h = record {
   over = λ l bs r b K long. data_laid h l bs r K long;
 }
 
-pub recover_holds : RecoverHolds
-recover_holds h m e out scratch i l j q bs taken B b =
-    let xs = recover_leaves h m e out scratch in
-    let same : record_in h.s xs i ≡ block_data (width h) bs j =
-    call_leaves (records_lay h) B (recover_early h m e out scratch) (raw_size h) out (λ z. (whole h m e _ z).fits) taken in
+-- so that a word of record i is one of its last block's data, in whatever call gives 0
+pub data_holds : (h : Header) (d : ℕ → Decoded) (early : ℕ) (out : List ℕ) {i l j : ℕ} (q : ℕ) {bs : List ℕ} → (early ≡ 0 → AreBlocks h d)
+    → call_answer h d (records h) early ≡ unnamed 0 → LastBlock h d i l bs j → q < h.s
+    → get_or (if_taken early (recovered_words (recover h d) (raw_size h)) out) (i * h.s + q) 0 ≡ get_or bs (j * suc h.s + suc q) 0
+data_holds h d early out {i} {j = j} q {bs} are taken B b =
+    let xs = if_taken early (recovered_words (recover h d) (raw_size h)) out in
+    let same : record_in h.s xs i ≡ block_data (width h) bs j = call_leaves (records_lay h) B early (raw_size h) out are taken in
     sym (get_or-take h.s (drop (i * h.s) xs) q 0 b ∙ get_or-drop (i * h.s) xs q 0) ∙ ap (λ (r : List ℕ). get_or r q 0) same
     ∙ get_or-take h.s (drop (suc (j * suc h.s)) bs) q 0 b ∙ get_or-drop (suc (j * suc h.s)) bs q 0
     ∙ ap (λ (n : ℕ). get_or bs n 0) {x = suc (j * suc h.s) + q} {y = j * suc h.s + suc q} (omega arith)
+
+pub recover_holds : RecoverHolds
+recover_holds h m e out scratch i l j q bs =
+    data_holds h (in_image h m e) (recover_early h m e out scratch) out q (λ z. decoded_blocks h m e (whole h m e _ z).fits)
 
 -- THE CALL `explain` lays their origins: the full stripe's are there from the start
 abbrev pair_of : Header → (stripe j : ℕ) → List ℕ
@@ -281,4 +270,4 @@ pair_words h l j xs i within b same = ⊎_elim at_full at_level (eq-or-lt_of_le 
 pub explain_holds : ExplainHolds
 explain_holds h m e n o s i l j bs taken B =
     pair_words h l j (explain_origins h m e n o s) i (needed_within h l B.needed) B.among
-    (call_leaves (origins_lay h) B (explain_early h m e n o s) (origins_size h) o (λ z. (whole h m e _ z).fits) taken)
+    (call_leaves (origins_lay h) B (explain_early h m e n o s) (origins_size h) o (λ z. decoded_blocks h m e (whole h m e _ z).fits) taken)

@@ -1,5 +1,5 @@
 -- WHAT OPENING, READING, THE IMAGE AND THE POWERS LEAVE, by the call's number: of the room Leaving of specs/promises. LeavingStripes has decoding,
--- LeavingLayers recovery and explaining. Assumes nothing.
+-- LeavingLayers recovery and explaining, TwoLeaving and TwoShelves the calls on two readings. Assumes nothing.
 use mathlib.Core.Path.{◌≡◌, sym, ap, ◌∙◌, subst}
 use mathlib.Core.Bool.{◌&&◌}
 use mathlib.Core.List.{List, [], ◌∷◌, ◌++◌}

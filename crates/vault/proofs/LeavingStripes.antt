@@ -1,95 +1,83 @@
--- WHAT DECODING LEAVES, by the call's number: of the room Leaving of specs/promises. A call that is lent an image gives 1 to 6 by a test before decoding, and 7
--- and more by what a stripe decodes to. Assumes nothing.
-use mathlib.Core.Path.{◌≡◌, refl, sym, ap, ◌∙◌}
+-- WHAT DECODING LEAVES, by the call's number: of the room Leaving of specs/promises. A call that is lent images gives 7 to 10 by what a stripe decodes to, and
+-- any other number by a test before decoding. Assumes nothing.
+use mathlib.Core.Path.{◌≡◌, sym, ap, ◌∙◌, subst}
 use mathlib.Core.Bool.{Bool, true, false}
-use mathlib.Core.Logic.{◌⊎◌, inl, inr}
+use mathlib.Core.Logic.{inl, inr, ⊎_elim}
 use mathlib.Core.List.{List}
 use Prim.Native.Nat.{ℕ, ◌-◌, ◌≤◌, ◌<◌}
 use native.Mathlib.Decide.{dec_lt}
 use native.Mathlib.Omega.{arith}
-use lib.Dec.{ltb}
 use lib.ListN.{length, replicate, length-replicate, length-append}
-use Rattle.field.proofs.Booleans.{if_else}
-use Rattle.code.specs.declared.Stripe.{Stripe}
-use Rattle.code.specs.Stripe.{modulus_of, block_count}
-use Rattle.decoder.specs.Decoding.{survivors, is_consistent, blocks_in}
 use Rattle.layout.specs.declared.Header.{Header}
 use Rattle.layout.specs.Header.{header_fits, out_size, scratch_size, image_size, has_stripe, stripe_of}
 use Rattle.layout.specs.Refusals.{Tests, done, test, refusal}
 use Rattle.layout.proofs.Refusals.{three_equal, passes, if_taken_lem, if_refused}
-use Rattle.image.specs.Loading.{rows_in, are_below}
-use Rattle.image.specs.Erasures.{erasures_in, marks_of, erasures_fit}
-use Rattle.judging.specs.Decoding.{Decoded, failed, decoded, decoded_number, decoded_words, are_records, decode_rows}
+use Rattle.image.specs.Erasures.{erasures_in, erasures_fit}
+use Rattle.judging.specs.Decoding.{Decoded, decoded_number, decoded_words}
 use Rattle.stripe_decoding.specs.Decoding.{decode_stripe}
 use Rattle.stripe_decoding.specs.StripeCall.{decode_early, decode_number}
 use Rattle.stripe_decoding.proofs.DecodedWords.{Comes, fails, gives, comes, blocks_inside}
 use Rattle.vault.specs.promises.Leaving.{DecodeRefused, DecodeFailed, DecodeTaken}
+use Rattle.vault.proofs.ImageNumbers.{Fault, OfStripe, rows_number}
 use Rattle.vault.proofs.StripeCall.{asked_within, leaves_zeros}
 
--- THE TESTS before decoding give no number above 6
-abbrev pub Low : Tests → Type 0
-Low ts = refusal ts ≤ 6
+-- THE NUMBERS OF TESTS before decoding are others than those of a fault
+abbrev pub OfTests : ℕ → Type 0
+OfTests n = Fault n → ⊥
 
-pub low_done : Low done
+pub low_other : {n : ℕ} → n ≤ 6 → OfTests n
+low_other low f = omega arith
+
+-- what holds of 0 and of the number of each test holds of what they give
+pub of_none : (P : ℕ → Type 0) → P 0 → P (refusal done)
 unfolding refusal
-low_done = omega arith
+of_none P p = p
 
-pub low_test : (b : Bool) (n : ℕ) (ts : Tests) → n ≤ 6 → Low ts → Low (test b n ts)
+pub of_test : (P : ℕ → Type 0) (b : Bool) (n : ℕ) (ts : Tests) → P n → P (refusal ts) → P (refusal (test b n ts))
 unfolding refusal
-low_test true n ts p q = q
-low_test false n ts p q = p
+of_test P true n ts p q = q
+of_test P false n ts p q = p
 
--- AND DECODING OF A STRIPE gives none below 7, but 0
-abbrev pub Late : Decoded → Type 0
-Late d = (n : ℕ) → d ≡ failed n → 7 ≤ n
+-- the tests of one image give none above 6, if those that follow do not
+abbrev Low : ℕ → Type 0
+Low n = n ≤ 6
 
-late_failed : (m : ℕ) → 7 ≤ m → Late (failed m)
-late_failed m p n e = let q : m ≡ n = cc in omega arith
+pub low_done : refusal done ≤ 6
+low_done = of_none Low (omega arith)
 
-late_decoded : (bs : List ℕ) → Late (decoded bs)
-late_decoded bs n e = absurd (let z : ⊥ = cc in z)
-
-late_either : (b : Bool) (x y : Decoded) → Late x → Late y → Late (if_else b x y)
-late_either true x y p q = p
-late_either false x y p q = q
-
-pub late_rows : (st : Stripe) (ms : List Bool) (ws : List ℕ) → Late (decode_rows st ms ws)
-late_rows st ms ws =
-    let r = rows_in st ms ws in
-    let bs = blocks_in st ms r in
-    let judged : Decoded = if_else (are_records st bs (block_count st)) (decoded bs) (failed 10) in
-    let nine : Decoded = if_else (is_consistent st ms r) judged (failed 9) in
-    let eight : Decoded = if_else (are_below (modulus_of st) r) nine (failed 8) in
-    late_either (ltb (length (survivors st.level ms)) (block_count st)) (failed 7) eight (late_failed 7 (omega arith))
-    (late_either (are_below (modulus_of st) r) nine (failed 8)
-    (late_either (is_consistent st ms r) judged (failed 9)
-    (late_either (are_records st bs (block_count st)) (decoded bs) (failed 10) (late_decoded bs) (late_failed 10 (omega arith))) (late_failed 9 (omega arith)))
-    (late_failed 8 (omega arith)))
+pub low_image : (h : Header) (sizes : Bool) (e : List ℕ) (rest : Tests) → refusal rest ≤ 6
+    → refusal (test (header_fits h) 1 (test sizes 2 (test (erasures_fit h e) 3 rest))) ≤ 6
+low_image h sizes e rest low =
+    of_test Low (header_fits h) 1 _ (omega arith) (of_test Low sizes 2 _ (omega arith) (of_test Low (erasures_fit h e) 3 rest (omega arith) low))
 
 -- A CALL'S NUMBER is that of the tests, or where they give 0 what comes of decoding
 pub record Numbered (early given n : ℕ) : Type 0 where
-  pub low : early ≤ 6
-  pub late : 1 ≤ given → 7 ≤ given
+  pub tested : OfTests early
+  pub late : OfStripe given
   pub asked : early ≡ 0 → n ≡ given
   pub refused : (early ≡ 0 → ⊥) → n ≡ early
 
 module _ {early given n : ℕ} (N : Numbered early given n) where
-  pub is_refused : 1 ≤ n → n ≤ 6 → early ≡ 0 → ⊥
-  is_refused a b z = let e = N.asked z in let c : 7 ≤ given = N.late (omega arith) in omega arith
+  pub is_refused : 1 ≤ n → OfTests n → early ≡ 0 → ⊥
+  is_refused a other z = let e = N.asked z in ⊎_elim (λ t. omega arith) (λ f. other (subst Fault (sym e) f)) N.late
 
-  pub is_asked : (n ≡ 0) ⊎ (7 ≤ n) → early ≡ 0
+  pub is_asked : OfStripe n → early ≡ 0
   is_asked q = by (dec_lt 0 early) q
     where
-      by : Dec (0 < early) → (n ≡ 0) ⊎ (7 ≤ n) → early ≡ 0
+      by : Dec (0 < early) → OfStripe n → early ≡ 0
       by (no y) q = omega arith
-      by (yes y) (inl z) = let e = N.refused (λ t. omega arith) in omega (arith, N.low)
-      by (yes y) (inr z) = let e = N.refused (λ t. omega arith) in omega (arith, N.low)
+      by (yes y) (inl z) = let e = N.refused (λ t. omega arith) in omega arith
+      by (yes y) (inr f) = absurd (N.tested (subst Fault (N.refused (λ t. omega arith)) f))
+
+  -- of a call on one image it is not above 10
+  pub at_most_ten : early ≤ 6 → n ≤ 10
+  at_most_ten low = by (dec_lt 0 early)
+    where
+      by : Dec (0 < early) → n ≤ 10
+      by (yes y) = omega (arith, N.refused (λ t. omega arith))
+      by (no y) = let e = N.asked (omega arith) in ⊎_elim (λ z. omega arith) (λ f. omega (arith, f.1)) N.late
 
 -- THE CALL `decode`
-late_number : (d : Decoded) → Late d → 1 ≤ decoded_number d → 7 ≤ decoded_number d
-late_number (failed n) p b = p n refl
-late_number (decoded bs) p b = absurd (omega arith)
-
 words_long : {n : ℕ} (d : Decoded) (size : ℕ) → Comes n d → n ≤ size → length (decoded_words d size) ≡ size
 words_long d size (fails x u q) b = ap (λ (y : Decoded). length (decoded_words y size)) q ∙ length-replicate size 0
 words_long d size (gives bs q long) b =
@@ -103,11 +91,13 @@ module _ (h : Header) (m e : List ℕ) (l : ℕ) (out scratch : List ℕ) where
   abbrev found : Decoded
   found = decode_stripe h m (erasures_in e) l
 
+  early_low : early ≤ 6
+  early_low = low_image h _ e (test (has_stripe h l) 6 done) (of_test Low (has_stripe h l) 6 done (omega arith) low_done)
+
   numbered : Numbered early (decoded_number found) (decode_number h m e l out scratch)
   numbered = record {
-    low = low_test (header_fits h) 1 _ (omega arith)
-        (low_test _ 2 _ (omega arith) (low_test (erasures_fit h e) 3 _ (omega arith) (low_test (has_stripe h l) 6 done (omega arith) low_done)));
-    late = late_number found (late_rows (stripe_of h l) (marks_of h (erasures_in e) l) _);
+    tested = low_other early_low;
+    late = rows_number _ _ _;
     asked = λ z. if_taken_lem (decoded_number found) early z;
     refused = λ d. if_refused (decoded_number found) early d;
   }
@@ -122,12 +112,13 @@ module _ (h : Header) (m e : List ℕ) (l : ℕ) (out scratch : List ℕ) where
 
 pub decode_refused : DecodeRefused
 decode_refused h m e l out scratch a b =
-    let d = is_refused (numbered h m e l out scratch) a b in
+    let d = is_refused (numbered h m e l out scratch) a (low_other b) in
     (if_refused (decoded_words (found h m e l out scratch) (out_size h)) out d, if_refused (replicate (scratch_size h) 0) scratch d)
 
 pub decode_failed : DecodeFailed
 decode_failed h m e l out scratch b =
-    let z = is_asked (numbered h m e l out scratch) (inr b) in
+    let N = numbered h m e l out scratch in
+    let z = is_asked N (inr (b, at_most_ten N (early_low h m e l out scratch))) in
     let long = lengths h m e l out scratch z in
     let left = leaves_zeros h m e l out scratch z in
     (left.0 (λ q. omega arith) ∙ ap (λ (n : ℕ). replicate n 0) (sym long.0), left.1 ∙ ap (λ (n : ℕ). replicate n 0) (sym long.1))

@@ -49,6 +49,13 @@ pub mod StripesEnd
 pub mod Table
 pub mod TakingBackHistories
 pub mod TakingBackRounds
+pub mod TwoAgreeing
+pub mod TwoExchanged
+pub mod TwoHistories
+pub mod TwoLeaving
+pub mod TwoNumbers
+pub mod TwoRecovering
+pub mod TwoShelves
 pub mod Worked
 pub mod Writing
 pub mod WrittenLog

@@ -11,7 +11,9 @@ use lib.ListN.{length, get_or, drop}
 use lib.Seq.{get_or-take, get_or-drop}
 use Rattle.layout.specs.declared.Header.{Header}
 use Rattle.layout.specs.Header.{record_count, width, is_filled, first_of}
+use Rattle.image.specs.Erasures.{erasures_in}
 use Rattle.judging.specs.Decoding.{block_number}
+use Rattle.stripe_decoding.specs.Decoding.{decode_stripe}
 use Rattle.range_laying.specs.Laid.{origins_laid}
 use Rattle.recovery.specs.Origins.{origins_size, full_origins, origins}
 use Rattle.explanation.specs.ExplainCall.{explain_origins}
@@ -25,7 +27,7 @@ use Rattle.vault.proofs.Levels.{filled_in}
 use Rattle.vault.proofs.Laying.{no_entry, entry_at, number_at}
 use Rattle.vault.proofs.Rounds.{Good, length_entries}
 use Rattle.vault.proofs.Histories.{model_is}
-use Rattle.vault.proofs.RoundDecoding.{level_taken}
+use Rattle.vault.proofs.RoundDecoding.{level_taken, takes_one, round_decodes}
 use Rattle.vault.proofs.RoundRecovery.{multiple_falls, multiple_filled, multiple_empty, multiple_all, multiple_none, stripes_keep}
 use Rattle.vault.proofs.ExplainedRounds.{OfRound, explained_header, explained_round}
 use Rattle.vault.proofs.LastWrites.{Written, written_none, written_more, one_last, numbers, last_write}
@@ -99,7 +101,8 @@ module _ {a : Round} (good : Good a) where
       let xs = explain_origins h m e n g s in
       (length xs ≡ origins_size h) × ((i : ℕ) → i < 2 ^ a.k → Origin h (model_in a) i (get_or xs (2 * i) 0) (get_or xs (2 * i + 1) 0))
   explained {m} {e} R K =
-      let r = stripes_keep good e m K R.same (origins h) (λ (l : ℕ) (o : List ℕ). Named (h.c / 2 ^ l * 2 ^ l) o)
+      let D = round_decodes good (decode_stripe h m (erasures_in e)) (takes_one K R.same) in
+      let r = stripes_keep good D (origins h) (λ (l : ℕ) (o : List ℕ). Named (h.c / 2 ^ l * 2 ^ l) o)
       (λ l o b f w. lay_level l b f o w) (λ l o f w. rw (multiple_empty h.c l f) at w)
       (rw (multiple_none h.c a.k good.few) (written_none (length_pairs (λ i. a.k) (λ i. 0) (2 ^ a.k)))) in
       let w : Named h.c r.0 = rw (multiple_all h.c) at r.2 in

@@ -17,8 +17,8 @@ use Rattle.vault.proofs.LeavingStripes.{decode_refused, decode_failed, decode_ta
 use Rattle.vault.proofs.LeavingLayers.{recover_refused, recover_failed, recover_taken, explain_refused, explain_failed, explain_taken}
 use Rattle.vault.proofs.CodeGrowth.{code_begins, code_mixes}
 use Rattle.vault.proofs.Coding.{codes_iff, blocks_are, full_codes}
-use Rattle.vault.proofs.AnswerLaws.{number_read, opening_read, write_read, part_read, verdict_read, header_has, buffers_have, open_answers, write_answers}
-use Rattle.vault.proofs.AnswerLaws.{back_answers}
+use Rattle.vault.proofs.AnswerLaws.{number_read, opening_read, write_read, part_read, verdict_read, place_read, header_has, buffers_have}
+use Rattle.vault.proofs.AnswerLaws.{open_answers, write_answers, back_answers}
 use Rattle.vault.proofs.Writing.{write_puts, write_counts, write_keeps, write_reduces, write_ends}
 use Rattle.vault.proofs.LastBlocks.{recover_holds, explain_holds}
 use Rattle.vault.proofs.Recovering.{answers_say, stops_iff, taken_iff, explain_stops_iff, explain_taken_iff}
@@ -28,10 +28,18 @@ use Rattle.vault.proofs.ExplainedRounds.{explains_why}
 use Rattle.vault.proofs.LastWrites.{last_is_record, else_at_start}
 use Rattle.vault.proofs.Origins.{origins_true, one_origin}
 use Rattle.vault.proofs.Blanks.{gives_eleven, else_as_earlier, five_not_blank, refused_stays, opens_iff, zeros_open, blank_refused, blank_kept}
-use Rattle.vault.proofs.Boundary.{part_is, part_at, shelf_is, none_named, none_explained}
+use Rattle.vault.proofs.Boundary.{part_is, part_at, shelf_is, none_named, none_explained, none_named_of_two}
+use Rattle.vault.proofs.TwoAgreeing.{differ_iff}
+use Rattle.vault.proofs.TwoExchanged.{choice_is, exchanged_shelf, exchanged_stripe, exchanged, twice_is_once}
+use Rattle.vault.proofs.TwoHistories.{two_recover, two_no_other, never_differ, shelf_after}
+use Rattle.vault.proofs.TwoLeaving.{two_refused, two_failed, two_taken}
+use Rattle.vault.proofs.TwoNumbers.{recover_two_numbers, two_asked_iff, shelf_of_two_numbers}
+use Rattle.vault.proofs.TwoRecovering.{two_stops_iff, two_taken_iff, seven_of_two, two_has_last, two_holds}
+use Rattle.vault.proofs.TwoShelves.{shelf_bytes, shelf_decodes, shelf_refused, place_is, place_at}
 use Rattle.vault.proofs.Openings.{header_as_opened, records_as_opened, before_as_opened, last_as_opened, start_as_opened, refused_as_opened, kept_as_opened}
 use Rattle.vault.proofs.Worked.{worked, worked_blanks, worked_bytes, worked_stripes, worked_strays, worked_faults, worked_histories}
 use Rattle.vault.proofs.Worked.{worked_halves, worked_numbers, worked_answers, worked_back, worked_back_faults, worked_back_histories}
+use Rattle.vault.proofs.Worked.{worked_two, worked_two_faults, worked_shelves}
 use Rattle.vault.proofs.TakingBackHistories.{back_after, model_takes, back_undoes, back_again, back_to_start}
 use Rattle.vault.proofs.BackLeaves.{back_scratch, back_puts, back_log}
 use Rattle.vault.proofs.BackNumbers.{back_numbers}
@@ -124,6 +132,9 @@ proved = record {
     recover_numbers = recover_numbers;
     explain_numbers = explain_numbers;
     explain_asked_iff = explain_asked_iff;
+    recover_two_numbers = recover_two_numbers;
+    two_asked_iff = two_asked_iff;
+    shelf_of_two_numbers = shelf_of_two_numbers;
     powers_numbers = powers_numbers;
   };
   leaving = record {
@@ -141,6 +152,10 @@ proved = record {
     recover_refused = recover_refused;
     recover_failed = recover_failed;
     recover_taken = recover_taken;
+    two_refused = two_refused;
+    two_failed = two_failed;
+    two_taken = two_taken;
+    shelf_refused = shelf_refused;
     explain_refused = explain_refused;
     explain_failed = explain_failed;
     explain_taken = explain_taken;
@@ -176,6 +191,7 @@ proved = record {
     opening_read = opening_read;
     write_read = write_read;
     part_read = part_read;
+    place_read = place_read;
     verdict_read = verdict_read;
     header_has = header_has;
     buffers_have = buffers_have;
@@ -203,7 +219,35 @@ proved = record {
     blank_refused = blank_refused;
     blank_kept = blank_kept;
   };
-  boundary = record { part_is = part_is; part_at = part_at; shelf_is = shelf_is; none_named = none_named; none_explained = none_explained };
+  boundary = record {
+    part_is = part_is;
+    part_at = part_at;
+    place_is = place_is;
+    place_at = place_at;
+    shelf_is = shelf_is;
+    none_named = none_named;
+    none_explained = none_explained;
+    none_named_of_two = none_named_of_two;
+  };
+  two_readings = record {
+    two_recover = two_recover;
+    two_no_other = two_no_other;
+    never_differ = never_differ;
+    shelf_after = shelf_after;
+    differ_iff = differ_iff;
+    choice_is = choice_is;
+    two_stops_iff = two_stops_iff;
+    two_taken_iff = two_taken_iff;
+    seven_of_two = seven_of_two;
+    two_has_last = two_has_last;
+    two_holds = two_holds;
+    exchanged_shelf = exchanged_shelf;
+    exchanged_stripe = exchanged_stripe;
+    exchanged = exchanged;
+    twice_is_once = twice_is_once;
+    shelf_bytes = shelf_bytes;
+    shelf_decodes = shelf_decodes;
+  };
   openings = record {
     header_as_opened = header_as_opened;
     records_as_opened = records_as_opened;
@@ -226,4 +270,7 @@ proved = record {
   worked_back = worked_back;
   worked_back_faults = worked_back_faults;
   worked_back_histories = worked_back_histories;
+  worked_two = worked_two;
+  worked_two_faults = worked_two_faults;
+  worked_shelves = worked_shelves;
 }

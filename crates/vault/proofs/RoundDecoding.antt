@@ -1,7 +1,8 @@
--- What an image of a round's words decodes to: the full stripe to the records of the round's start, a filled level to the writes that it holds.
--- Assumes nothing.
+-- What an image of a round's words decodes to: the full stripe to the records of the round's start, a filled level to the writes that it holds. Each stripe may
+-- be taken from another image. Assumes nothing.
 use mathlib.Core.Path.{◌≡◌, refl, sym, ap, ap₂, ◌∙◌}
 use mathlib.Core.Bool.{Bool, true, false}
+use mathlib.Core.Logic.{inl, inr}
 use mathlib.Core.List.{List, ◌++◌}
 use Prim.Native.Nat.{ℕ, zero, suc, ◌+◌, ◌*◌, ◌^◌, ◌≤◌, ◌<◌}
 use native.Mathlib.Nat.{add_assoc, zero-add, le_refl}
@@ -22,12 +23,12 @@ use Rattle.layout.specs.Records.{are_data}
 use Rattle.store.specs.Buffers.{full_stripe, blocks_of}
 use Rattle.image.specs.Image.{image_of, word_at}
 use Rattle.image.specs.Erasures.{erasures_in}
-use Rattle.judging.specs.Decoding.{decoded, number_fits, block_number, block_data, is_record, are_records}
+use Rattle.judging.specs.Decoding.{Decoded, decoded, number_fits, block_number, block_data, is_record, are_records}
 use Rattle.stripe_decoding.specs.Decoding.{decode_stripe}
 use Rattle.vault.specs.Event.{Entry}
 use Rattle.vault.specs.Round.{Round, rows_of, round_header, level_entries, level_words, log_words}
-use Rattle.vault.specs.promises.Decoding.{marks}
-use Rattle.vault.specs.promises.Losses.{SameStripe}
+use Rattle.vault.specs.promises.Decoding.{marks, Half}
+use Rattle.vault.specs.promises.Losses.{Needed, KeepsHalf, SameStripe, SameWords}
 use Rattle.layout.proofs.RecordWords.{are_data_lem, field_words}
 use Rattle.store.proofs.StoredRecords.{length_full}
 use Rattle.vault.proofs.Levels.{level_filled, level_empty, level_place}
@@ -157,3 +158,35 @@ module _ {a : Round} (good : Good a) where
         (λ q b. full_at q b ∙ ap₂ (λ (t : ℕ) (x : List ℕ). get_or (coded_rows 65537 (vault_root h) a.k a.k t (width h) x) q 0)
         (sym (first_full h a.k refl)) start_rows)
         ∙ ap decoded (sym start_rows)
+
+-- A STRIPE TAKEN from an image with the words of another that survive, under a list that leaves half of it; and a decoding that takes each needed one so
+pub record TakenFrom (h : Header) (original : List ℕ) (l : ℕ) (x : Decoded) : Type 0 where
+  pub image : List ℕ
+  pub erasures : List ℕ
+  pub is : x ≡ decode_stripe h image (erasures_in erasures) l
+  pub half : Half h erasures l
+  pub same : SameStripe h erasures original image l
+
+abbrev pub TakesAll : Header → (original : List ℕ) → (decoding : ℕ → Decoded) → Type 0
+TakesAll h original d = (l : ℕ) → Needed h l → TakenFrom h original l (d l)
+
+-- one image and its list are such a decoding
+pub takes_one : {h : Header} {e original m : List ℕ} → KeepsHalf h e → SameWords h e original m → TakesAll h original (decode_stripe h m (erasures_in e))
+takes_one {e} {m} K S l need = record { image = m; erasures = e; is = refl; half = K.half l need; same = S.same l need }
+
+-- of a round's image it gives what the round's stripes code
+pub record DecodesTo (h : Header) (a : Round) (d : ℕ → Decoded) : Type 0 where
+  pub full : d h.k ≡ decoded (blocks_of h a.base)
+  pub levels : (l : ℕ) → l < h.k → is_filled h l ≡ true → d l ≡ decoded (rows_of (level_entries h a.since l))
+
+pub round_decodes : {a : Round} → Good a → (d : ℕ → Decoded)
+    → TakesAll (round_header a) (image_of (full_stripe (round_header a) a.base) (log_words (round_header a) a.since a.k)) d
+    → DecodesTo (round_header a) a d
+round_decodes {a} good d T =
+    let f = T a.k (inl (eq-eqb a.k a.k refl)) in
+    record {
+      full = f.is ∙ full_decodes good f.erasures f.image f.same f.half;
+      levels = λ l b filled.
+          let t = T l (inr (b, filled)) in
+          t.is ∙ level_decodes good t.erasures t.image l b filled t.same t.half;
+    }

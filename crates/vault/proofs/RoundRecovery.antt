@@ -1,8 +1,7 @@
--- What the stripes of a round's image come to where they keep half, for any layer: the full stripe gives the words of the round's start, and each filled level
--- lays the writes after those of the levels above it. So recovery gives the round's records. Assumes nothing.
+-- What the stripes of a round come to where they decode, for any layer: the full stripe gives the words of the round's start, and each filled level lays the
+-- writes after those of the levels above it. So recovery gives the round's records. Assumes nothing.
 use mathlib.Core.Path.{◌≡◌, refl, sym, ap, ◌∙◌}
 use mathlib.Core.Bool.{Bool, true, false}
-use mathlib.Core.Logic.{inl, inr}
 use mathlib.Core.List.{List, [], ◌++◌}
 use Prim.Native.Nat.{ℕ, zero, suc, ◌+◌, ◌*◌, ◌-◌, ◌/◌, ◌%◌, ◌^◌, ◌≤◌, ◌<◌}
 use native.Mathlib.Nat.{pow-succ', div-one, mul-one, zero-mul, mul_assoc, mul-le-mul_right, div-eq_of_lt, div-mul-le_self, le-div_iff_mul-le, le_refl}
@@ -11,24 +10,20 @@ use lib.Dec.{eqb}
 use lib.Pow.{pow_pos, pow-add}
 use lib.ListN.{length, take, drop, replicate, length-replicate}
 use lib.Seq.{take_all, take-add}
-use borrow.Author.Tests.{eqb-true, eqb-false, eq-eqb}
+use borrow.Author.Tests.{eqb-true, eqb-false}
 use Rattle.layout.specs.declared.Header.{Header}
 use Rattle.layout.specs.Header.{raw_size, is_filled}
-use Rattle.store.specs.Buffers.{full_stripe, blocks_of}
-use Rattle.image.specs.Image.{image_of}
-use Rattle.image.specs.Erasures.{erasures_in}
+use Rattle.store.specs.Buffers.{blocks_of}
 use Rattle.judging.specs.Decoding.{Decoded, decoded}
-use Rattle.stripe_decoding.specs.Decoding.{decode_stripe}
 use Rattle.range_laying.specs.Laid.{laid}
 use Rattle.recovery.specs.Recovery.{Layer, Recovered, recovered, levels_over, stripes_over, records, recover}
 use Rattle.vault.specs.Event.{Entry}
-use Rattle.vault.specs.Round.{Round, put_all, rows_of, round_header, level_entries, log_words, records_in}
-use Rattle.vault.specs.promises.Losses.{Needed, KeepsHalf, SameWords}
+use Rattle.vault.specs.Round.{Round, put_all, rows_of, round_header, level_entries, records_in}
 use Rattle.layout.proofs.Counting.{next_bit}
 use Rattle.layout.proofs.StripePlaces.{first_level}
 use Rattle.vault.proofs.Laying.{laid_put, put_all_lem}
 use Rattle.vault.proofs.Rounds.{Good, put_append, length_entries}
-use Rattle.vault.proofs.RoundDecoding.{start_taken, length_start, start_rows, level_taken, level_decodes, full_decodes}
+use Rattle.vault.proofs.RoundDecoding.{start_taken, length_start, start_rows, level_taken, DecodesTo}
 
 -- the multiple of 2^l below c is that of 2^(l+1), and 2^l more where bit l is 1
 multiple : (c l : ℕ) → c / 2 ^ suc l * 2 ^ suc l + c / 2 ^ l % 2 * 2 ^ l ≡ c / 2 ^ l * 2 ^ l
@@ -119,24 +114,17 @@ module _ {a : Round} (good : Good a) where
       ∙ sym (put_append a.s a.base (writes_from h a.since (suc l)) (level_entries h a.since l))
       ∙ ap (put_all a.s a.base) (writes_filled h a.since l b f)
 
-  module _ (e m : List ℕ) (K : KeepsHalf h e) (S : SameWords h e (image_of (full_stripe h a.base) (log_words h a.since a.k)) m) where
-    abbrev decoding : ℕ → Decoded
-    decoding = decode_stripe h m (erasures_in e)
-
-    whole : Needed h a.k
-    whole = inl (eq-eqb a.k a.k refl)
-
-    -- THE STRIPES OF A ROUND that keep half: what holds of the words of its start, and the writes of each filled level keep, for any layer
+  module _ {d : ℕ → Decoded} (D : DecodesTo h a d) where
+    -- THE STRIPES OF A ROUND that decode: what holds of the words of its start, and the writes of each filled level keep, for any layer
     pub stripes_keep : (y : Layer) (P : ℕ → List ℕ → Type 0)
         → ((l : ℕ) (r : List ℕ) → l < a.k → is_filled h l ≡ true → P (suc l) r → P l (y.over l (rows_of (level_entries h a.since l)) r))
         → ((l : ℕ) (r : List ℕ) → is_filled h l ≡ false → P (suc l) r → P l r) → P a.k (y.full (blocks_of h a.base))
-        → (r : List ℕ) × (stripes_over h decoding y ≡ recovered r) × P 0 r
+        → (r : List ℕ) × (stripes_over h d y ≡ recovered r) × P 0 r
     stripes_keep y P over past p =
-        rw (full_decodes good e m (S.same a.k whole) (K.half a.k whole))
-        (levels_keep h decoding y (λ (l : ℕ). rows_of (level_entries h a.since l)) P
-        (λ l b f. level_decodes good e m l b f (S.same l (inr (b, f))) (K.half l (inr (b, f)))) over past a.k (y.full (blocks_of h a.base)) (le_refl a.k) p)
+        rw D.full
+        (levels_keep h d y (λ (l : ℕ). rows_of (level_entries h a.since l)) P D.levels over past a.k (y.full (blocks_of h a.base)) (le_refl a.k) p)
 
-    pub recover_round : recover h decoding ≡ recovered (records_in a)
+    pub recover_round : recover h d ≡ recovered (records_in a)
     unfolding put_all
     recover_round =
         let puts = put_all a.s a.base in

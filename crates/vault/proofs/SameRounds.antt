@@ -10,14 +10,13 @@ use lib.Seq.{take_at, drop_at, length-take-le}
 use Rattle.layout.specs.declared.Header.{Header}
 use Rattle.layout.specs.Header.{raw_size, is_filled, first_of}
 use Rattle.store.specs.Buffers.{blocks_of}
-use Rattle.image.specs.Erasures.{erasures_in}
 use Rattle.judging.specs.Decoding.{Decoded, decoded}
-use Rattle.stripe_decoding.specs.Decoding.{decode_stripe}
 use Rattle.range_laying.specs.Laid.{laid}
 use Rattle.vault.specs.Event.{Entry}
 use Rattle.vault.specs.Round.{Round, rows_of, round_header, level_entries}
 use Rattle.vault.proofs.Levels.{filled_in}
 use Rattle.vault.proofs.Rounds.{AllTaken, none, more, Good, taken_take, taken_drop}
+use Rattle.vault.proofs.RoundDecoding.{DecodesTo}
 use Rattle.vault.proofs.RoundRecovery.{writes_from, writes_filled, writes_empty, writes_all, writes_none, lay_full}
 
 -- the entry of a row, and the entries of rows
@@ -64,14 +63,13 @@ module _ (h : Header) {xs ys : List Entry} (X : AllTaken h.k h.s xs) (Y : AllTak
   since_same : xs ≡ ys
   since_same = sym (writes_all h xs long) ∙ above_same h.k 0 (omega arith) ∙ writes_all h ys long'
 
--- a good round with this header, to whose blocks the stripes of an image decode
-pub record DecodesRound (h : Header) (m e : List ℕ) (a : Round) : Type 0 where
+-- a good round with this header, to whose blocks the stripes decode
+pub record DecodesRound (h : Header) (d : ℕ → Decoded) (a : Round) : Type 0 where
   pub good : Good a
   pub header_is : h ≡ round_header a
-  pub full : decode_stripe h m (erasures_in e) h.k ≡ decoded (blocks_of h a.base)
-  pub levels : (l : ℕ) → l < h.k → is_filled h l ≡ true → decode_stripe h m (erasures_in e) l ≡ decoded (rows_of (level_entries h a.since l))
+  pub decodes : DecodesTo h a d
 
-module _ {h : Header} {m e : List ℕ} {a : Round} (D : DecodesRound h m e a) where
+module _ {h : Header} {d : ℕ → Decoded} {a : Round} (D : DecodesRound h d a) where
   taken_in : AllTaken h.k h.s a.since
   taken_in = subst (λ (x : Header). AllTaken x.k x.s a.since) (sym D.header_is) D.good.taken
 
@@ -96,8 +94,10 @@ same_round : {a b : Round} → round_header a ≡ round_header b → a.base ≡ 
 unfolding round_with
 same_round {a} {b} p q r = ap (λ (h : Header). round_with h.k h.s a.base a.since) p ∙ ap₂ (round_with b.k b.s) q r
 
-pub one_round : {h : Header} {m e : List ℕ} {a b : Round} → DecodesRound h m e a → DecodesRound h m e b → a ≡ b
+pub one_round : {h : Header} {d : ℕ → Decoded} {a b : Round} → DecodesRound h d a → DecodesRound h d b → a ≡ b
 one_round {h} D E =
+    let full = same_blocks D.decodes.full E.decodes.full in
     same_round (sym D.header_is ∙ E.header_is)
-    (sym (base_in D) ∙ ap (λ (bs : List ℕ). laid h.s bs (2 ^ h.k) (replicate (raw_size h) 0)) (same_blocks D.full E.full) ∙ base_in E)
-    (since_same h (taken_in D) (taken_in E) (long_in D) (long_in E) (few_in D) (λ l b filled. same_blocks (D.levels l b filled) (E.levels l b filled)))
+    (sym (base_in D) ∙ ap (λ (bs : List ℕ). laid h.s bs (2 ^ h.k) (replicate (raw_size h) 0)) full ∙ base_in E)
+    (since_same h (taken_in D) (taken_in E) (long_in D) (long_in E) (few_in D)
+    (λ l b filled. same_blocks (D.decodes.levels l b filled) (E.decodes.levels l b filled)))

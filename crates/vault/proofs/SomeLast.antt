@@ -9,18 +9,16 @@ use native.Mathlib.Decide.{ℕ_discrete}
 use native.Mathlib.Omega.{arith}
 use borrow.Author.Tests.{eq-eqb}
 use Rattle.layout.specs.declared.Header.{Header}
-use Rattle.layout.specs.Header.{width, header_fits, has_stripe}
-use Rattle.image.specs.Erasures.{erasures_in}
+use Rattle.layout.specs.Header.{width, has_stripe}
 use Rattle.image.proofs.ImageRefusals.{whole}
-use Rattle.judging.specs.Decoding.{decoded, block_number}
-use Rattle.stripe_decoding.specs.Decoding.{decode_stripe}
-use Rattle.recovery.specs.Recovery.{records, stripes_over}
-use Rattle.recovery.specs.RecoveryCall.{recover_early, answer_of}
+use Rattle.judging.specs.Decoding.{Decoded, decoded, block_number}
+use Rattle.recovery.specs.Recovery.{Layer, records}
+use Rattle.recovery.specs.RecoveryCall.{recover_early, unnamed}
 use Rattle.vault.specs.promises.Losses.{Needed}
-use Rattle.vault.specs.promises.Recovering.{AllDecode, LastBlock, EachHasLast}
-use Rattle.vault.proofs.LastBlocks.{decoded_blocks, blocks_of, none_early}
+use Rattle.vault.specs.promises.Recovering.{in_image, AllDecode, LastBlock, EachHasLast}
+use Rattle.vault.proofs.LastBlocks.{AreBlocks, decoded_blocks, blocks_of}
 use Rattle.vault.proofs.LastWrites.{Last, None}
-use Rattle.vault.proofs.Recovering.{taken_when}
+use Rattle.vault.proofs.Recovering.{call_answer, when_taken}
 use Rattle.vault.proofs.StripeCall.{needed_passes, passes_needed}
 
 -- OF n NUMBERS f 0, f 1, .. one is the last that is i, or none is i
@@ -53,11 +51,11 @@ module _ (P : ℕ → Type 0) (decided : (l : ℕ) → P l ⊎ (P l → ⊥)) wh
   least n p = ⊎_elim (λ z. z) (λ none. (n, (p, none))) (least_below n)
 
 -- WHERE ALL STRIPES DECODE, the least stripe that has a block for a record has its last block for it
-module _ (h : Header) (m e : List ℕ) (i : ℕ) (fits : header_fits h ≡ true) (all : AllDecode h m e) (b : i < 2 ^ h.k) where
+module _ (h : Header) (d : ℕ → Decoded) (i : ℕ) (are : AreBlocks h d) (all : AllDecode h d) (b : i < 2 ^ h.k) where
   abbrev blocks : ℕ → List ℕ
-  blocks l = blocks_of (decode_stripe h m (erasures_in e) l)
+  blocks l = blocks_of (d l)
 
-  is_decoded : (l : ℕ) → Needed h l → decode_stripe h m (erasures_in e) l ≡ decoded (blocks l)
+  is_decoded : (l : ℕ) → Needed h l → d l ≡ decoded (blocks l)
   is_decoded l n = let p = (all l n).1 in p ∙ ap decoded (sym (ap blocks_of p))
 
   abbrev numbered : (stripe j : ℕ) → ℕ
@@ -85,10 +83,10 @@ module _ (h : Header) (m e : List ℕ) (i : ℕ) (fits : header_fits h ≡ true)
   found_full : Found h.k
   found_full =
       let n : Needed h h.k = inl (eq-eqb h.k h.k refl) in
-      let K = decoded_blocks h m e h.k (blocks h.k) fits (le_refl h.k) (is_decoded h.k n) in
+      let K = are h.k (blocks h.k) (le_refl h.k) (is_decoded h.k n) in
       (n, ⊎_elim (λ z. z) (λ none. absurd (none i b (K.place refl i b))) (search_of h.k))
 
-  last_of : (l : ℕ) × (j : ℕ) × (bs : List ℕ) × LastBlock h m e i l bs j
+  last_of : (l : ℕ) × (j : ℕ) × (bs : List ℕ) × LastBlock h d i l bs j
   last_of =
       let L = least Found found_or_not h.k found_full in
       let l : ℕ = L.0 in
@@ -111,8 +109,11 @@ module _ (h : Header) (m e : List ℕ) (i : ℕ) (fits : header_fits h ≡ true)
         },
       )
 
--- and they all do where recovery is taken
+-- and they all do where a call is taken
+pub has_last : (h : Header) (d : ℕ → Decoded) (y : Layer) (early : ℕ) {i : ℕ} → (early ≡ 0 → AreBlocks h d) → call_answer h d y early ≡ unnamed 0
+    → i < 2 ^ h.k → (l : ℕ) × (j : ℕ) × (bs : List ℕ) × LastBlock h d i l bs j
+has_last h d y early {i} are taken = let t = when_taken h d y early taken in last_of h d i (are t.0) t.1
+
 pub each_has_last : EachHasLast
-each_has_last h m e out scratch i taken b =
-    let asked = none_early (recover_early h m e out scratch) (answer_of (stripes_over h (decode_stripe h m (erasures_in e)) (records h))) taken in
-    last_of h m e i (whole h m e _ asked).fits ((taken_when h m e out scratch asked).0 taken) b
+each_has_last h m e out scratch i =
+    has_last h (in_image h m e) (records h) (recover_early h m e out scratch) (λ z. decoded_blocks h m e (whole h m e _ z).fits)

@@ -9,6 +9,7 @@ use native.Mathlib.Omega.{arith}
 use lib.Dec.{ltb}
 use lib.ListN.{length, replicate}
 use borrow.Author.Tests.{eqb-true, lt-ltb, ltb-true}
+use Rattle.std.proofs.lemmas.Bool.{or_right}
 use Rattle.layout.specs.declared.Header.{Header}
 use Rattle.layout.specs.Header.{header_fits, out_size, scratch_size, image_size, is_full, is_filled, has_stripe, stripe_of}
 use Rattle.layout.specs.Refusals.{done}
@@ -47,11 +48,7 @@ zero_only (ten bs p C t) q = absurd (omega (arith, failed_number p))
 -- test 6 passes for the needed stripes, and for no other
 pub needed_passes : (h : Header) (l : ℕ) → Needed h l → has_stripe h l ≡ true
 needed_passes h l (inl full) = rw (full, has_stripe)
-needed_passes h l (inr (lt, filled)) = second_of (is_full h l) (both_true (lt-ltb l h.k lt) filled)
-  where
-    second_of : (a : Bool) {b : Bool} → b ≡ true → (a || b) ≡ true
-    second_of true q = refl
-    second_of false q = q
+needed_passes h l (inr (lt, filled)) = or_right (is_full h l) _ (both_true (lt-ltb l h.k lt) filled)
 
 pub passes_needed : (h : Header) (l : ℕ) → has_stripe h l ≡ true → Needed h l
 passes_needed h l t = go (is_full h l) refl t

@@ -1,5 +1,5 @@
--- WHERE THE STRIPES END, for any layer: at the first needed one that fails, in the order k, k - 1, .., or nowhere, and then all decode. And how long the words
--- are that they come to. Assumes nothing.
+-- WHERE THE STRIPES END, for any layer: at the first needed one that fails, in the order k, k - 1, .., or nowhere, and then all decode. That no other
+-- stripe is looked at, and how long the words are that they come to. Assumes nothing.
 use mathlib.Core.Path.{◌≡◌, refl, sym, ap, ◌∙◌, subst₂}
 use mathlib.Core.Bool.{Bool, true, false, false≢true}
 use mathlib.Core.Logic.{◌⊎◌, inl, inr, ⊎_elim}
@@ -126,6 +126,25 @@ module _ (h : Header) (d : ℕ → Decoded) (y : Layer) where
       split : (l : ℕ) → Needed h l → Below h.k l ⊎ (l ≡ h.k)
       split l (inl full) = inr (eqb-true l h.k full)
       split l (inr below) = inl below
+
+-- RECOVERY looks at needed stripes only, whatever is laid
+module _ (h : Header) {d d' : ℕ → Decoded} (y : Layer) (same : (l : ℕ) → Needed h l → d l ≡ d' l) where
+  laid_alike : (l : ℕ) (x : Decoded) (next next' : List ℕ → Recovered) → ((bs : List ℕ) → next bs ≡ next' bs) → then_lay l x next ≡ then_lay l x next'
+  laid_alike l (failed n) next next' e = refl
+  laid_alike l (decoded bs) next next' e = e bs
+
+  levels_alike : (l : ℕ) (r : List ℕ) → l ≤ h.k → levels_over l h d y r ≡ levels_over l h d' y r
+  unfolding levels_over
+  levels_alike zero r w = refl
+  levels_alike (suc l) r w = by (is_filled h l) refl (λ x. levels_alike l x (omega arith))
+    where
+      by : (f : Bool) → is_filled h l ≡ f → ((x : List ℕ) → levels_over l h d y x ≡ levels_over l h d' y x)
+          → levels_over (suc l) h d y r ≡ levels_over (suc l) h d' y r
+      by true f rest = rw (f, levels_over, same l (inr (w, f))) (laid_alike l (d' l) _ _ (λ bs. rest (y.over l bs r)))
+      by false f rest = rw (f, levels_over) (rest r)
+
+  pub stripes_alike : stripes_over h d y ≡ stripes_over h d' y
+  stripes_alike = rw (same h.k (inl (eq-eqb h.k h.k refl))) (laid_alike h.k (d' h.k) _ _ (λ bs. levels_alike h.k (y.full bs) (omega arith)))
 
 -- THE WORDS have a size if the full stripe's have it and each level keeps the length
 abbrev pub Sized : ℕ → Recovered → Type 0

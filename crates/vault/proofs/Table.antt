@@ -12,7 +12,7 @@ use borrow.Author.Tests.{eqb-true, eq-eqb, ltb-true, ltb-false, lt-ltb, le-ltb, 
 use Rattle.std.specs.Prelude.{◌↔◌}
 use Rattle.std.proofs.lemmas.Bool.{false≢true}
 use Rattle.field.specs.Words.{Words, every}
-use Rattle.field.proofs.Booleans.{if_else, either, is_false, both_true, first_true, second_true}
+use Rattle.field.proofs.Booleans.{if_else, either, is_false, both_true, first_true, second_true, first_false, second_false}
 use Rattle.field.proofs.EveryWord.{every_words, words_every}
 use Rattle.layout.specs.declared.Header.{Header}
 use Rattle.layout.specs.Header.{record_count, is_in, header_fits, full_size, log_size, has_stripe}
@@ -20,33 +20,44 @@ use Rattle.layout.specs.Records.{is_data, are_data, is_zero, is_blank}
 use Rattle.layout.specs.Refusals.{Tests, done, test, refusal}
 use Rattle.layout.proofs.RecordWords.{data_words}
 use Rattle.vault.specs.promises.Table.{OutOfRange, FitsIff, NoDataWord, IsStripe, NeededIff, AllZero}
-use Rattle.vault.specs.promises.Table.{Rows, none, row, EachAfter, NoneAfter, EachNumber, Match, RefusalIs}
+use Rattle.vault.specs.promises.Table.{Rows, none, row, EachAfter, NoneAfter, EachNumber, Fresh, Match, RefusalIs}
 use Rattle.vault.proofs.StripeCall.{needed_passes, passes_needed}
 
--- TESTS BESIDE ROWS: as `Match` has them, where a test may be known to fail with its row only if no row before that applies (`others`)
-pub data Beside : (least : ℕ) → (others : Type 0) → Tests → Rows → Type 1 where
-  ended : {least : ℕ} {others : Type 0} → Beside least others done none
-  beside : {least n : ℕ} {others A : Type 0} {b : Bool} {ts : Tests} {rows : Rows} → least < n → (others → ((b ≡ false) ↔ A))
-      → Beside n (others × (A → ⊥)) ts rows → Beside least others (test b n ts) (row n A rows)
+-- TESTS BESIDE ROWS: as `Match` has them, where a test may be known to fail with its row only if no row before that applies (`others`). `free`: the numbers
+-- that are left for them, none of which a test before has
+pub data Apart : (free : ℕ → Type 0) → (others : Type 0) → Tests → Rows → Type 1 where
+  ended : {free : ℕ → Type 0} {others : Type 0} → Apart free others done none
+  apart : {free left : ℕ → Type 0} {n : ℕ} {others A : Type 0} {b : Bool} {ts : Tests} {rows : Rows} → 0 < n → free n
+      → ((x : ℕ) → left x → free x × (x ≡ n → ⊥)) → (others → ((b ≡ false) ↔ A)) → Apart left (others × (A → ⊥)) ts rows
+      → Apart free others (test b n ts) (row n A rows)
 
--- the number is 0, or above those of all tests before
-above : {least : ℕ} {others : Type 0} {ts : Tests} {rows : Rows} → Beside least others ts rows → (refusal ts ≡ 0) ⊎ (least < refusal ts)
+-- as it is where the numbers rise
+abbrev pub Beside : (least : ℕ) → (others : Type 0) → Tests → Rows → Type 1
+Beside least others ts rows = Apart (λ (x : ℕ). least < x) others ts rows
+
+pub beside : {least n : ℕ} {others A : Type 0} {b : Bool} {ts : Tests} {rows : Rows} → least < n → (others → ((b ≡ false) ↔ A))
+    → Beside n (others × (A → ⊥)) ts rows → Beside least others (test b n ts) (row n A rows)
+beside rises iff m = apart (omega arith) rises (λ x h. (omega (arith, h, rises), λ e. omega (arith, h))) iff m
+
+-- the number is 0, or one of those that are left
+left_over : {free : ℕ → Type 0} {others : Type 0} {ts : Tests} {rows : Rows} → Apart free others ts rows → (refusal ts ≡ 0) ⊎ free (refusal ts)
 unfolding refusal
-above ended = inl refl
-above (beside {least} {n} {b = b} {ts = ts} rises iff m) = go b (above m)
+left_over ended = inl refl
+left_over (apart {free} {left} {n} {b = b} {ts = ts} some here fewer iff m) = go b (left_over m)
   where
-    go : (b : Bool) → (refusal ts ≡ 0) ⊎ (n < refusal ts) → let r = if_else b (refusal ts) n in (r ≡ 0) ⊎ (least < r)
-    go true next = ⊎_elim (λ e. inl e) (λ h. inr (omega (arith, rises))) next
-    go false next = inr rises
+    go : (b : Bool) → (refusal ts ≡ 0) ⊎ left (refusal ts) → let r = if_else b (refusal ts) n in (r ≡ 0) ⊎ free r
+    go true next = ⊎_elim (λ e. inl e) (λ l. inr (fewer (refusal ts) l).0) next
+    go false next = inr here
 
--- ONE ROW, with number n: `given` is a number that is the table's where no row before applies, and 0 or above `least` only there; r is what follows
-module _ {given least n r : ℕ} {others A : Type 0} (b : Bool) (rises : least < n) (iff : others → ((b ≡ false) ↔ A)) (next : (r ≡ 0) ⊎ (n < r))
-    (there : others → given ≡ elim b [ true ↦ r | false ↦ n ]) (back : (given ≡ 0) ⊎ (least < given) → others) where
+-- ONE ROW, with number n: `given` is a number that is the table's where no row before applies, and 0 or free only there; r is what follows
+module _ {given n r : ℕ} {free left : ℕ → Type 0} {others A : Type 0} (b : Bool) (some : 0 < n) (here : free n)
+    (fewer : (x : ℕ) → left x → free x × (x ≡ n → ⊥)) (iff : others → ((b ≡ false) ↔ A)) (next : (r ≡ 0) ⊎ left r)
+    (there : others → given ≡ elim b [ true ↦ r | false ↦ n ]) (back : (given ≡ 0) ⊎ free given → others) where
   given_applies : given ≡ n → others × A
-  given_applies e = let o = back (inr (omega (arith, rises))) in (o, go b (iff o) (there o))
+  given_applies e = let o = back (inr (subst free (sym e) here)) in (o, go b (iff o) (there o))
     where
       go : (b : Bool) → ((b ≡ false) ↔ A) → given ≡ elim b [ true ↦ r | false ↦ n ] → A
-      go true f t = absurd (⊎_elim (λ z. omega (arith, rises)) (λ z. omega arith) next)
+      go true f t = absurd (⊎_elim (λ z. omega (arith, some)) (λ l. (fewer r l).1 (sym t ∙ e)) next)
       go false f t = f.0 refl
 
   applies_given : others × A → given ≡ n
@@ -59,36 +70,43 @@ module _ {given least n r : ℕ} {others A : Type 0} (b : Bool) (rises : least <
       go true f t = t
       go false f t = absurd (o.1 (f.0 refl))
 
-  back_next : (given ≡ 0) ⊎ (n < given) → others × (A → ⊥)
+  back_next : (given ≡ 0) ⊎ left given → others × (A → ⊥)
   back_next g =
-      let o = back (⊎_elim (λ z. inl z) (λ h. inr (omega (arith, rises))) g) in
-      (o, λ a. let e = applies_given (o, a) in absurd (⊎_elim (λ z. omega (arith, rises)) (λ h. omega arith) g))
+      let o = back (⊎_elim (λ z. inl z) (λ l. inr (fewer given l).0) g) in
+      (o, λ a. let e = applies_given (o, a) in absurd (⊎_elim (λ z. omega (arith, some)) (λ l. (fewer given l).1 e) g))
 
 -- ALL ROWS
 module _ (given : ℕ) where
-  each : {least : ℕ} {others : Type 0} {ts : Tests} {rows : Rows} → Beside least others ts rows → (others → given ≡ refusal ts)
-      → ((given ≡ 0) ⊎ (least < given) → others) → EachAfter given others rows × ((given ≡ 0) ↔ NoneAfter others rows)
+  each : {free : ℕ → Type 0} {others : Type 0} {ts : Tests} {rows : Rows} → Apart free others ts rows → (others → given ≡ refusal ts)
+      → ((given ≡ 0) ⊎ free given → others) → EachAfter given others rows × ((given ≡ 0) ↔ NoneAfter others rows)
   unfolding refusal
   each ended there back = (tt, (λ e. back (inl e), λ o. there o))
-  each (beside {b = b} rises iff m) there back =
-      let next = above m in
-      let rest = each m (there_next b rises iff next there back) (back_next b rises iff next there back) in
-      (((given_applies b rises iff next there back, applies_given b rises iff next there back), rest.0), rest.1)
+  each (apart {b = b} some here fewer iff m) there back =
+      let next = left_over m in
+      let rest = each m (there_next b some here fewer iff next there back) (back_next b some here fewer iff next there back) in
+      (((given_applies b some here fewer iff next there back, applies_given b some here fewer iff next there back), rest.0), rest.1)
 
 pub each_number : {ts : Tests} (rows : Rows) → Beside 0 (Unit {0}) ts rows → EachNumber (refusal ts) rows
 each_number {ts} rows m = each (refusal ts) m (λ _. refl) (λ _. tt)
 
 -- `Match` with the same numbers
-matched : (least : ℕ) (others : Type 0) (ts : Tests) (rows : Rows) → Match least ts rows → Beside least others ts rows
-matched least others done none m = ended
-matched least others done (row n' A rows) m = absurd m
-matched least others (test b n ts) none m = absurd m
-matched least others (test b n ts) (row n' A rows) m =
-    subst (λ (x : ℕ). Beside least others (test b n ts) (row x A rows)) m.1
-    (beside m.0 (λ _. m.2) (matched n (others × (A → ⊥)) ts rows m.3))
+fresh_some : (before : List ℕ) (n : ℕ) → Fresh before n → 0 < n
+fresh_some [] n f = f
+fresh_some (n' ∷ before) n f = fresh_some before n f.1
+
+matched : (before : List ℕ) (others : Type 0) (ts : Tests) (rows : Rows) → Match before ts rows → Apart (Fresh before) others ts rows
+matched before others done none m = ended
+matched before others done (row n' A rows) m = absurd m
+matched before others (test b n ts) none m = absurd m
+matched before others (test b n ts) (row n' A rows) m =
+    subst (λ (x : ℕ). Apart (Fresh before) others (test b n ts) (row x A rows)) m.1
+    (apart (fresh_some before n m.0) m.0 (λ x f. (f.1, f.0)) (λ _. m.2) (matched (n ∷ before) (others × (A → ⊥)) ts rows m.3))
 
 pub refusal_is : RefusalIs
-refusal_is ts rows m = each_number rows (matched 0 (Unit {0}) ts rows m)
+refusal_is ts rows m = each_number rows (matched [] (Unit {0}) ts rows m)
+
+pub then_iff : {A B C : Type 0} → A ↔ B → B ↔ C → A ↔ C
+then_iff s t = (λ a. t.0 (s.0 a), λ c. s.1 (t.1 c))
 
 -- A TEST AND WHAT IT SAYS
 abbrev pub Says : Bool → Type 0 → Type 0
@@ -113,6 +131,14 @@ three_say {a} {b} {c} r s t =
     let u = both_say {a = b} {b = c} s t in
     let v = both_say {a = a} {b = b && c} r u in
     (λ e. let p = v.0 e in (p.0, p.1.0, p.1.1), λ p. v.1 (p.0, (p.1, p.2)))
+
+pub either_fails : {a b : Bool} {A B : Type 0} → Says a A → Says b B → ((a && b) ≡ false) ↔ ((A → ⊥) ⊎ (B → ⊥))
+either_fails {a} {b} {A} {B} s t =
+    (go a ((fails_unless s).0), ⊎_elim (λ d. first_false b ((fails_unless s).1 d)) (λ d. second_false a ((fails_unless t).1 d)))
+  where
+    go : (a : Bool) → (a ≡ false → A → ⊥) → (a && b) ≡ false → (A → ⊥) ⊎ (B → ⊥)
+    go true first e = inr ((fails_unless t).0 e)
+    go false first e = inl (first refl)
 
 pub equal_says : {a b c : ℕ} → b ≡ c → Says (eqb a b) (a ≡ c)
 equal_says {a} {b} {c} e = (λ t. eqb-true a b t ∙ e, λ p. eq-eqb a b (p ∙ sym e))

@@ -24,6 +24,7 @@ use Rattle.explanation.specs.Counts.{left, shortfall}
 use Rattle.layout.specs.Refusals.{refusal}
 use Rattle.splitting.specs.Splitting.{first_filled, levels_before}
 use Rattle.taking_back.specs.TakingBack.{last_of, find_from}
+use Rattle.two_readings.specs.Agreeing.{all_below, same_word, position_agrees, agrees_if_needed}
 use Rattle.vault.specs.History.{after}
 use Rattle.vault.specs.Model.{words_fit, words_zero, fed_all}
 use Rattle.vault.specs.Worked.{Holds, examples, blank_examples}
@@ -31,17 +32,18 @@ use Rattle.vault.specs.Round.{round_after, log_words, rows_of}
 use Rattle.vault.specs.WorkedBytes.{byte_examples, stripe_examples, stray_examples, fault_examples, history_examples}
 use Rattle.vault.specs.WorkedBytes.{half_examples, number_examples, answer_examples}
 use Rattle.vault.specs.WorkedBack.{back_examples, back_faults, back_histories}
+use Rattle.vault.specs.WorkedTwo.{two_examples, two_faults, shelf_examples}
 
 all_worked :
     Holds examples × Holds blank_examples × Holds byte_examples × Holds stripe_examples × Holds stray_examples ×
     Holds fault_examples × Holds history_examples × Holds half_examples × Holds number_examples × Holds answer_examples ×
-    Holds back_examples × Holds back_faults × Holds back_histories
+    Holds back_examples × Holds back_faults × Holds back_histories × Holds two_examples × Holds two_faults × Holds shelf_examples
 unfolding plus minus times power_from power inverse lift slopes interpolate root_of Words.table sum_at difference_at mixed transform scaled reversed turned
     column columns_from row_of rows_from lifted coded coded_rows survivors_from point_at value_at bit_reversed decoded_column agrees consistent_column
     consistent_to decoded_rows every records_fit reduced blocks_from first_empty rebuilt_half little bytes_of number_of erasures_from erasures_rise touched
     flags_from mark_at surviving_at are_records laid levels_over powers_of
     refusal after words_fit words_zero fed_all pairs_to left shortfall origins_laid round_after log_words rows_of
-    first_filled levels_before last_of find_from
+    first_filled levels_before last_of find_from all_below same_word position_agrees agrees_if_needed
 all_worked = (
   (is, (is, (is, (is, (is, (is, (is, (is, (is, (is, (is, (is, (is, (is, (is, (is, (is, (is, (is, (is, tt)))))))))))))))))))),
   (is, (is, (is, (is, (is, tt))))),
@@ -52,10 +54,13 @@ all_worked = (
   (is, (is, (is, (is, (is, (is, (is, (is, (is, (is, (is, (is, tt)))))))))))),
   (is, (is, (is, (is, (is, tt))))),
   (is, (is, (is, (is, (is, (is, (is, (is, (is, tt))))))))),
-  (is, (is, (is, (is, (is, (is, (is, (is, (is, (is, (is, (is, (is, (is, tt)))))))))))))),
+  (is, (is, (is, (is, (is, (is, (is, (is, (is, (is, (is, (is, (is, (is, (is, (is, tt)))))))))))))))),
   (is, (is, (is, (is, (is, (is, (is, (is, (is, (is, (is, (is, (is, tt))))))))))))),
   (is, (is, (is, (is, (is, (is, (is, (is, (is, (is, (is, (is, (is, (is, (is, (is, (is, (is, (is, (is, (is, tt))))))))))))))))))))),
   (is, (is, (is, (is, (is, (is, (is, (is, (is, (is, (is, tt))))))))))),
+  (is, (is, (is, (is, (is, (is, (is, (is, (is, (is, (is, (is, (is, (is, (is, (is, (is, (is, (is, (is, (is, (is, (is, tt))))))))))))))))))))))),
+  (is, (is, (is, (is, (is, (is, (is, (is, (is, tt))))))))),
+  (is, (is, (is, (is, (is, (is, (is, (is, (is, (is, (is, (is, (is, (is, (is, (is, (is, tt))))))))))))))))),
 )
 
 pub worked : Holds examples
@@ -96,3 +101,12 @@ worked_back_faults = all_worked.11
 
 pub worked_back_histories : Holds back_histories
 worked_back_histories = all_worked.12
+
+pub worked_two : Holds two_examples
+worked_two = all_worked.13
+
+pub worked_two_faults : Holds two_faults
+worked_two_faults = all_worked.14
+
+pub worked_shelves : Holds shelf_examples
+worked_shelves = all_worked.15

@@ -8,6 +8,7 @@ pub mod Round
 pub mod Worked
 pub mod WorkedBytes
 pub mod WorkedBack
+pub mod WorkedTwo
 pub use Rattle.code.specs.Stripe
 pub use Rattle.decoder.specs.Decoding as ColumnDecoding
 pub use Rattle.layout.specs.Header
@@ -29,6 +30,10 @@ pub use Rattle.stripe_decoding.specs.StripeCall
 pub use Rattle.recovery.specs.Origins
 pub use Rattle.recovery.specs.RecoveryCall
 pub use Rattle.recovery.specs.Verdicts
+pub use Rattle.two_readings.specs.Agreeing
+pub use Rattle.two_readings.specs.Choosing
+pub use Rattle.two_readings.specs.RecoverTwoCall
+pub use Rattle.two_readings.specs.ShelfOfTwoCall
 pub use Rattle.explanation.specs.Counts
 pub use Rattle.explanation.specs.ExplainCall
 pub use Rattle.power_table.specs.PowersCall

@@ -10,10 +10,10 @@ use Rattle.layout.specs.declared.Header.{Header}
 use Rattle.layout.specs.Header.{header_of, raw_size, full_size, log_size, out_size, scratch_size, image_size, level_for}
 use Rattle.layout.specs.declared.refusal.Refusal.{Refusal}
 use Rattle.layout.specs.declared.refusal.Refusal.TheVariants.{HeaderRange, Length, ErasureList, RecordNumber, DataWord, NoStripe}
-use Rattle.layout.specs.declared.refusal.Refusal.TheVariants.{TooFew, OutOfField, Inconsistent, NotRecords, Blank, RoundStart}
-use Rattle.layout.specs.Refusals.{number_of, answer_number}
+use Rattle.layout.specs.declared.refusal.Refusal.TheVariants.{TooFew, OutOfField, Inconsistent, NotRecords, Blank, RoundStart, ReadingsDiffer}
+use Rattle.layout.specs.Refusals.{number_of, answer_number, read_part}
 use Rattle.store.specs.Buffers.{buffers}
-use Rattle.store.specs.StoreCalls.{open_answer, opened_as, written_as, read_part, read_number, read_gives}
+use Rattle.store.specs.StoreCalls.{open_answer, opened_as, written_as, read_number, read_gives}
 use Rattle.image.specs.ImageCall.{image_number, image_leaves}
 use Rattle.stripe_decoding.specs.StripeCall.{decode_number, decode_leaves, decode_scratch}
 use Rattle.recovery.specs.declared.fault.Fault.{Fault}
@@ -22,6 +22,8 @@ use Rattle.recovery.specs.Origins.{origins_size}
 use Rattle.recovery.specs.RecoveryCall.{recover_answer, recover_leaves, recover_scratch}
 use Rattle.explanation.specs.Counts.{counts_size}
 use Rattle.explanation.specs.ExplainCall.{explain_answer, explain_counts, explain_origins, explain_scratch}
+use Rattle.two_readings.specs.declared.choosing.Place.{Place}
+use Rattle.two_readings.specs.ShelfOfTwoCall.{place_given}
 use Rattle.power_table.specs.PowersCall.{powers_number, powers_leaves}
 use Rattle.vault.specs.Boundary.{read_start, read_count, shelf_of}
 use Rattle.vault.specs.Event.{Opening, Event, write}
@@ -303,12 +305,16 @@ fault e l = record { refusal = e; stripe = l }
 abbrev pub lent : List ℕ → Bor (List ℕ)
 lent words = record { ref_ptr = (0, 0); now = words }
 
+abbrev pub place_words : Place → List ℕ
+place_words p = p.reading ∷ p.start ∷ p.count ∷ []
+
 abbrev pub answer_examples : Table
 answer_examples =
     entry
     (map number_of
-    (HeaderRange ∷ Length ∷ ErasureList ∷ RecordNumber ∷ DataWord ∷ NoStripe ∷ TooFew ∷ OutOfField ∷ Inconsistent ∷ NotRecords ∷ Blank ∷ RoundStart ∷ []))
-    (1 ∷ 2 ∷ 3 ∷ 4 ∷ 5 ∷ 6 ∷ 7 ∷ 8 ∷ 9 ∷ 10 ∷ 11 ∷ 12 ∷ [])
+    (HeaderRange ∷ Length ∷ ErasureList ∷ RecordNumber ∷ DataWord ∷ NoStripe ∷ TooFew ∷ OutOfField ∷ Inconsistent ∷ NotRecords ∷ Blank ∷ RoundStart ∷
+    ReadingsDiffer ∷ []))
+    (1 ∷ 2 ∷ 3 ∷ 4 ∷ 5 ∷ 6 ∷ 7 ∷ 8 ∷ 9 ∷ 10 ∷ 11 ∷ 12 ∷ 13 ∷ [])
     (entry (answer_number {A = ℕ} (Ok 5) ∷ answer_number {A = ℕ} (Err NoStripe) ∷ []) (0 ∷ 6 ∷ [])
     (entry ((opened_as (Ok (header_of 2 1 0))).number ∷ header_words (opened_as (Ok (header_of 2 1 0))).header) (0 ∷ 2 ∷ 1 ∷ 0 ∷ [])
     (entry ((opened_as (Err DataWord)).number ∷ header_words (opened_as (Err DataWord)).header) (5 ∷ 0 ∷ 0 ∷ 0 ∷ [])
@@ -316,10 +322,12 @@ answer_examples =
     (entry (let a = written_as (header_of 2 1 3) (Err Blank) in a.number ∷ header_words a.header) (11 ∷ 2 ∷ 1 ∷ 3 ∷ [])
     (entry (read_part (Ok (lent (30 ∷ 31 ∷ [])))) (30 ∷ 31 ∷ [])
     (entry (read_part (Err RecordNumber)) []
+    (entry (place_words (place_given (Ok (record { reading = 1; start = 80; count = 32 })))) (1 ∷ 80 ∷ 32 ∷ [])
+    (entry (place_words (place_given (Err NoStripe))) (0 ∷ 0 ∷ 0 ∷ [])
     (entry (read_start (header_of 2 2 0) (ones 8) 3 ∷ read_count (header_of 2 2 0) (ones 8) 3 ∷ []) (6 ∷ 2 ∷ [])
     (entry (read_start (header_of 2 2 0) (ones 8) 4 ∷ read_count (header_of 2 2 0) (ones 8) 4 ∷ []) (0 ∷ 0 ∷ [])
     (entry (shelf_of (verdict_of {A = ℕ} (Ok 5)) ∷ shelf_of (verdict_of {A = ℕ} (Err (fault Inconsistent (Some 1)))) ∷ []) (4294967295 ∷ 1 ∷ [])
     (entry (named (verdict_of {A = ℕ} (Ok 5))) (0 ∷ 0 ∷ 0 ∷ [])
     (entry (named (verdict_of {A = ℕ} (Err (fault Length None)))) (2 ∷ 0 ∷ 0 ∷ [])
     (entry (named (verdict_of {A = ℕ} (Err (fault Inconsistent (Some 1))))) (9 ∷ 1 ∷ 1 ∷ [])
-    end)))))))))))))
+    end)))))))))))))))

@@ -12,6 +12,7 @@ pub mod Leaving
 pub mod Coding
 pub mod Writing
 pub mod TakingBack
+pub mod TwoReadings
 pub mod Answers
 pub mod Explaining
 pub mod Blanks

@@ -1,23 +1,26 @@
-// The calls of the vault (docs/FORMAT.md, section 9), all nine, by value: headers are given and come back, and nothing is kept between two calls. No call
-// has a precondition. Each contract says, for every input, what the call answers (`result`), and what is left of each buffer that it may change: `x.old` is
-// the buffer x as it was lent, `x.new` as it is left, `x.now` one that does not change, and «x» a parameter whose name is a word of the language. An answer is
-// read as the number of the table of refusals and what goes with it: by answer_number, opened_as, written_as, read_part and verdict_of. Where the promises
-// (specs/promises) speak of a call, they speak of these definitions. Each call goes on to the one that does it: here all contracts stand where a caller reads
-// them together.
+// The calls of the vault (docs/FORMAT.md, section 9), by value: headers are given and come back, and nothing is kept between two calls. They are all eleven,
+// and place_of_two, which says where the part stands that shelf_of_two gives. No call has a precondition. Each contract says, for every input, what the call
+// answers (`result`), and what is left of each buffer that it may change: `x.old` is the buffer x as it was lent, `x.new` as it is left, `x.now` one that does
+// not change, and «x» a parameter whose name is a word of the language. An answer is read as the number of the table of refusals and what goes with it: by
+// answer_number, opened_as, written_as, read_part, place_given and verdict_of. Where the promises (specs/promises) speak of a call, they speak of these
+// definitions. Each call goes on to the one that does it: here all contracts stand where a caller reads them together.
 ghost use Rattle.std.specs.Prelude.{◌≡◌};
 ghost use Rattle.power_table.specs.PowersCall.{powers_number, powers_leaves};
 ghost use Rattle.store.specs.Buffers.{buffers};
-ghost use Rattle.layout.specs.Refusals.{answer_number};
-ghost use Rattle.store.specs.StoreCalls.{opened_as, open_answer, open_leaves, written_as, write_answer, write_leaves, read_part, read_number, read_gives};
+ghost use Rattle.layout.specs.Refusals.{answer_number, read_part};
+ghost use Rattle.store.specs.StoreCalls.{opened_as, open_answer, open_leaves, written_as, write_answer, write_leaves, read_number, read_gives};
 ghost use Rattle.taking_back.specs.TakeBackCall.{take_back_answer, take_back_leaves, take_back_scratch};
 ghost use Rattle.image.specs.ImageCall.{image_number, image_leaves};
 ghost use Rattle.stripe_decoding.specs.StripeCall.{decode_number, decode_leaves, decode_scratch};
 ghost use Rattle.recovery.specs.Verdicts.{verdict_of};
 ghost use Rattle.recovery.specs.RecoveryCall.{recover_answer, recover_leaves, recover_scratch};
+ghost use Rattle.two_readings.specs.RecoverTwoCall.{recover_two_answer, recover_two_leaves, recover_two_scratch};
+ghost use Rattle.two_readings.specs.ShelfOfTwoCall.{shelf_of_two_number, shelf_of_two_part, place_given, place_of_two};
 ghost use Rattle.explanation.specs.ExplainCall.{explain_answer, explain_counts, explain_origins, explain_scratch};
 
 use layout::{Header, Refusal};
 use recovery::Fault;
+use two_readings::Place;
 
 // Opens a vault over raw records, which are its raw copy and do not change. Tests 1, 2 (raw, full, log), 5.
 pub fn open(
@@ -113,6 +116,56 @@ pub fn recover(
     ensures scratch_after { scratch.new ≡ recover_scratch header image.now erasures.now out.old scratch.old }
 {
     recovery::recovering::recover(header, image, erasures, out, scratch)
+}
+
+// All records, from two readings of one rack: an image and an erasure list each. Tests 1, 2 (the images, out, scratch), 3, 13, and 7 to 10 of each needed
+// stripe, of which the first at fault is named.
+pub fn recover_two(
+    header: Header,
+    image1: &[u8],
+    erasures1: &[u8],
+    image2: &[u8],
+    erasures2: &[u8],
+    out: &mut [u32],
+    scratch: &mut [u32],
+) -> Result<(), Fault>
+    ensures value { verdict_of result ≡ recover_two_answer header image1.now erasures1.now image2.now erasures2.now out.old scratch.old }
+    ensures out_after { out.new ≡ recover_two_leaves header image1.now erasures1.now image2.now erasures2.now out.old scratch.old }
+    ensures scratch_after { scratch.new ≡ recover_two_scratch header image1.now erasures1.now image2.now erasures2.now out.old scratch.old }
+{
+    two_readings::recovering::recover_two(
+        header, image1, erasures1, image2, erasures2, out, scratch,
+    )
+}
+
+// The bytes of one stripe, a part of the image of the reading that recovery takes it from. Tests 1, 2 (the images), 3, 13, 6.
+pub fn shelf_of_two<'a>(
+    header: Header,
+    image1: &'a [u8],
+    erasures1: &[u8],
+    image2: &'a [u8],
+    erasures2: &[u8],
+    stripe: u32,
+) -> Result<&'a [u8], Refusal>
+    ensures value { answer_number result ≡ shelf_of_two_number header image1.now erasures1.now image2.now erasures2.now stripe }
+    ensures part { read_part result ≡ shelf_of_two_part header image1.now erasures1.now image2.now erasures2.now stripe }
+{
+    two_readings::choosing::shelf_of_two(header, image1, erasures1, image2, erasures2, stripe)
+}
+
+// The same by where they stand: in which reading, from which byte on, and how many. This is what the boundary for C hands out.
+pub fn place_of_two(
+    header: Header,
+    image1: &[u8],
+    erasures1: &[u8],
+    image2: &[u8],
+    erasures2: &[u8],
+    stripe: u32,
+) -> Result<Place, Refusal>
+    ensures value { answer_number result ≡ shelf_of_two_number header image1.now erasures1.now image2.now erasures2.now stripe }
+    ensures place { place_given result ≡ place_of_two header image1.now erasures1.now image2.now erasures2.now stripe }
+{
+    two_readings::choosing::place_of_two(header, image1, erasures1, image2, erasures2, stripe)
 }
 
 // Why a recovery stops, or where each record comes from. Tests 1, 2 (image, counts, origins, scratch), 3, and 7 to 10 as recovery has them.

@@ -8,3 +8,4 @@ pub mod calls;
 pub use layout::refusal::number_of;
 pub use layout::{Header, Refusal};
 pub use recovery::Fault;
+pub use two_readings::Place;

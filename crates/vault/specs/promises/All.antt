@@ -13,6 +13,7 @@ use Rattle.vault.specs.promises.Recovering.{Recovering}
 use Rattle.vault.specs.promises.Coding.{Coding}
 use Rattle.vault.specs.promises.Writing.{Writing}
 use Rattle.vault.specs.promises.TakingBack.{TakingBack}
+use Rattle.vault.specs.promises.TwoReadings.{TwoReadings}
 use Rattle.vault.specs.promises.Answers.{Answers}
 use Rattle.vault.specs.promises.Explaining.{Explaining}
 use Rattle.vault.specs.promises.Blanks.{Blanks}
@@ -22,6 +23,7 @@ use Rattle.vault.specs.Worked.{Holds, examples, blank_examples}
 use Rattle.vault.specs.WorkedBytes.{byte_examples, stripe_examples, stray_examples, fault_examples}
 use Rattle.vault.specs.WorkedBytes.{history_examples, half_examples, number_examples, answer_examples}
 use Rattle.vault.specs.WorkedBack.{back_examples, back_faults, back_histories}
+use Rattle.vault.specs.WorkedTwo.{two_examples, two_faults, shelf_examples}
 
 -- the three demands, what else is promised, and the worked examples
 pub record Promises : Type 1 where
@@ -37,6 +39,7 @@ pub record Promises : Type 1 where
   pub coding : Coding
   pub writing : Writing
   pub taking_back : TakingBack
+  pub two_readings : TwoReadings
   pub answers : Answers
   pub explaining : Explaining
   pub blanks : Blanks
@@ -55,3 +58,6 @@ pub record Promises : Type 1 where
   pub worked_back : Holds back_examples
   pub worked_back_faults : Holds back_faults
   pub worked_back_histories : Holds back_histories
+  pub worked_two : Holds two_examples
+  pub worked_two_faults : Holds two_faults
+  pub worked_shelves : Holds shelf_examples

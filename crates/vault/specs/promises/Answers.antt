@@ -5,11 +5,12 @@ use Rattle.std.specs.Borrow.{Bor}
 use Rattle.layout.specs.declared.Header.{Header}
 use Rattle.layout.specs.declared.refusal.Refusal.{Refusal}
 use Rattle.layout.specs.Header.{header_of}
-use Rattle.layout.specs.Refusals.{number_of, answer_number}
+use Rattle.layout.specs.Refusals.{number_of, answer_number, read_part}
 use Rattle.store.specs.Buffers.{buffers}
-use Rattle.store.specs.StoreCalls.{opened_as, open_number, open_answer, written_as, write_answer, write_leaves, read_part}
+use Rattle.store.specs.StoreCalls.{opened_as, open_number, open_answer, written_as, write_answer, write_leaves}
 use Rattle.recovery.specs.Verdicts.{verdict_of}
 use Rattle.recovery.specs.RecoveryCall.{unnamed, at_fault}
+use Rattle.two_readings.specs.ShelfOfTwoCall.{place_given}
 use Rattle.taking_back.specs.TakeBackCall.{take_back_answer, take_back_leaves}
 use Rattle.vault.specs.Event.{write, take_back}
 use Rattle.vault.specs.History.{Vault, number_on, step}
@@ -34,6 +35,14 @@ WriteRead =
 -- of a reading its words, none where it is refused
 abbrev pub PartRead : Type 0
 PartRead = (part : Bor (List ℕ)) (refusal : Refusal) → (read_part (Ok part) ≡ part.now) × (read_part (Err refusal) ≡ [])
+
+-- of the place of a stripe its three numbers, zeros where it is refused
+abbrev pub PlaceRead : Type 0
+PlaceRead =
+    (reading start count : ℕ) (refusal : Refusal) →
+    let given = place_given (Ok (record { reading = reading; start = start; count = count })) in
+    let none = place_given (Err refusal) in
+    (given.reading ≡ reading) × (given.start ≡ start) × (given.count ≡ count) × (none.reading ≡ 0) × (none.start ≡ 0) × (none.count ≡ 0)
 
 -- of a recovery the number, and the stripe at fault where one is named
 abbrev pub VerdictRead : Type 1
@@ -73,6 +82,7 @@ pub record Answers : Type 1 where
   pub opening_read : OpeningRead
   pub write_read : WriteRead
   pub part_read : PartRead
+  pub place_read : PlaceRead
   pub verdict_read : VerdictRead
   pub header_has : HeaderHas
   pub buffers_have : BuffersHave

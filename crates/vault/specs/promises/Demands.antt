@@ -1,8 +1,8 @@
 -- WHAT THE VAULT PROMISES: the three demands, as lines that can be shown. The rooms beside this file have the words that these lines use, and what else is
 -- promised: Decoding has Readable, Codes, HoldRecords, Decodes and Fails; Losses has Survives, SameRemains and Recovers; then Histories, Explaining, Blanks,
 -- Boundary and Openings. What these say by marks, lengths and numbers is said by bytes and by the rows of the table of refusals in Erasures, Table, Numbers,
--- Leaving, Recovering, Coding, Writing and TakingBack; Answers has what is read off an answer of the code. All has the record of everything, whose one proof is
--- `proved` of proofs/Proved. Assumes nothing.
+-- Leaving, Recovering, Coding, Writing, TakingBack and TwoReadings; Answers has what is read off an answer of the code. All has the record of everything, whose
+-- one proof is `proved` of proofs/Proved. Assumes nothing.
 --
 -- SIGNS. First `f a`, h.k and ^ bind; then *, / and %; then + and -; then ∷ and ++; then ≡, ≤, <; then ×, ⊎, ↔; then →; and `let` what follows it
 --   (`→` groups from the right, the others from the left)
@@ -42,8 +42,8 @@
 --   A, T      a statement; a type
 --   ts        the tests of a call, in rising number
 --   d         a number of positions
---   m         an image, as bytes
---   e         an erasure list (gap list), as bytes
+--   m, m'     an image, as bytes; of two readings the first's and the second's
+--   e, e'     an erasure list (gap list), as bytes; likewise
 --   ms, ws    marks of a stripe's positions, true where one is erased; words of a stripe
 --   bs, cs    blocks of 1 + s words, a record's number and its data, one block after the other
 --   xs        the counts, or the origins, that explaining leaves
@@ -96,6 +96,9 @@
 --              origins_size: how long the origins are, a pair of words for each record
 --   explanation   explain_early: the number of the call `explain` by its tests 1 to 3. explain_answer, explain_counts, explain_origins, explain_scratch: what
 --              it answers, and what it leaves in its buffers. counts_size: how long the counts are, a pair of words for each stripe from 0 to k
+--   two_readings   decoding_of_two h m e m' e' l: what a stripe decodes to in the one of two readings that it is taken from. recover_two_early: the number of
+--              the call `recover_two` by its tests 1, 2, 3 and 13. recover_two_answer, recover_two_leaves, recover_two_scratch: what it answers and leaves.
+--              shelf_of_two_number, shelf_of_two_part: the number that the call `shelf_of_two` gives, and the part. place_of_two: where that stands
 --   power_table   powers_number, powers_leaves: the number that the call `powers` gives, and what it leaves
 use Rattle.std.specs.Prelude.{◌≡◌, true, false, ◌↔◌, List, ℕ}
 use Rattle.layout.specs.declared.Header.{Header}

@@ -1,7 +1,7 @@
--- WHAT EVERY CALL LEAVES, by its number: with 1 to 6, 11 and 12 everything as it was, with 7 to 10 zeros but for counts, with 0 what is promised. Of `write`
+-- WHAT EVERY CALL LEAVES, by its number: with 1 to 6 and 11 to 13 everything as it was, with 7 to 10 zeros but for counts, with 0 what is promised. Of `write`
 -- and `take_back` it is refused_stays of Demands, and with 0 the rooms Writing and TakingBack, which also has the scratch. Signs and letters: Demands. Assumes
 -- nothing.
-use Rattle.std.specs.Prelude.{◌≡◌, List, [], ℕ, suc, ◌+◌, ◌*◌, ◌-◌, ◌/◌, ◌%◌, ◌^◌, ◌≤◌, ◌<◌, length, get_or, replicate}
+use Rattle.std.specs.Prelude.{◌≡◌, ◌⊎◌, List, [], ℕ, suc, ◌+◌, ◌*◌, ◌-◌, ◌/◌, ◌%◌, ◌^◌, ◌≤◌, ◌<◌, length, get_or, replicate}
 use Rattle.layout.specs.declared.Header.{Header}
 use Rattle.layout.specs.Header.{header_of}
 use Rattle.store.specs.Buffers.{buffers, full_stripe}
@@ -9,6 +9,8 @@ use Rattle.store.specs.StoreCalls.{open_answer, open_leaves, read_number, read_g
 use Rattle.image.specs.ImageCall.{image_number, image_leaves}
 use Rattle.stripe_decoding.specs.StripeCall.{decode_number, decode_leaves, decode_scratch}
 use Rattle.recovery.specs.RecoveryCall.{recover_answer, recover_leaves, recover_scratch, unnamed, at_fault}
+use Rattle.two_readings.specs.RecoverTwoCall.{recover_two_answer, recover_two_leaves, recover_two_scratch}
+use Rattle.two_readings.specs.ShelfOfTwoCall.{shelf_of_two_number, shelf_of_two_part}
 use Rattle.explanation.specs.ExplainCall.{explain_answer, explain_counts, explain_origins, explain_scratch}
 use Rattle.power_table.specs.PowersCall.{powers_number, powers_leaves}
 use Rattle.vault.specs.Event.{Opening, Event}
@@ -114,6 +116,34 @@ RecoverTaken =
     (recover_answer h m e out scratch ≡ unnamed 0) × (length (recover_leaves h m e out scratch) ≡ length out) ×
     Zeros (length scratch) (recover_scratch h m e out scratch)
 
+-- RECOVERY FROM TWO READINGS: with 1, 2, 3 and 13 it names no stripe. With 0 TwoHolds of TwoReadings says what stands in the output, and of a history's images
+-- TwoRecover there
+abbrev pub TwoRefused : Type 0
+TwoRefused =
+    (h : Header) (m e m' e' out scratch : List ℕ) →
+    let answer = recover_two_answer h m e m' e' out scratch in
+    ((1 ≤ answer.number) × (answer.number ≤ 6)) ⊎ (answer.number ≡ 13) →
+    (answer ≡ unnamed answer.number) × (recover_two_leaves h m e m' e' out scratch ≡ out) × (recover_two_scratch h m e m' e' out scratch ≡ scratch)
+
+abbrev pub TwoFailed : Type 0
+TwoFailed =
+    (h : Header) (m e m' e' out scratch : List ℕ) →
+    let answer = recover_two_answer h m e m' e' out scratch in
+    7 ≤ answer.number → answer.number ≤ 10 →
+    (answer ≡ at_fault answer.number answer.stripe) × Zeros (length out) (recover_two_leaves h m e m' e' out scratch) ×
+    Zeros (length scratch) (recover_two_scratch h m e m' e' out scratch)
+
+abbrev pub TwoTaken : Type 0
+TwoTaken =
+    (h : Header) (m e m' e' out scratch : List ℕ) → (recover_two_answer h m e m' e' out scratch).number ≡ 0 →
+    (recover_two_answer h m e m' e' out scratch ≡ unnamed 0) × (length (recover_two_leaves h m e m' e' out scratch) ≡ length out) ×
+    Zeros (length scratch) (recover_two_scratch h m e m' e' out scratch)
+
+-- ONE STRIPE OF TWO READINGS: an empty part where it is refused. With 0 ShelfBytes of TwoReadings says which part it is
+abbrev pub ShelfRefused : Type 0
+ShelfRefused =
+    (h : Header) (m e m' e' : List ℕ) (l : ℕ) → (shelf_of_two_number h m e m' e' l ≡ 0 → ⊥) → shelf_of_two_part h m e m' e' l ≡ []
+
 -- EXPLAINING: CountsAre of Explaining says what stands in the counts with any number but 1 to 3; ExplainHolds of Recovering what in the origins with 0, and of
 -- a history's image OriginsTrue of Explaining
 abbrev pub ExplainRefused : Type 0
@@ -163,6 +193,10 @@ pub record Leaving : Type 0 where
   pub recover_refused : RecoverRefused
   pub recover_failed : RecoverFailed
   pub recover_taken : RecoverTaken
+  pub two_refused : TwoRefused
+  pub two_failed : TwoFailed
+  pub two_taken : TwoTaken
+  pub shelf_refused : ShelfRefused
   pub explain_refused : ExplainRefused
   pub explain_failed : ExplainFailed
   pub explain_taken : ExplainTaken

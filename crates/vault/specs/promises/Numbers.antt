@@ -1,8 +1,8 @@
 -- EVERY CALL'S NUMBER, both ways round, for every input: each number that the call tests is given if and only if its row of the table applies (Table) and no
--- smaller one that the call tests does, and 0 if and only if none does (of `recover` and `explain`: the room Recovering; of `take_back`: the
--- room TakingBack). Signs and letters: Demands. Assumes
--- nothing.
-use Rattle.std.specs.Prelude.{◌≡◌, ◌↔◌, List, ℕ, suc, ◌+◌, ◌*◌, ◌^◌, ◌≤◌, ◌<◌, length}
+-- row that the call tests before it does, and 0 if and only if none does (of `recover` and `explain`: the room Recovering; of `recover_two`: the room
+-- TwoReadings; of `take_back`: the room TakingBack). A call's rows are in rising number, but for `shelf_of_two`, which tests 13 before 6. Signs and letters:
+-- Demands. Assumes nothing.
+use Rattle.std.specs.Prelude.{◌≡◌, ◌⊎◌, ◌↔◌, List, ℕ, suc, ◌+◌, ◌*◌, ◌^◌, ◌≤◌, ◌<◌, length}
 use Rattle.layout.specs.declared.Header.{Header}
 use Rattle.layout.specs.Header.{header_of}
 use Rattle.store.specs.StoreCalls.{open_answer, read_number}
@@ -13,12 +13,14 @@ use Rattle.stripe_decoding.specs.Decoding.{decode_stripe}
 use Rattle.stripe_decoding.specs.StripeCall.{decode_number}
 use Rattle.recovery.specs.RecoveryCall.{recover_answer}
 use Rattle.explanation.specs.ExplainCall.{explain_early, explain_answer}
+use Rattle.two_readings.specs.RecoverTwoCall.{recover_two_early, recover_two_answer}
+use Rattle.two_readings.specs.ShelfOfTwoCall.{shelf_of_two_number}
 use Rattle.power_table.specs.PowersCall.{powers_number}
 use Rattle.vault.specs.Event.{Event, write, earlier, take_back}
 use Rattle.vault.specs.Model.{Model, writes, table_number}
 use Rattle.vault.specs.History.{Vault, number_on}
 use Rattle.vault.specs.promises.Table.{RawLength, FullLength, LogLength, BlockLength, ImageLength, OutLength, ScratchLength, CountsLength, OriginsLength}
-use Rattle.vault.specs.promises.Table.{BackLength, RoundBegins}
+use Rattle.vault.specs.promises.Table.{BackLength, RoundBegins, Differ}
 use Rattle.vault.specs.promises.Table.{OutOfRange, IllFormed, NoSuchRecord, NoDataWord, NoStripe, TooFew, Stray, Inconsistent, NotRecords, AllZero}
 use Rattle.vault.specs.promises.Table.{InRange, IsStripe, Rows, none, row, EachRow, NoRow, EachNumber}
 use Rattle.vault.specs.promises.Decoding.{Fails, Asked}
@@ -157,6 +159,35 @@ ExplainAskedIff =
     (h : Header) (m e counts origins scratch : List ℕ) →
     (explain_early h m e counts origins scratch ≡ 0) ↔ NoRow (ExplainRows h m e counts origins scratch)
 
+-- A CALL THAT IS LENT TWO READINGS; `lengths`: its other buffers have theirs. 3 is of either list
+abbrev pub TwoRows : Header → (image erasures image' erasures' : List ℕ) → (lengths : Type 0) → (more : Rows) → Rows
+TwoRows h m e m' e' lengths more =
+    row 1 (OutOfRange h)
+    (row 2 (ImageLength h m × ImageLength h m' × lengths → ⊥)
+    (row 3 (IllFormed h e ⊎ IllFormed h e')
+    (row 13 (Differ h m e m' e') more)))
+
+-- THE CALL `recover_two`. Here 1, 2, 3 and 13; 0 and 7 to 10, with the stripe that is named, are in the room TwoReadings
+abbrev pub RecoverTwoRows : Header → (image erasures image' erasures' out scratch : List ℕ) → Rows
+RecoverTwoRows h m e m' e' out scratch = TwoRows h m e m' e' (RawLength h out × ScratchLength h scratch) none
+
+abbrev pub RecoverTwoNumbers : Type 0
+RecoverTwoNumbers =
+    (h : Header) (m e m' e' out scratch : List ℕ) →
+    EachRow (recover_two_answer h m e m' e' out scratch).number (RecoverTwoRows h m e m' e' out scratch)
+
+-- no number of 1, 2, 3 and 13 applies if and only if none of these rows does
+abbrev pub TwoAskedIff : Type 0
+TwoAskedIff =
+    (h : Header) (m e m' e' out scratch : List ℕ) →
+    (recover_two_early h m e m' e' out scratch ≡ 0) ↔ NoRow (RecoverTwoRows h m e m' e' out scratch)
+
+-- THE CALL `shelf_of_two`: 13 before 6
+abbrev pub ShelfOfTwoNumbers : Type 0
+ShelfOfTwoNumbers =
+    (h : Header) (m e m' e' : List ℕ) (l : ℕ) →
+    EachNumber (shelf_of_two_number h m e m' e' l) (TwoRows h m e m' e' (Unit {0}) (row 6 (NoStripe h l) none))
+
 -- THE CALL `powers`
 abbrev pub PowersNumbers : Type 0
 PowersNumbers = (out : List ℕ) → EachNumber (powers_number out) (row 2 (length out ≡ 2048 → ⊥) none)
@@ -181,4 +212,7 @@ pub record Numbers : Type 0 where
   pub recover_numbers : RecoverNumbers
   pub explain_numbers : ExplainNumbers
   pub explain_asked_iff : ExplainAskedIff
+  pub recover_two_numbers : RecoverTwoNumbers
+  pub two_asked_iff : TwoAskedIff
+  pub shelf_of_two_numbers : ShelfOfTwoNumbers
   pub powers_numbers : PowersNumbers

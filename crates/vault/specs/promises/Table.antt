@@ -1,6 +1,6 @@
 -- THE TABLE OF REFUSALS (docs/FORMAT.md, section 10) as statements: when each of its rows applies; and what it is that a call gives a row's number if and only
 -- if that row applies and no row before it does. Signs and letters: Demands. Assumes nothing.
-use Rattle.std.specs.Prelude.{◌≡◌, true, false, ◌⊎◌, ◌↔◌, List, ℕ, suc, ◌+◌, ◌*◌, ◌-◌, ◌/◌, ◌%◌, ◌^◌, ◌≤◌, ◌<◌, length, get_or}
+use Rattle.std.specs.Prelude.{◌≡◌, true, false, ◌⊎◌, ◌↔◌, List, [], ◌∷◌, ℕ, suc, ◌+◌, ◌*◌, ◌-◌, ◌/◌, ◌%◌, ◌^◌, ◌≤◌, ◌<◌, length, get_or}
 use Rattle.decoder.specs.Decoding.{survivors}
 use Rattle.layout.specs.declared.Header.{Header}
 use Rattle.layout.specs.Header.{header_fits}
@@ -116,6 +116,18 @@ AllZero b = (q : ℕ) → get_or b q 0 ≡ 0
 abbrev pub RoundBegins : Header → Type 0
 RoundBegins h = h.c ≡ 0
 
+-- 13, readings differ: at a position of a needed stripe that neither list touches, a word of one image is not that of the other
+pub record Differ (h : Header) (m e m' e' : List ℕ) : Type 0 where
+  pub stripe : ℕ
+  pub position : ℕ
+  pub column : ℕ
+  pub needed : IsStripe h stripe
+  pub among : position < 2 ^ suc stripe
+  pub inside : column < suc h.s
+  pub untouched : Untouched h e stripe position
+  pub untouched' : Untouched h e' stripe position
+  pub other : let byte = 4 * (stripe_place h stripe + (position * suc h.s + column)) in four_bytes m byte ≡ four_bytes m' byte → ⊥
+
 -- ROWS OF THE TABLE, those that a call tests: each with its number and the statement that it applies
 pub data Rows : Type 1 where
   none : Rows
@@ -140,15 +152,20 @@ NoRow rows = NoneAfter (Unit {0}) rows
 abbrev pub EachNumber : (given : ℕ) → Rows → Type 0
 EachNumber given rows = EachRow given rows × ((given ≡ 0) ↔ NoRow rows)
 
--- THE ONE LAW of tests in a list, and rows that go together: each test fails if and only if its row applies, and their numbers, which are the same, rise
-abbrev pub Match : (least : ℕ) → Tests → Rows → Type 0
-Match least done none = Unit {0}
-Match least (test holds n ts) (row n' A rows) = (least < n) × (n ≡ n') × ((holds ≡ false) ↔ A) × Match n ts rows
-Match least done (row n' A rows) = ⊥
-Match least (test holds n ts) none = ⊥
+-- THE ONE LAW of tests in a list, and rows that go together: each test fails if and only if its row applies, and their numbers are the same, none of them 0
+-- and none twice
+abbrev pub Fresh : (before : List ℕ) → (n : ℕ) → Type 0
+Fresh [] n = 0 < n
+Fresh (n' ∷ before) n = (n ≡ n' → ⊥) × Fresh before n
+
+abbrev pub Match : (before : List ℕ) → Tests → Rows → Type 0
+Match before done none = Unit {0}
+Match before (test holds n ts) (row n' A rows) = Fresh before n × (n ≡ n') × ((holds ≡ false) ↔ A) × Match (n ∷ before) ts rows
+Match before done (row n' A rows) = ⊥
+Match before (test holds n ts) none = ⊥
 
 abbrev pub RefusalIs : Type 1
-RefusalIs = (ts : Tests) (rows : Rows) → Match 0 ts rows → EachNumber (refusal ts) rows
+RefusalIs = (ts : Tests) (rows : Rows) → Match [] ts rows → EachNumber (refusal ts) rows
 
 -- ALL OF THIS ROOM
 pub record Table : Type 1 where
