@@ -6,12 +6,13 @@
  * of k levels. Its plate is k (1 to 10), s (1 to 128) and c (0 to n - 1), the writes since the full shelf was last built. The library keeps nothing between
  * two calls, and a call touches only what it is lent.
  *
- * Each call gives a number of the table below, 0 if it is taken. It makes its tests in rising number and gives the smallest that applies, for any numbers,
- * any counts and any contents of the buffers. What is proved of it (crates/c_calls/src/lib.rt) is this number and every word and byte that it leaves.
+ * Each call gives a number of the table below, 0 if it is taken. It makes its tests in the order in which they are named at the call, and gives the first that
+ * applies, for any numbers, any counts and any contents of the buffers. What is proved of it (crates/c_calls/src/lib.rt) is this number and every word and byte
+ * that it leaves.
  *
  * What no call can test, and the caller answers for:
- * - each pointer is valid for the count that follows it, and aligned for its type; c, start, count and shelf are valid for one number each. A pointer whose
- *   count is 0 is not followed;
+ * - each pointer is valid for the count that follows it, and aligned for its type; c, start, count, shelf and reading are valid for one number each. A pointer
+ *   whose count is 0 is not followed;
  * - what a call may change (a pointer without `const`) overlaps nothing else that it is lent;
  * - nobody else reads or changes these during the call.
  *
@@ -29,22 +30,23 @@ extern "C" {
 
 /* The number of a call: the table of docs/FORMAT.md, section 10. */
 enum vault_number {
-    VAULT_TAKEN = 0,       /* no test applies */
-    VAULT_HEADER = 1,      /* plate: k, s or c out of its range */
-    VAULT_LENGTH = 2,      /* length: a buffer, block or image is not exactly its length */
-    VAULT_GAP_LIST = 3,    /* gap list: not whole pairs, or a rule of gap lists broken */
-    VAULT_RECORD = 4,      /* record: the record number is n or more */
-    VAULT_DATA_WORD = 5,   /* data word: a word of the block or of the opened records is above 65535 */
-    VAULT_SHELF = 6,       /* shelf: the shelf number is above k, or that level is not filled */
-    VAULT_TOO_FEW = 7,     /* too few: fewer than half of the shelf's positions survive */
-    VAULT_STRAY = 8,       /* stray: a surviving word is above 65536 */
-    VAULT_DISCORD = 9,     /* discord: no list of blocks codes to all surviving words */
-    VAULT_NO_SHEET = 10,   /* no sheet: the one list that does holds no records */
-    VAULT_BLANK = 11,      /* blank: each data word of the block of a write is 0 */
-    VAULT_ROUND_START = 12 /* round start: a write is to be taken back, and *c is 0 */
+    VAULT_TAKEN = 0,           /* no test applies */
+    VAULT_HEADER = 1,          /* plate: k, s or c out of its range */
+    VAULT_LENGTH = 2,          /* length: a buffer, block or image is not exactly its length */
+    VAULT_GAP_LIST = 3,        /* gap list: not whole pairs, or a rule of gap lists broken */
+    VAULT_RECORD = 4,          /* record: the record number is n or more */
+    VAULT_DATA_WORD = 5,       /* data word: a word of the block or of the opened records is above 65535 */
+    VAULT_SHELF = 6,           /* shelf: the shelf number is above k, or that level is not filled */
+    VAULT_TOO_FEW = 7,         /* too few: fewer than half of the shelf's positions survive */
+    VAULT_STRAY = 8,           /* stray: a surviving word is above 65536 */
+    VAULT_DISCORD = 9,         /* discord: no list of blocks codes to all surviving words */
+    VAULT_NO_SHEET = 10,       /* no sheet: the one list that does holds no records */
+    VAULT_BLANK = 11,          /* blank: each data word of the block of a write is 0 */
+    VAULT_ROUND_START = 12,    /* round start: a write is to be taken back, and *c is 0 */
+    VAULT_READINGS_DIFFER = 13 /* readings differ: a position of a needed shelf is whole in both of two readings, with another word in each */
 };
 
-/* What vault_recover and vault_explain leave in *shelf where they name none. */
+/* What vault_recover, vault_recover_two and vault_explain leave in *shelf where they name none. */
 #define VAULT_NO_SHELF UINT32_C(0xffffffff)
 
 /* The sizes of the buffers, for k from 1 to 10 and s from 1 to 128; constants if k and s are. That of the table of powers depends on neither. */
@@ -163,6 +165,45 @@ uint32_t vault_recover(uint32_t k, uint32_t s, uint32_t c,
                        uint32_t *out, size_t out_len,
                        uint32_t *scratch, size_t scratch_len,
                        uint32_t *shelf);
+
+/*
+ * Recovery from two readings of one rack: an image and a gap list each, under one plate. The two are compared first: a position of the full shelf or of a
+ * filled level that is whole in both, but with other words (all four bytes of each count, strays too), is 13. Then each shelf is decoded in the reading that
+ * has more of its positions whole, the first on a tie, and laid as vault_recover does.
+ *
+ * Lengths: each image VAULT_IMAGE_BYTES, out VAULT_RAW_WORDS, scratch VAULT_SCRATCH_WORDS; gap lists of any length (3 if one is not whole pairs).
+ * Tests: 1 (k, s and c), 2 (image1, image2, out, scratch), 3 (either list), 13, then 7, 8, 9, 10 on each shelf in the order in which they are decoded.
+ * After 0: out holds the records, record i from word i * s on, scratch zeros, and *shelf is VAULT_NO_SHELF.
+ * After 1 to 3, and 13: out and scratch are as they were, and *shelf is VAULT_NO_SHELF.
+ * After 7 to 10: out and scratch are zeros, and *shelf is the first shelf at fault: a level, or k for the full shelf.
+ * The images may be one buffer, and so may the lists; with the same image and list twice it does what vault_recover does.
+ */
+uint32_t vault_recover_two(uint32_t k, uint32_t s, uint32_t c,
+                           const uint8_t *image1, size_t image1_len,
+                           const uint8_t *gaps1, size_t gaps1_len,
+                           const uint8_t *image2, size_t image2_len,
+                           const uint8_t *gaps2, size_t gaps2_len,
+                           uint32_t *out, size_t out_len,
+                           uint32_t *scratch, size_t scratch_len,
+                           uint32_t *shelf);
+
+/*
+ * One shelf of two readings: where its bytes stand, in the image of the reading that vault_recover_two decodes it in.
+ *
+ * shelf is a level, 0 to k - 1, that is filled, or k for the full shelf.
+ *
+ * Lengths: each image VAULT_IMAGE_BYTES; gap lists of any length (3 if one is not whole pairs).
+ * Tests: 1 (k, s and c), 2 (image1, image2), 3 (either list), 13 over the whole rack, then 6.
+ * After 0: the shelf is the bytes *start to *start + *count - 1 of image1 if *reading is 0, and of image2 if it is 1.
+ * After any other number: *reading, *start and *count are 0.
+ */
+uint32_t vault_shelf_of_two(uint32_t k, uint32_t s, uint32_t c,
+                            const uint8_t *image1, size_t image1_len,
+                            const uint8_t *gaps1, size_t gaps1_len,
+                            const uint8_t *image2, size_t image2_len,
+                            const uint8_t *gaps2, size_t gaps2_len,
+                            uint32_t shelf,
+                            uint32_t *reading, size_t *start, size_t *count);
 
 /*
  * Explaining a recovery: how many positions each needed shelf has left and how many more would do, and where each record comes from. Needed are the full

@@ -5,14 +5,15 @@
 //! k levels, (2n - 2)(s + 1) words. Its plate is k (1 to 10), s (1 to 128) and c (0 to n - 1), the writes since the full shelf was last built. Its image is
 //! 4(s + 1)(4n - 2) bytes, and a scratch buffer n(s + 1) + 4n words, twice as many for taking back.
 //!
-//! Each call gives a number of the table of refusals in docs/FORMAT.md. It makes its tests in rising number and gives the smallest that applies, for any
-//! numbers, any counts and any contents of the buffers: a length that is not the one named here is refused, and is no fault of the caller's.
+//! Each call gives a number of the table of refusals in docs/FORMAT.md. It makes its tests in the order in which they are named at the call, and gives the
+//! first that applies, for any numbers, any counts and any contents of the buffers: a length that is not the one named here is refused, and is no fault of the
+//! caller's.
 //!
 //! # Safety
 //!
 //! What no call can test, and the caller owes:
 //! - each pointer is aligned for its type, and valid for as many elements as the count after it says (words of 32 bits, or bytes); a pointer that no count
-//!   follows (`c`, `start`, `count`, a `*mut` `shelf`) is valid for one. A pointer whose count is 0 is not followed, and may be null;
+//!   follows (`c`, `start`, `count`, `reading`, a `*mut` `shelf`) is valid for one. A pointer whose count is 0 is not followed, and may be null;
 //! - what a `*mut` pointer leads to overlaps nothing else that the call is lent;
 //! - nobody else reads or changes any of it during the call.
 
@@ -42,8 +43,10 @@ pub const VAULT_NO_SHEET: u32 = 10;
 pub const VAULT_BLANK: u32 = 11;
 /// Round start: a write is to be taken back, and `*c` is 0.
 pub const VAULT_ROUND_START: u32 = 12;
+/// Readings differ: a position of a needed shelf is whole in both of two readings, with another word in each.
+pub const VAULT_READINGS_DIFFER: u32 = 13;
 
-/// What [`vault_recover`] and [`vault_explain`] leave in `*shelf` where they name none.
+/// What [`vault_recover`], [`vault_recover_two`] and [`vault_explain`] leave in `*shelf` where they name none.
 pub const VAULT_NO_SHELF: u32 = 0xffff_ffff;
 
 // Pointer and count stand on one line, as in include/vault.h.
@@ -155,6 +158,47 @@ extern "C" {
         out: *mut u32, out_len: usize,
         scratch: *mut u32, scratch_len: usize,
         shelf: *mut u32,
+    ) -> u32;
+
+    /// Recovery from two readings of one rack: an image and a gap list each, under one plate. A position of the full shelf or of a filled level that is whole
+    /// in both, but with other words, is 13. Each shelf is decoded in the reading that has more of its positions whole, the first on a tie.
+    ///
+    /// Tests 1 (k, s and c), 2 (`image1`, `image2`, `out` of n * s words, `scratch`), 3 (either list) and 13, then 7 to 10 on each shelf in recovery's order.
+    /// After 0, `out` holds the records and `scratch` zeros; after 1 to 3 and 13 both are as they were; then `*shelf` is [`VAULT_NO_SHELF`]. After 7 to 10 both
+    /// are zeros, and `*shelf` is the first shelf at fault.
+    ///
+    /// # Safety
+    ///
+    /// `image1`, `gaps1`, `image2` and `gaps2` are valid for reads of as many bytes as their counts say, and may overlap; `out` and `scratch` are valid for
+    /// reads and writes of `out_len` and `scratch_len` words, `shelf` for writes of one number; none of the three overlaps anything that the call is lent.
+    pub fn vault_recover_two(
+        k: u32, s: u32, c: u32,
+        image1: *const u8, image1_len: usize,
+        gaps1: *const u8, gaps1_len: usize,
+        image2: *const u8, image2_len: usize,
+        gaps2: *const u8, gaps2_len: usize,
+        out: *mut u32, out_len: usize,
+        scratch: *mut u32, scratch_len: usize,
+        shelf: *mut u32,
+    ) -> u32;
+
+    /// One shelf of two readings: where its bytes stand, in the image of the reading that [`vault_recover_two`] decodes it in.
+    ///
+    /// Tests 1 (k, s and c), 2 (`image1`, `image2`), 3 (either list), 13 over the whole rack, and then 6. After 0, the shelf is the bytes from `*start` on,
+    /// `*count` of them, of `image1` if `*reading` is 0, and of `image2` if it is 1; after any other number all three are 0.
+    ///
+    /// # Safety
+    ///
+    /// `image1`, `gaps1`, `image2` and `gaps2` are valid for reads of as many bytes as their counts say, and may overlap; `reading`, `start` and `count` are
+    /// valid for writes of one number each, and overlap nothing that the call is lent.
+    pub fn vault_shelf_of_two(
+        k: u32, s: u32, c: u32,
+        image1: *const u8, image1_len: usize,
+        gaps1: *const u8, gaps1_len: usize,
+        image2: *const u8, image2_len: usize,
+        gaps2: *const u8, gaps2_len: usize,
+        shelf: u32,
+        reading: *mut u32, start: *mut usize, count: *mut usize,
     ) -> u32;
 
     /// Explaining a recovery: `counts` has two words for each shelf from 0 to k, the positions left and how many more would do, zeros if recovery does not need

@@ -12,11 +12,13 @@ ghost use Rattle.vault.specs.TakeBackCall.{take_back_number, take_back_answer, t
 ghost use Rattle.vault.specs.StripeCall.{decode_number, decode_leaves, decode_scratch};
 ghost use Rattle.vault.specs.Verdicts.{verdict_of};
 ghost use Rattle.vault.specs.RecoveryCall.{recover_answer, recover_leaves, recover_scratch};
+ghost use Rattle.vault.specs.RecoverTwoCall.{recover_two_answer, recover_two_leaves, recover_two_scratch};
+ghost use Rattle.vault.specs.ShelfOfTwoCall.{shelf_of_two_number, place_of_two};
 ghost use Rattle.vault.specs.ExplainCall.{explain_answer, explain_counts, explain_origins, explain_scratch};
 ghost use Rattle.vault.specs.ImageCall.{image_number, image_leaves};
 ghost use Rattle.vault.specs.Boundary.{read_start, read_count, shelf_of};
 
-use vault::{Fault, Header, calls, number_of};
+use vault::{Fault, Header, Place, calls, number_of};
 
 // The number of an answer that may name a stripe.
 fn fault_number(answer: Result<(), Fault>) -> u32
@@ -183,6 +185,80 @@ pub extern "C" fn vault_recover(
     let answer = calls::recover(Header { k, s, c }, image, gaps, out, scratch);
     *shelf = shelf_of(answer);
     fault_number(answer)
+}
+
+// *shelf is the shelf at fault, or 0xffffffff where none is named.
+#[unsafe(no_mangle)]
+pub extern "C" fn vault_recover_two(
+    k: u32,
+    s: u32,
+    c: u32,
+    image1: &[u8],
+    gaps1: &[u8],
+    image2: &[u8],
+    gaps2: &[u8],
+    out: &mut [u32],
+    scratch: &mut [u32],
+    shelf: &mut u32,
+) -> u32
+    ensures value { result ≡
+        (recover_two_answer (header_of k s c) image1.now gaps1.now image2.now gaps2.now out.old scratch.old).number }
+    ensures out_after { out.new ≡
+        recover_two_leaves (header_of k s c) image1.now gaps1.now image2.now gaps2.now out.old scratch.old }
+    ensures scratch_after { scratch.new ≡
+        recover_two_scratch (header_of k s c) image1.now gaps1.now image2.now gaps2.now out.old scratch.old }
+    ensures shelf_after { shelf.new ≡
+        shelf_of (recover_two_answer (header_of k s c) image1.now gaps1.now image2.now gaps2.now out.old scratch.old) }
+{
+    let header = Header { k, s, c };
+    let answer = calls::recover_two(header, image1, gaps1, image2, gaps2, out, scratch);
+    *shelf = shelf_of(answer);
+    fault_number(answer)
+}
+
+// The shelf is image1[*start .. *start + *count) where *reading is 0, and of image2 where it is 1; all three are 0 where it is refused.
+#[unsafe(no_mangle)]
+pub extern "C" fn vault_shelf_of_two(
+    k: u32,
+    s: u32,
+    c: u32,
+    image1: &[u8],
+    gaps1: &[u8],
+    image2: &[u8],
+    gaps2: &[u8],
+    shelf: u32,
+    reading: &mut u32,
+    start: &mut usize,
+    count: &mut usize,
+) -> u32
+    ensures value { result ≡ shelf_of_two_number (header_of k s c) image1.now gaps1.now image2.now gaps2.now shelf }
+    ensures reading_after { reading.new ≡
+        (place_of_two (header_of k s c) image1.now gaps1.now image2.now gaps2.now shelf).reading }
+    ensures start_after { start.new ≡ (place_of_two (header_of k s c) image1.now gaps1.now image2.now gaps2.now shelf).start }
+    ensures count_after { count.new ≡ (place_of_two (header_of k s c) image1.now gaps1.now image2.now gaps2.now shelf).count }
+{
+    let (given, number) = match calls::place_of_two(
+        Header { k, s, c },
+        image1,
+        gaps1,
+        image2,
+        gaps2,
+        shelf,
+    ) {
+        Ok(place) => (place, 0),
+        Err(refusal) => (
+            Place {
+                reading: 0,
+                start: 0,
+                count: 0,
+            },
+            refusal.number(),
+        ),
+    };
+    *reading = given.reading;
+    *start = given.start;
+    *count = given.count;
+    number
 }
 
 // Why a recovery stops, or where each record comes from. counts: for each shelf the positions left, and how many it lacks; origins: for each record the shelf
