@@ -2,6 +2,7 @@
 use crate::calls::{Answer, Call};
 use crate::header::Header;
 use crate::lent::Lender;
+use crate::two_readings::{self, Place, Reading};
 use crate::{explanation, image, opening, powers, reading, recovery, taking_back, writing};
 
 /// Makes a call. The header that it gives is the lender's afterwards, unless it is refused.
@@ -10,6 +11,10 @@ pub fn call(lender: &mut Lender, call: Call) -> Answer {
     let (raw, block) = (lender.raw.part_mut(), lender.block.part());
     let (full, log) = (lender.full.part_mut(), lender.log.part_mut());
     let (image, list) = (lender.image.part_mut(), lender.list.part());
+    let second = Reading {
+        image: lender.image2.part(),
+        list: lender.list2.part(),
+    };
     let (counts, out) = (lender.counts.part_mut(), lender.out.part_mut());
     let scratch = lender.scratch.part_mut();
     let double = lender.double_scratch.part_mut();
@@ -28,6 +33,14 @@ pub fn call(lender: &mut Lender, call: Call) -> Answer {
         Call::Explain => with_stripe(explanation::explain(
             header, image, list, counts, out, scratch,
         )),
+        Call::RecoverTwo => {
+            let readings = [Reading { image, list }, second];
+            with_stripe(two_readings::recover_two(header, readings, out, scratch))
+        }
+        Call::ShelfOfTwo { stripe } => {
+            let readings = [Reading { image, list }, second];
+            with_place(two_readings::shelf_of_two(header, readings, stripe))
+        }
         Call::Powers => Answer::of(powers::powers(out)),
     };
     keep_header(lender, answer);
@@ -60,6 +73,13 @@ fn with_header((number, header): (u32, Header)) -> Answer {
 fn with_stripe((number, stripe): (u32, Option<u32>)) -> Answer {
     Answer {
         stripe,
+        ..Answer::of(number)
+    }
+}
+
+fn with_place((number, place): (u32, Place)) -> Answer {
+    Answer {
+        place: Some(place),
         ..Answer::of(number)
     }
 }

@@ -2,9 +2,10 @@
 //! the library both go by it.
 use crate::header::Header;
 use crate::lent::{
-    Buffer, BLOCK, COUNTS, DOUBLE_SCRATCH, FULL, IMAGE, LIST, LOG, OUT, RAW, SCRATCH,
+    Buffer, BLOCK, COUNTS, DOUBLE_SCRATCH, FULL, IMAGE, IMAGE2, LIST, LIST2, LOG, OUT, RAW, SCRATCH,
 };
 use crate::powers::ENTRIES;
+use crate::two_readings::Place;
 
 #[derive(Clone, Copy, Debug, PartialEq)]
 pub enum Call {
@@ -16,6 +17,8 @@ pub enum Call {
     Decode { stripe: u32 },
     Recover,
     Explain,
+    RecoverTwo,
+    ShelfOfTwo { stripe: u32 },
     Powers,
 }
 
@@ -48,7 +51,7 @@ pub struct Row {
 
 impl Call {
     /// How many calls there are.
-    pub const COUNT: usize = 9;
+    pub const COUNT: usize = 11;
 
     /// Each call once, given this record and this stripe.
     pub fn all(record: u32, stripe: u32) -> [Call; Call::COUNT] {
@@ -61,6 +64,8 @@ impl Call {
             Call::Decode { stripe },
             Call::Recover,
             Call::Explain,
+            Call::RecoverTwo,
+            Call::ShelfOfTwo { stripe },
             Call::Powers,
         ]
     }
@@ -98,6 +103,10 @@ impl Call {
             Call::Explain => row("explain", 12, 0, &[0, 1, 2, 3, 7, 8, 9, 10],
                 &[(Reads, IMAGE), (Reads, LIST), (StoresPairs("counts"), COUNTS), (StoresPairs("origins"), OUT), (Stores, SCRATCH)],
                 Header::origins_len),
+            Call::RecoverTwo => row("recover_two", 15, 0, &[0, 1, 2, 3, 13, 7, 8, 9, 10],
+                &[(Reads, IMAGE), (Reads, LIST), (Reads, IMAGE2), (Reads, LIST2), (Stores, OUT), (Stores, SCRATCH)], Header::raw_len),
+            Call::ShelfOfTwo { stripe } => row("shelf_of_two", 16, stripe, &[0, 1, 2, 3, 13, 6],
+                &[(Reads, IMAGE), (Reads, LIST), (Reads, IMAGE2), (Reads, LIST2)], none),
             Call::Powers => row("powers", 13, 0, &[0, 2], &[(Stores, OUT)], |_| ENTRIES),
         }
     }
@@ -127,6 +136,8 @@ pub struct Answer {
     pub stripe: Option<u32>,
     /// The part of the raw buffer that reading gives, as start and count: 0 and 0 where it is refused.
     pub part: Option<(usize, usize)>,
+    /// Where a stripe of two readings stands.
+    pub place: Option<Place>,
 }
 
 impl Answer {

@@ -1,5 +1,6 @@
 //! What a caller of the vault lends: a header, and buffers of which each call is lent a part.
 use crate::header::Header;
+use std::mem;
 
 /// Buffers of words. By their numbers the stored cases name all but the last two: the counts, for which the command of an explanation lends, and the double
 /// scratch, for which that of a taking-back does. Decoding, recovery and the table of powers store to `Out`, and an explanation its origins.
@@ -15,11 +16,14 @@ pub enum Words {
     DoubleScratch,
 }
 
-/// Buffers of bytes, by number. `List` has the erasure list; a listing reads its input from it, and puts its text into `Image`.
+/// Buffers of bytes, by number. `List` has the erasure list; a listing reads its input from it, and puts its text into `Image`. The other two are the second of
+/// two readings.
 #[derive(Clone, Copy, Debug, PartialEq)]
 pub enum Bytes {
     Image,
     List,
+    Image2,
+    List2,
 }
 
 #[derive(Clone, Copy, Debug, PartialEq)]
@@ -38,12 +42,14 @@ pub const COUNTS: Buffer = Buffer::Words(Words::Counts);
 pub const DOUBLE_SCRATCH: Buffer = Buffer::Words(Words::DoubleScratch);
 pub const IMAGE: Buffer = Buffer::Bytes(Bytes::Image);
 pub const LIST: Buffer = Buffer::Bytes(Bytes::List);
+pub const IMAGE2: Buffer = Buffer::Bytes(Bytes::Image2);
+pub const LIST2: Buffer = Buffer::Bytes(Bytes::List2);
 
 impl Buffer {
     #[rustfmt::skip]
-    pub const ALL: [Buffer; 10] = [RAW, FULL, LOG, BLOCK, OUT, SCRATCH, COUNTS, DOUBLE_SCRATCH, IMAGE, LIST];
+    pub const ALL: [Buffer; 12] = [RAW, FULL, LOG, BLOCK, OUT, SCRATCH, COUNTS, DOUBLE_SCRATCH, IMAGE, LIST, IMAGE2, LIST2];
 
-    /// The name in the document, where each call has one scratch.
+    /// The name in the document, where each call has one scratch; those of the second of two readings have none there.
     pub fn name(self) -> String {
         match self {
             DOUBLE_SCRATCH => SCRATCH.name(),
@@ -118,6 +124,8 @@ pub struct Lender {
     pub double_scratch: Lent<u32>,
     pub image: Lent<u8>,
     pub list: Lent<u8>,
+    pub image2: Lent<u8>,
+    pub list2: Lent<u8>,
 }
 
 impl Lender {
@@ -139,6 +147,8 @@ impl Lender {
             double_scratch: words(Words::DoubleScratch),
             image: bytes(Bytes::Image),
             list: bytes(Bytes::List),
+            image2: bytes(Bytes::Image2),
+            list2: bytes(Bytes::List2),
         }
     }
 
@@ -172,6 +182,8 @@ impl Lender {
         match buffer {
             Bytes::Image => &self.image,
             Bytes::List => &self.list,
+            Bytes::Image2 => &self.image2,
+            Bytes::List2 => &self.list2,
         }
     }
 
@@ -179,7 +191,15 @@ impl Lender {
         match buffer {
             Bytes::Image => &mut self.image,
             Bytes::List => &mut self.list,
+            Bytes::Image2 => &mut self.image2,
+            Bytes::List2 => &mut self.list2,
         }
+    }
+
+    /// Makes the second of two readings the first, and the first the second.
+    pub fn exchange(&mut self) {
+        mem::swap(&mut self.image, &mut self.image2);
+        mem::swap(&mut self.list, &mut self.list2);
     }
 
     /// A buffer with its bytes as numbers.

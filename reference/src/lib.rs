@@ -21,4 +21,5 @@ pub mod script;
 pub mod stripe;
 pub mod stripe_cases;
 pub mod taking_back;
+pub mod two_readings;
 pub mod writing;

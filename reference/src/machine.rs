@@ -6,7 +6,7 @@
 use crate::by_reference;
 use crate::calls::{Answer, Call, Use};
 use crate::header::Header;
-use crate::lent::{Buffer, Bytes, Lender, Lent, Words};
+use crate::lent::{Buffer, Bytes, Lender, Lent, Words, IMAGE, IMAGE2};
 use crate::listing::list;
 use crate::script::{Command, Number, BYTES, UNSET, WORDS};
 use std::fmt::Write;
@@ -104,6 +104,7 @@ impl Machine {
                 all[at as usize..][..bytes.len()].copy_from_slice(bytes);
             }
             Command::Garble { from, count, seed } => self.garble(from, count, seed),
+            Command::Exchange => self.lender.exchange(),
             Command::Call(call) => self.call(call, 0),
             Command::Explain(counts) => self.call(Call::Explain, counts),
             Command::TakeBack(scratch) => self.call(Call::TakeBack, scratch),
@@ -165,10 +166,18 @@ impl Machine {
         let mut numbers = vec![answer.number];
         numbers.extend(answer.header.iter().flat_map(|h| [h.k, h.s, h.c]));
         numbers.extend(answer.stripe);
+        let place = answer.place.iter();
+        numbers.extend(place.flat_map(|p| [p.reading, p.start as u32, p.count as u32]));
         self.show_all(call.name(), &numbers);
         if let Some((start, count)) = answer.part {
             let part = self.lender.raw.part()[start..start + count].to_vec();
             self.show(" part", &part);
+        }
+        if let Some(place) = answer.place {
+            let image = [IMAGE, IMAGE2][place.reading as usize];
+            let bytes = self.lender.numbers(image);
+            let part = &bytes.part()[place.start..place.start + place.count];
+            self.show_sum(" part", part);
         }
     }
 

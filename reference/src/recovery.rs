@@ -39,11 +39,22 @@ pub fn recover(
     let Ok(gaps) = tested else {
         return (number(&tested), None);
     };
+    let decoded = |stripe| blocks(header, image, &gaps, stripe);
+    lay(header, decoded, out, scratch)
+}
+
+/// Lays the blocks of each needed stripe, decoded in the order of recovery. Gives the number, and the stripe at fault where one is named.
+pub(crate) fn lay(
+    header: Header,
+    blocks_of: impl Fn(u32) -> Result<Vec<u64>, Refusal>,
+    out: &mut [u32],
+    scratch: &mut [u32],
+) -> (u32, Option<u32>) {
     out.fill(0);
     scratch.fill(0);
     let filled = (0..=header.k).rev().filter(|&stripe| header.filled(stripe));
     for stripe in filled {
-        let decoded = blocks(header, image, &gaps, stripe);
+        let decoded = blocks_of(stripe);
         let Ok(blocks) = &decoded else {
             out.fill(0);
             return (number(&decoded), Some(stripe));

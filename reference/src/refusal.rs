@@ -14,9 +14,10 @@ pub enum Refusal {
     NotARecord,
     Blank,
     RoundStart,
+    ReadingsDiffer,
 }
 
-/// What holds, or the refusal. Calls make their tests in rising number, but for 12, which comes before 8 to 10.
+/// What holds, or the refusal. Calls make their tests in rising number, but for 12, which comes before 8 to 10, and 13, which comes right after 3.
 pub fn test(holds: bool, otherwise: Refusal) -> Result<(), Refusal> {
     if holds {
         Ok(())

@@ -8,7 +8,7 @@ use crate::lent::{Bytes, Words};
 /// How many words a buffer of words has, and how many bytes a buffer of bytes. The words that a command lends for the counts, or for the double scratch, are
 /// `UNSET` each time: what no count is, and no scratch afterwards.
 pub const WORDS: [usize; 8] = [4096, 8192, 8192, 256, 4096, 8192, 32, 16384];
-pub const BYTES: [usize; 2] = [65536, 16384];
+pub const BYTES: [usize; 4] = [65536, 16384, 65536, 16384];
 pub const UNSET: u32 = 99999;
 
 /// What a `Set` sets.
@@ -53,6 +53,8 @@ pub enum Command {
         count: u32,
         seed: u32,
     },
+    /// The two readings change places.
+    Exchange,
     Call(Call),
     /// The call of that name, with so many words lent for its counts; `Call` lends none.
     Explain(u32),
@@ -77,6 +79,7 @@ impl Command {
             Command::Explain(counts) => (Call::Explain.row().command, [counts, 0, 0]),
             Command::TakeBack(scratch) => (Call::TakeBack.row().command, [scratch, 0, 0]),
             Command::List => (11, [0; 3]),
+            Command::Exchange => (17, [0; 3]),
         };
         let mut bytes = vec![kind];
         bytes.extend(numbers.iter().flat_map(|n| n.to_le_bytes()));

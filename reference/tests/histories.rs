@@ -1,5 +1,5 @@
 //! Recovery after any history of writes, earlier writes and takings-back gives the records of the model (docs/FORMAT.md), whatever half of each stripe is
-//! lost; and the explanation is the true one, whatever is lost.
+//! lost, and from two readings, of which one has half of each stripe; and the explanation is the true one, whatever is lost.
 use random::Random;
 use reference::explanation::explain;
 use reference::header::Header;
@@ -8,6 +8,7 @@ use reference::opening::open;
 use reference::reading::read;
 use reference::recovery::{decode_stripe, recover};
 use reference::taking_back::take_back;
+use reference::two_readings::{recover_two, shelf_of_two, Place, Reading};
 use reference::writing::{earlier_write, write};
 
 /// Loses so many positions of each stripe: garbage in the image, and the list.
@@ -52,6 +53,20 @@ fn some(random: &mut Random, header: Header) -> Vec<usize> {
         random.index(most + 1)
     };
     (0..=header.k).map(count).collect()
+}
+
+/// Losses of two readings, of which at least one keeps half of each stripe.
+fn together(random: &mut Random, header: Header) -> [Vec<usize>; 2] {
+    let mut counts = [Vec::new(), Vec::new()];
+    for stripe in 0..=header.k {
+        let few = random.index((1 << stripe) + 1);
+        let any = random.index((2 << stripe) + 1);
+        let other = *random.one(&[few, any]);
+        let first = random.index(2);
+        counts[first].push(few);
+        counts[1 - first].push(other);
+    }
+    counts
 }
 
 /// What an explanation has to give after a loss: the number, the stripe, the counts, and the origins of records whose last writes in the round are these.
@@ -246,6 +261,33 @@ impl History {
             assert_eq!((number, out), (0, expected));
         }
     }
+
+    /// Recovers from two readings, and takes each stripe out of that of which fewer positions are lost, the first if they are as many.
+    fn read_twice(&self, random: &mut Random) {
+        let header = self.header;
+        let mut bytes = vec![9; header.image_len()];
+        assert_eq!(image(header, &self.full, &self.log, &mut bytes), 0);
+        let lost = together(random, header);
+        let mut images = [bytes.clone(), bytes];
+        let lists = [0, 1].map(|i| lose(random, header, &mut images[i], &lost[i]));
+        let readings = [0, 1].map(|i| Reading {
+            image: &images[i],
+            list: &lists[i],
+        });
+        let mut out = data(random, header.raw_len());
+        let mut scratch = data(random, header.scratch_len());
+        let answer = recover_two(header, readings, &mut out, &mut scratch);
+        assert_eq!((answer, &out), ((0, None), &self.book));
+        assert!(scratch.iter().all(|&x| x == 0));
+        for stripe in (0..=header.k).filter(|&stripe| header.filled(stripe)) {
+            let place = Place {
+                reading: u32::from(lost[1][stripe as usize] < lost[0][stripe as usize]),
+                start: 4 * header.stripe_start(stripe),
+                count: 4 * (2 << stripe) * header.width(),
+            };
+            assert_eq!(shelf_of_two(header, readings, stripe), (0, place));
+        }
+    }
 }
 
 /// Opens, and inspects after each `every`th event.
@@ -293,6 +335,19 @@ fn small_vaults() {
     let mut random = Random::new(4);
     for (k, s) in [(1, 1), (1, 3), (2, 1), (2, 2), (3, 2), (4, 1)] {
         run(&mut random, k, s, 8 << k, 1);
+    }
+}
+
+#[test]
+fn two_readings() {
+    let mut random = Random::new(10);
+    for (k, s) in [(1, 1), (1, 3), (2, 1), (3, 2), (4, 1), (5, 2)] {
+        let count = (s as usize) << k;
+        let mut history = History::open(k, s, data(&mut random, count));
+        for _ in 0..6 << k {
+            history.read_twice(&mut random);
+            history.any_event(&mut random);
+        }
     }
 }
 

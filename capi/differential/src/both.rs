@@ -4,7 +4,7 @@ use crate::guarded::{guarded, lend_output};
 use reference::by_reference;
 use reference::calls::{Answer, Call, Use};
 use reference::header::Header;
-use reference::lent::{Buffer, Lender, Lent, LIST};
+use reference::lent::{Buffer, Bytes, Lender, Lent};
 
 #[derive(Clone)]
 pub struct Both {
@@ -113,14 +113,22 @@ fn difference(buffer: Buffer, ours: &Lent<u32>, theirs: &Lent<u32>) -> String {
 pub fn describe(lender: &Lender) -> String {
     let Header { k, s, c } = lender.header;
     let mut text = format!("  header k = {k}, s = {s}, c = {c}\n");
-    for buffer in Buffer::ALL.into_iter().filter(|&buffer| buffer != LIST) {
-        text += &line(&buffer.name(), lender.numbers(buffer).part());
+    for buffer in Buffer::ALL {
+        text += &match buffer {
+            Buffer::Bytes(Bytes::List | Bytes::List2) => list(lender, buffer),
+            _ => line(&buffer.name(), lender.numbers(buffer).part()),
+        };
     }
-    let (pairs, rest) = lender.list.part().as_chunks();
-    let pairs: Vec<u32> = pairs.iter().copied().map(u32::from_le_bytes).collect();
-    text += &line(&LIST.name(), &pairs);
-    let rest: Vec<u32> = rest.iter().map(|&x| u32::from(x)).collect();
-    text + &line("and bytes", &rest)
+    text
+}
+
+/// Lines with the numbers of an erasure list, and with the bytes that are no whole number.
+fn list(lender: &Lender, buffer: Buffer) -> String {
+    let bytes = lender.numbers(buffer);
+    let (whole, rest) = bytes.part().as_chunks();
+    let number = |bytes: &[u32; 4]| u32::from_le_bytes(bytes.map(|x| x as u8));
+    let numbers: Vec<u32> = whole.iter().map(number).collect();
+    line(&buffer.name(), &numbers) + &line("and bytes", rest)
 }
 
 /// A line with the numbers, of more than 128 only the first and a checksum (FNV-1a).

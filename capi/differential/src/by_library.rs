@@ -5,10 +5,11 @@
 use reference::calls::{Answer, Call};
 use reference::header::Header;
 use reference::lent::Lender;
+use reference::two_readings::Place;
 use std::ptr;
 use vault_sys::{
     vault_decode, vault_explain, vault_image, vault_open, vault_powers, vault_read, vault_recover,
-    vault_take_back, vault_write, VAULT_NO_SHELF,
+    vault_recover_two, vault_shelf_of_two, vault_take_back, vault_write, VAULT_NO_SHELF,
 };
 
 /// A slice's pointer; of an empty one the null pointer, as C has it.
@@ -46,6 +47,8 @@ pub fn call(lender: &mut Lender, call: Call) -> Answer {
         Call::Decode { stripe } => decode(lender, stripe),
         Call::Recover => recover(lender),
         Call::Explain => explain(lender),
+        Call::RecoverTwo => recover_two(lender),
+        Call::ShelfOfTwo { stripe } => shelf_of_two(lender, stripe),
         Call::Powers => powers(lender),
     }
 }
@@ -220,6 +223,62 @@ fn explain(lender: &mut Lender) -> Answer {
     };
     Answer {
         stripe: named(stripe),
+        ..Answer::of(number)
+    }
+}
+
+fn recover_two(lender: &mut Lender) -> Answer {
+    let Header { k, s, c } = lender.header;
+    let (image1, gaps1) = (lender.image.part(), lender.list.part());
+    let (image2, gaps2) = (lender.image2.part(), lender.list2.part());
+    let (records, scratch) = (lender.out.part_mut(), lender.scratch.part_mut());
+    let mut stripe = NEVER_STORED;
+    // SAFETY: as said at the head of this file.
+    #[rustfmt::skip]
+    let number = unsafe {
+        vault_recover_two(
+            k, s, c,
+            first(image1), image1.len(),
+            first(gaps1), gaps1.len(),
+            first(image2), image2.len(),
+            first(gaps2), gaps2.len(),
+            first_mut(records), records.len(),
+            first_mut(scratch), scratch.len(),
+            &mut stripe,
+        )
+    };
+    Answer {
+        stripe: named(stripe),
+        ..Answer::of(number)
+    }
+}
+
+fn shelf_of_two(lender: &Lender, stripe: u32) -> Answer {
+    let Header { k, s, c } = lender.header;
+    let (image1, gaps1) = (lender.image.part(), lender.list.part());
+    let (image2, gaps2) = (lender.image2.part(), lender.list2.part());
+    // What the call always stores begins as something that it never stores.
+    let (mut reading, mut start, mut count) = (u32::MAX, usize::MAX, usize::MAX);
+    // SAFETY: as said at the head of this file.
+    #[rustfmt::skip]
+    let number = unsafe {
+        vault_shelf_of_two(
+            k, s, c,
+            first(image1), image1.len(),
+            first(gaps1), gaps1.len(),
+            first(image2), image2.len(),
+            first(gaps2), gaps2.len(),
+            stripe,
+            &mut reading, &mut start, &mut count,
+        )
+    };
+    let place = Place {
+        reading,
+        start,
+        count,
+    };
+    Answer {
+        place: Some(place),
         ..Answer::of(number)
     }
 }

@@ -2,7 +2,7 @@
 use crate::erasures::Broken;
 use crate::session::{Run, Session};
 use reference::calls::Call;
-use reference::lent::{Buffer, Lender, Lent, LIST};
+use reference::lent::{Buffer, Bytes, Lender, Lent, LIST, LIST2};
 
 #[derive(Clone, Debug)]
 pub enum Fault {
@@ -11,13 +11,16 @@ pub enum Fault {
     C(u32),
     /// So many words or bytes more or fewer.
     Length(Buffer, isize),
-    Erasures(Vec<u8>),
+    /// One of the erasure lists.
+    Erasures(Bytes, Vec<u8>),
     /// Another record or stripe.
     Given(u32),
     /// A word of the block, or of the opened records, at some place modulo the length.
     DataWord(usize, u32),
     /// All words of the block are 0.
     Blank,
+    /// A bit of the second image is another, at some place of its full stripe.
+    Differ(usize),
 }
 
 impl Fault {
@@ -28,7 +31,7 @@ impl Fault {
             Fault::C(c) => lender.header.c = *c,
             Fault::Length(Buffer::Words(words), more) => grow(lender.words_mut(*words), *more),
             Fault::Length(Buffer::Bytes(bytes), more) => grow(lender.bytes_mut(*bytes), *more),
-            Fault::Erasures(list) => lender.list.set(list),
+            Fault::Erasures(buffer, list) => lender.bytes_mut(*buffer).set(list),
             Fault::DataWord(at, word) => {
                 for words in [&mut lender.raw, &mut lender.block] {
                     let part = words.part_mut();
@@ -39,6 +42,14 @@ impl Fault {
                 }
             }
             Fault::Blank => lender.block.part_mut().fill(0),
+            Fault::Differ(bit) => {
+                let image = lender.image2.part_mut();
+                // The first half of an image is part of its full stripe.
+                let bits = 4 * image.len().max(1);
+                if let Some(x) = image.get_mut(bit % bits / 8) {
+                    *x ^= 1 << (bit % 8);
+                }
+            }
             Fault::Given(_) => {}
         }
     }
@@ -79,12 +90,21 @@ pub fn headers(n: u32) -> Vec<Fault> {
     faults
 }
 
-/// Each buffer that a call is lent, longer by one, shorter by one, and empty; an erasure list may have any length.
+/// Each buffer that a call is lent, longer by one, shorter by one, and empty; erasure lists may have any length.
 pub fn lengths(call: Call) -> Vec<Fault> {
-    let buffers = call.buffers().map(|lent| lent.1).filter(|&x| x != LIST);
+    let buffers = call.buffers().map(|lent| lent.1);
     buffers
+        .filter(|&buffer| buffer != LIST && buffer != LIST2)
         .flat_map(|buffer| [1, -1, isize::MIN].map(|more| Fault::Length(buffer, more)))
         .collect()
+}
+
+/// The erasure lists that a call is lent.
+pub fn lists(call: Call) -> Vec<Bytes> {
+    let all = [(LIST, Bytes::List), (LIST2, Bytes::List2)];
+    let lent = |list| call.buffers().any(|(_, buffer)| buffer == list);
+    let own = all.into_iter().filter(|list| lent(list.0));
+    own.map(|list| list.1).collect()
 }
 
 /// A fault for a call, at random. A header in range that the buffers' lengths do not fit is one too.
@@ -101,9 +121,9 @@ fn any(session: &mut Session, call: Call) -> Fault {
         Fault::K(k + 1),
         Fault::S(s + 1),
     ];
-    if call.gives(3) {
-        faults.push(Fault::Erasures(broken.list(random, size)));
-        faults.push(Fault::Erasures(broken.list(random, size)));
+    for list in lists(call) {
+        faults.push(Fault::Erasures(list, broken.list(random, size)));
+        faults.push(Fault::Erasures(list, broken.list(random, size)));
     }
     if call.gives(4) {
         let record = *random.one(&[n, n + 1, 65536, 1 << 31, u32::MAX]);
@@ -118,6 +138,9 @@ fn any(session: &mut Session, call: Call) -> Fault {
     }
     if call.gives(12) {
         faults.push(Fault::C(0));
+    }
+    if call.gives(13) {
+        faults.push(Fault::Differ(random.index(1 << 20)));
     }
     if call.gives(6) {
         let level = random.below(u64::from(k)) as u32;

@@ -1,13 +1,13 @@
 //! What one implementation is lent: buffers between guards that no call may touch.
 use reference::calls::Call;
 use reference::header::Header;
-use reference::lent::{Lender, Lent, Words, OUT};
+use reference::lent::{Bytes, Lender, Lent, Words, OUT};
 
 /// What a guard holds.
 const WORD: u32 = 0x9e37_79b9;
 const BYTE: u8 = 0xa5;
 
-/// Buffers of the lengths that the header asks for, all zeros; of the output nothing is lent yet, nor of the erasure list. Guards of 3 elements also take the
+/// Buffers of the lengths that the header asks for, all zeros; of the output nothing is lent yet, nor of the erasure lists. Guards of 3 elements also take the
 /// buffers off the boundaries of 16 bytes, and bytes off those of words.
 pub fn guarded(header: Header, guard: usize) -> Lender {
     let words = |_| Lent::new(vec![WORD; 2 * guard], guard);
@@ -24,7 +24,9 @@ pub fn guarded(header: Header, guard: usize) -> Lender {
     ] {
         lender.words_mut(words).resize(length, 0);
     }
-    lender.image.resize(header.image_len(), 0);
+    for image in [Bytes::Image, Bytes::Image2] {
+        lender.bytes_mut(image).resize(header.image_len(), 0);
+    }
     lender
 }
 

@@ -41,6 +41,7 @@ fn fixed(small: bool) -> Vec<Scenario> {
         for kind in [
             Kind::Losses,
             Kind::TakingBack,
+            Kind::TwoReadings,
             Kind::Refusals,
             Kind::Rounds,
             Kind::Blocks,
@@ -72,10 +73,11 @@ fn drawn(random: &mut Random, small: bool) -> Scenario {
         _ if k <= 4 => 1 + random.below(128),
         _ => 1,
     };
-    let kind = match random.below(12) {
+    let kind = match random.below(14) {
         0..6 => Kind::History,
         6 | 7 => Kind::Foreign,
         8 | 9 => Kind::Blocks,
+        10 | 11 => Kind::TwoReadings,
         _ => Kind::TakingBack,
     };
     Scenario {

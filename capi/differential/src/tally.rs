@@ -5,7 +5,7 @@ use std::fmt::{self, Display, Formatter};
 const CALLS: usize = Call::COUNT;
 
 /// The numbers of the table of refusals, from 0.
-const NUMBERS: usize = 13;
+const NUMBERS: usize = 14;
 
 /// The calls, each with any numbers, in the order of the counts.
 fn calls() -> [Call; CALLS] {

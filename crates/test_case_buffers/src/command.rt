@@ -31,20 +31,23 @@ impl TryFrom<u32> for Words {
     }
 }
 
-// The buffers of bytes.
+// The buffers of bytes: those of the first reading, and of the second.
 #[derive(Clone, Copy)]
 pub enum Bytes {
     Image,
     List,
+    Image2,
+    List2,
 }
 
-// Any number names one of the two.
+// Any number names one of the four.
 impl From<u32> for Bytes {
     fn from(number: u32) -> Bytes {
-        if number == 0 {
-            Bytes::Image
-        } else {
-            Bytes::List
+        match number {
+            0 => Bytes::Image,
+            1 => Bytes::List,
+            2 => Bytes::Image2,
+            _ => Bytes::List2,
         }
     }
 }
@@ -67,8 +70,7 @@ impl TryFrom<u32> for Number {
             0 => Number::K,
             1 => Number::S,
             2 => Number::C,
-            9 => Number::Bytes(Bytes::Image),
-            10 => Number::Bytes(Bytes::List),
+            9..=12 => Number::Bytes(Bytes::from(number - 9)),
             _ => Number::Words(Words::try_from(number - 3)?),
         })
     }
@@ -98,6 +100,8 @@ pub enum Change {
         count: u32,
         seed: u32,
     },
+    // The two readings change places.
+    Exchange,
 }
 
 // A call of the vault, or a listing.
@@ -113,6 +117,8 @@ pub enum Call {
     Explain { counts: u32 },
     Powers,
     TakeBack { scratch: u32 },
+    RecoverTwo,
+    ShelfOfTwo { stripe: u32 },
 }
 
 // What a test does.
@@ -155,6 +161,9 @@ impl TryFrom<(u8, [u32; 3])> for Command {
             12 => Command::Call(Call::Explain { counts: a }),
             13 => Command::Call(Call::Powers),
             14 => Command::Call(Call::TakeBack { scratch: a }),
+            15 => Command::Call(Call::RecoverTwo),
+            16 => Command::Call(Call::ShelfOfTwo { stripe: a }),
+            17 => Command::Change(Change::Exchange),
             _ => return Err(Unknown),
         })
     }

@@ -5,6 +5,7 @@ use crate::buffer::Buffer;
 use crate::command::{Bytes, Change, Number, Words};
 use layout::Header;
 use std::io::Read;
+use std::mem;
 
 // The memory of the buffers.
 #[derive(Drop)]
@@ -17,6 +18,8 @@ pub struct Memory {
     scratch: [u32; 8192],
     image: [u8; 65536],
     list: [u8; 16384],
+    image2: [u8; 65536],
+    list2: [u8; 16384],
 }
 
 impl Memory {
@@ -24,6 +27,7 @@ impl Memory {
         ensures vault { (result.raw ≡ replicate 4096 0) × (result.full ≡ replicate 8192 0) × (result.log ≡ replicate 8192 0) }
         ensures lent { (result.block ≡ replicate 256 0) × (result.out ≡ replicate 4096 0) × (result.scratch ≡ replicate 8192 0) }
         ensures bytes { (result.image ≡ replicate 65536 0) × (result.list ≡ replicate 16384 0) }
+        ensures second { (result.image2 ≡ replicate 65536 0) × (result.list2 ≡ replicate 16384 0) }
     {
         Memory {
             raw: [0; 4096],
@@ -34,6 +38,8 @@ impl Memory {
             scratch: [0; 8192],
             image: [0; 65536],
             list: [0; 16384],
+            image2: [0; 65536],
+            list2: [0; 16384],
         }
     }
 }
@@ -50,6 +56,8 @@ pub struct State<'a> {
     pub scratch: Buffer<'a, u32>,
     pub image: Buffer<'a, u8>,
     pub list: Buffer<'a, u8>,
+    pub image2: Buffer<'a, u8>,
+    pub list2: Buffer<'a, u8>,
 }
 
 impl<'a> State<'a> {
@@ -59,6 +67,7 @@ impl<'a> State<'a> {
         ensures vault { (result.raw.lent ≡ 0) × (result.full.lent ≡ 0) × (result.log.lent ≡ 0) }
         ensures lent { (result.block.lent ≡ 0) × (result.out.lent ≡ 0) × (result.scratch.lent ≡ 0) }
         ensures bytes { (result.image.lent ≡ 0) × (result.list.lent ≡ 0) }
+        ensures second { (result.image2.lent ≡ 0) × (result.list2.lent ≡ 0) }
     {
         let Memory {
             raw,
@@ -69,6 +78,8 @@ impl<'a> State<'a> {
             scratch,
             image,
             list,
+            image2,
+            list2,
         } = memory;
         State {
             header: Header::default(),
@@ -80,6 +91,8 @@ impl<'a> State<'a> {
             scratch: Buffer::new(scratch),
             image: Buffer::new(image),
             list: Buffer::new(list),
+            image2: Buffer::new(image2),
+            list2: Buffer::new(list2),
         }
     }
 
@@ -98,6 +111,8 @@ impl<'a> State<'a> {
         match buffer {
             Bytes::Image => &mut self.image,
             Bytes::List => &mut self.list,
+            Bytes::Image2 => &mut self.image2,
+            Bytes::List2 => &mut self.list2,
         }
     }
 
@@ -120,6 +135,10 @@ impl<'a> State<'a> {
             }
             Change::Garble { from, count, seed } => {
                 self.image.garble(from as usize, count as usize, seed);
+            }
+            Change::Exchange => {
+                mem::swap(&mut self.image, &mut self.image2);
+                mem::swap(&mut self.list, &mut self.list2);
             }
         }
     }

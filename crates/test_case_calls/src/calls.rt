@@ -152,6 +152,46 @@ impl<P: Print> Test<'_, P> {
         output::words(self.out, " scratch", state.scratch.part());
     }
 
+    pub(crate) fn recover_two(&mut self) {
+        let state = &mut self.state;
+        let recovered = calls::recover_two(
+            state.header,
+            state.image.part(),
+            state.list.part(),
+            state.image2.part(),
+            state.list2.part(),
+            state.out.part_mut(),
+            state.scratch.part_mut(),
+        );
+        verdict(self.out, "recover_two", recovered);
+        output::words(self.out, " out", state.out.part());
+        output::words(self.out, " scratch", state.scratch.part());
+    }
+
+    // A stripe of two readings: where it stands, by one of the two calls for it, and its bytes, by the other.
+    pub(crate) fn shelf_of_two(&self, stripe: u32) {
+        let state = &self.state;
+        let (image, list) = (state.image.part(), state.list.part());
+        let (image2, list2) = (state.image2.part(), state.list2.part());
+        let place = calls::place_of_two(state.header, image, list, image2, list2, stripe);
+        let shelf = calls::shelf_of_two(state.header, image, list, image2, list2, stripe);
+        // an image has at most 65,536 bytes here
+        let (reading, start, count) = match place {
+            Ok(place) => (
+                place.reading,
+                place.start.min(65536) as u32,
+                place.count.min(65536) as u32,
+            ),
+            Err(_) => (0, 0, 0),
+        };
+        output::all(
+            self.out,
+            "shelf_of_two",
+            &[number_of(shelf), reading, start, count],
+        );
+        output::sum(self.out, " part", shelf.unwrap_or(&[]));
+    }
+
     pub(crate) fn powers(&mut self) {
         let made = calls::powers(self.state.out.part_mut());
         answer(self.out, "powers", made);

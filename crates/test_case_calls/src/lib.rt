@@ -29,6 +29,8 @@ impl<P: Print> Test<'_, P> {
             Call::Explain { counts } => self.explain(counts as usize),
             Call::Powers => self.powers(),
             Call::TakeBack { scratch } => self.take_back(scratch as usize),
+            Call::RecoverTwo => self.recover_two(),
+            Call::ShelfOfTwo { stripe } => self.shelf_of_two(stripe),
         }
     }
 }

@@ -4,7 +4,7 @@ use super::losses::{damage, lose, lose_each, nothing, positions, spoil, Cover, G
 use super::recoveries::{blocks, image_faults, open_and_write, pair, recode, LISTS};
 use super::Script;
 use crate::header::Header;
-use crate::lent::Words;
+use crate::lent::{Bytes, Words};
 use crate::script::Command;
 
 /// One fault and two faults of different numbers, where level 1 is at fault of k = 2, s = 1, c = 3, with 6 words for the counts.
@@ -15,9 +15,9 @@ fn in_order(script: &mut Script) {
     for lent in [5, 7, 0] {
         faults.push((2, Fault::Given(lent)));
     }
-    faults.push((7, Fault::List(pair(87, 10))));
-    faults.push((8, Fault::Image(27, 65537)));
-    faults.push((9, Fault::Image(26, 65536)));
+    faults.push((7, Fault::List(Bytes::List, pair(87, 10))));
+    faults.push((8, Fault::Image(Bytes::Image, 27, 65537)));
+    faults.push((9, Fault::Image(Bytes::Image, 26, 65536)));
     let call = Accepted {
         command: Command::Explain,
         given: header.counts_len() as u32,

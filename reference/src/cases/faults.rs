@@ -10,10 +10,10 @@ pub enum Fault {
     Put(Words, u32, u32),
     /// The record or stripe that the call is given, or the words that are lent for counts or a double scratch.
     Given(u32),
-    /// The erasure list's bytes.
-    List(Vec<u8>),
-    /// A word of the image.
-    Image(u32, u32),
+    /// The bytes of an erasure list.
+    List(Bytes, Vec<u8>),
+    /// A word of an image.
+    Image(Bytes, u32, u32),
 }
 
 impl Fault {
@@ -23,9 +23,8 @@ impl Fault {
             (Fault::Set(x, _), Fault::Set(y, _)) => x == y,
             (Fault::Put(x, i, _), Fault::Put(y, j, _)) => (x, i) == (y, j),
             (Fault::Given(_), Fault::Given(_)) => true,
-            (Fault::Set(Number::BytesLent(Bytes::List), _), Fault::List(_)) => true,
-            (Fault::List(_), Fault::List(_)) => true,
-            (Fault::Image(i, _), Fault::Image(j, _)) => i == j,
+            (Fault::List(x, _), Fault::List(y, _)) => x == y,
+            (Fault::Image(x, i, _), Fault::Image(y, j, _)) => (x, i) == (y, j),
             _ => false,
         }
     }
@@ -55,15 +54,17 @@ pub fn add(script: &mut Script, call: &Accepted) {
     }
 }
 
-/// Tests are made in rising number, but those of a stripe come last.
-fn turn(number: &u32) -> (bool, u32) {
-    ((7..=10).contains(number), *number)
+/// Tests are made in rising number, but 13 comes right after 3, and those of a stripe come last.
+fn turn(number: &u32) -> usize {
+    let order = [1, 2, 3, 13, 4, 5, 6, 11, 12, 7, 8, 9, 10];
+    let found = order.iter().position(|other| other == number);
+    found.expect("a number of the table")
 }
 
 fn run(script: &mut Script, call: &Accepted, number: u32, faults: &[&Fault]) {
     let mut given = call.given;
-    let image = script.machine.bytes(Bytes::Image);
-    let list = script.machine.bytes(Bytes::List);
+    let images = [Bytes::Image, Bytes::Image2].map(|image| (image, script.machine.bytes(image)));
+    let lists = [Bytes::List, Bytes::List2].map(|list| (list, script.machine.bytes(list)));
     for buffer in &call.garbage {
         script.fill(*buffer, 0);
     }
@@ -71,7 +72,7 @@ fn run(script: &mut Script, call: &Accepted, number: u32, faults: &[&Fault]) {
     for fault in faults {
         match fault {
             Fault::Given(other) => given = *other,
-            other => undo.extend(make(script, &image, other)),
+            other => undo.extend(make(script, &images, other)),
         }
     }
     script.push((call.command)(given));
@@ -82,13 +83,15 @@ fn run(script: &mut Script, call: &Accepted, number: u32, faults: &[&Fault]) {
     for command in undo.into_iter().rev() {
         script.push(command);
     }
-    if script.machine.bytes(Bytes::List) != list {
-        script.load(Bytes::List, list);
+    for (list, bytes) in lists {
+        if script.machine.bytes(list) != bytes {
+            script.load(list, bytes);
+        }
     }
 }
 
-/// Makes a fault, and gives the command that undoes it. The image is the one before all faults; an erasure list is given back by `run`.
-fn make(script: &mut Script, image: &[u8], fault: &Fault) -> Option<Command> {
+/// Makes a fault, and gives the command that undoes it. The images are those before all faults; an erasure list is given back by `run`.
+fn make(script: &mut Script, images: &[(Bytes, Vec<u8>)], fault: &Fault) -> Option<Command> {
     match *fault {
         Fault::Set(name, value) => {
             let before = script.machine.number(name);
@@ -101,15 +104,19 @@ fn make(script: &mut Script, image: &[u8], fault: &Fault) -> Option<Command> {
             Some(Command::Put(buffer, at, before))
         }
         Fault::Given(_) => None,
-        Fault::List(ref bytes) => {
-            script.load(Bytes::List, bytes.clone());
+        Fault::List(list, ref bytes) => {
+            script.load(list, bytes.clone());
             None
         }
-        Fault::Image(at, word) => {
-            let from = 4 * at as usize;
-            let before = image[from..from + 4].to_vec();
-            script.alter(at as usize, word);
-            Some(Command::Load(Bytes::Image, 4 * at, before))
+        Fault::Image(image, at, word) => {
+            let held = images
+                .iter()
+                .find(|held| held.0 == image)
+                .expect("an image");
+            let before = held.1[4 * at as usize..][..4].to_vec();
+            let bytes = word.to_le_bytes().to_vec();
+            script.push(Command::Load(image, 4 * at, bytes));
+            Some(Command::Load(image, 4 * at, before))
         }
     }
 }

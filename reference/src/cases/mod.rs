@@ -10,6 +10,7 @@ mod openings;
 mod recoveries;
 mod tables;
 mod taking_back;
+mod two_readings;
 mod writes;
 
 use crate::calls::Call;
@@ -190,6 +191,7 @@ fn script() -> Script {
     earlier::add(&mut script);
     listings::add_blanks(&mut script);
     taking_back::add(&mut script);
+    two_readings::add(&mut script);
     script
 }
 

@@ -31,7 +31,7 @@ pub fn image_faults(out: usize) -> Vec<(u32, Fault)> {
     faults.extend(faults::lengths(Number::WordsLent(Words::Scratch), 24));
     faults.extend(faults::lengths(Number::BytesLent(Bytes::Image), 112));
     for bytes in [pair(0, 1)[..7].to_vec(), pair(112, 1), pair(0, 0)] {
-        faults.push((3, Fault::List(bytes)));
+        faults.push((3, Fault::List(Bytes::List, bytes)));
     }
     faults
 }
@@ -44,9 +44,9 @@ fn in_order(script: &mut Script) {
     for stripe in [3, 4, u32::MAX] {
         faults.push((6, Fault::Given(stripe)));
     }
-    faults.push((7, Fault::List(pair(87, 10))));
-    faults.push((8, Fault::Image(27, 65537)));
-    faults.push((9, Fault::Image(26, 65536)));
+    faults.push((7, Fault::List(Bytes::List, pair(87, 10))));
+    faults.push((8, Fault::Image(Bytes::Image, 27, 65537)));
+    faults.push((9, Fault::Image(Bytes::Image, 26, 65536)));
     let garbage = vec![Words::Out, Words::Scratch];
     let call = Accepted {
         command: |stripe| Command::Call(Call::Decode { stripe }),

@@ -128,7 +128,7 @@ fn rounds(script: &mut Script) {
 }
 
 /// Any event of a history: a write, a blank one that is refused, an earlier one, or some takings-back.
-fn event(script: &mut Script) {
+pub fn event(script: &mut Script) {
     match script.random.below(8) {
         0 => blank_write(script),
         1 => {

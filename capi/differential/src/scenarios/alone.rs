@@ -31,6 +31,7 @@ pub fn alone(session: &mut Session) -> Run<()> {
     let list = erasures::list(&mut session.random, header, &marks);
     lender.list.set(&list);
     read_back(session, &mut lender, &book)?;
+    read_twice(session, &mut lender, &book)?;
     explained(session, &mut lender, &marks, &written)?;
     before
         .iter()
@@ -66,6 +67,28 @@ fn read_back(session: &Session, lender: &mut Lender, book: &[u32]) -> Run<()> {
     taken(session, lender, Call::Recover)?;
     let holds = lender.out.part() == book && lender.raw.part() == book;
     session.expect(holds, "the library alone did not recover the records")
+}
+
+/// A second reading beside the first, which lost half of each stripe: it lost any positions, and each stripe is taken from the one that has more of it.
+fn read_twice(session: &mut Session, lender: &mut Lender, book: &[u32]) -> Run<()> {
+    let header = lender.header;
+    let marks = Loss::Some.marks(&mut session.random, header);
+    let list = erasures::list(&mut session.random, header, &marks);
+    let mut image = lender.image.part().to_vec();
+    for (start, _) in erasures::positions(header, &marks).filter(|position| position.1) {
+        image[start..start + 4 * header.width()].fill(0xff);
+    }
+    lender.image2.set(&image);
+    lender.list2.set(&list);
+    for stripe in 0..=header.k {
+        taken(session, lender, Call::ShelfOfTwo { stripe })?;
+    }
+    taken(session, lender, Call::RecoverTwo)?;
+    let holds = lender.out.part() == book;
+    session.expect(
+        holds,
+        "the library alone did not recover the records from two readings",
+    )
 }
 
 fn explained(session: &Session, lender: &mut Lender, marks: &Marks, written: &[u32]) -> Run<()> {

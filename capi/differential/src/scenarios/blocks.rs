@@ -19,7 +19,7 @@ pub fn blocks(session: &mut Session) -> Run<()> {
 }
 
 /// Lends an image of such blocks, at any count.
-fn lend_image(session: &mut Session) {
+pub fn lend_image(session: &mut Session) {
     let k = session.header().k;
     let c = session.random.below(1 << k) as u32;
     let header = Header {

@@ -2,6 +2,7 @@
 use crate::erasures::{self, Marks};
 use crate::session::Session;
 use reference::field::P;
+use reference::lent::Bytes;
 
 /// Lends an erasure list, and fills what it erases, and the empty levels, with anything: none of it may matter.
 pub fn lose(session: &mut Session, marks: &Marks) {
@@ -27,10 +28,10 @@ pub fn lose(session: &mut Session, marks: &Marks) {
     });
 }
 
-/// Changes the word of the image that begins at a byte.
-fn change(session: &mut Session, at: usize, altered: impl Fn(u32) -> u32) {
+/// Changes the word of an image that begins at a byte.
+pub fn change(session: &mut Session, image: Bytes, at: usize, altered: impl Fn(u32) -> u32) {
     session.set(|lender| {
-        let bytes = &mut lender.image.part_mut()[at..at + 4];
+        let bytes = &mut lender.bytes_mut(image).part_mut()[at..at + 4];
         let word = u32::from_le_bytes(bytes.try_into().expect("four bytes"));
         bytes.copy_from_slice(&altered(word).to_le_bytes());
     });
@@ -42,7 +43,7 @@ pub fn alter(session: &mut Session) {
     let at = 4 * session.random.index(words);
     let choice = session.random.below(5);
     let other = session.random.below(P) as u32;
-    change(session, at, |word| match choice {
+    change(session, Bytes::Image, at, |word| match choice {
         0 => 65537,
         1 => u32::MAX,
         2 => word ^ 1,
@@ -65,7 +66,7 @@ pub fn alter_survivor(session: &mut Session, marks: &Marks, stripe: u32) {
     let at = 4 * (header.stripe_start(stripe) + row * header.width() + column);
     let more = 1 + random.below(65536) as u32;
     let stray = random.below(4) == 0;
-    change(session, at, |word| {
+    change(session, Bytes::Image, at, |word| {
         if stray {
             P as u32 + more
         } else {

@@ -8,6 +8,7 @@ mod losses;
 mod refusals;
 mod steps;
 mod taking_back;
+mod two_readings;
 
 use crate::session::{Run, Session, Settings};
 use crate::tally::Tally;
@@ -30,6 +31,8 @@ pub enum Kind {
     Blocks,
     /// Rounds that are taken back and written anew, and buffers of writes that no history made, with faults on some stripes.
     TakingBack,
+    /// Two readings of what a history left, of blocks that no history wrote, and of any bytes.
+    TwoReadings,
     /// Recovery at sizes where the reference is too slow: the library alone, against the records written.
     Alone,
 }
@@ -56,6 +59,7 @@ impl Scenario {
             Kind::Foreign => foreign::foreign(&mut session)?,
             Kind::Blocks => blocks::blocks(&mut session)?,
             Kind::TakingBack => taking_back::taking_back(&mut session)?,
+            Kind::TwoReadings => two_readings::two_readings(&mut session)?,
             Kind::Alone => alone::alone(&mut session)?,
         }
         Ok(session.tally)

@@ -29,12 +29,16 @@ pub fn refusals(session: &mut Session) -> Run<()> {
     any_vault(session)?;
     let header = session.header();
     for call in Call::all(header.records() as u32 - 1, header.k) {
-        each_number(session, call, &[])?;
-        if call.gives(11) {
-            each_number(session, call, &[Fault::Blank])?;
-        }
-        if call.gives(12) {
-            each_number(session, call, &[Fault::C(0)])?;
+        each_number(session, call, None)?;
+        let bit = session.random.index(1 << 20);
+        for other in [
+            (11, Fault::Blank),
+            (12, Fault::C(0)),
+            (13, Fault::Differ(bit)),
+        ] {
+            if call.gives(other.0) {
+                each_number(session, call, Some(&other))?;
+            }
         }
     }
     powers(session)?;
@@ -51,20 +55,27 @@ fn any_vault(session: &mut Session) -> Run<()> {
     let block = block(&mut session.random, words);
     session.set(|lender| lender.block.set(&block));
     session.call(Call::Image)?;
+    let image = session.lent().image.part().to_vec();
+    session.set(|lender| lender.image2.set(&image));
     Ok(())
 }
 
-/// Each number that the call gives before a stripe is decoded, beside other faults, of no smaller number.
-fn each_number(session: &mut Session, call: Call, others: &[Fault]) -> Run<()> {
-    for &number in call.row().numbers {
-        each_fault(session, call, number, others)?;
-    }
-    Ok(())
-}
-
-fn each_fault(session: &mut Session, call: Call, number: u32, others: &[Fault]) -> Run<()> {
-    for fault in faults_for(session, call, number) {
-        refused(session, call, &[others, &[fault]].concat(), number)?;
+/// Each number that the call gives before a stripe is decoded, alone or beside another: that of the two which is tested first is given.
+fn each_number(session: &mut Session, call: Call, other: Option<&(u32, Fault)>) -> Run<()> {
+    let numbers = call.row().numbers;
+    let turn = |number: u32| numbers.iter().position(|&x| x == number);
+    for &number in numbers {
+        for fault in faults_for(session, call, number) {
+            match other {
+                None => refused(session, call, &[fault], number)?,
+                Some((same, _)) if *same == number => {}
+                Some((beside, also)) => {
+                    let both = [*beside, number].into_iter().min_by_key(|&x| turn(x));
+                    let faults = [also.clone(), fault];
+                    refused(session, call, &faults, both.expect("two numbers"))?;
+                }
+            }
+        }
     }
     Ok(())
 }
@@ -86,7 +97,7 @@ fn faults_for(session: &mut Session, call: Call, number: u32) -> Vec<Fault> {
             .filter(|fault| call != Call::Open || !matches!(fault, Fault::C(_)))
             .collect(),
         2 => faults::lengths(call),
-        3 => broken_lists(&mut session.random, header),
+        3 => broken_lists(&mut session.random, header, call),
         4 => [n, n + 1, 2 * n, 65536, 1 << 31, u32::MAX]
             .map(Fault::Given)
             .to_vec(),
@@ -96,16 +107,23 @@ fn faults_for(session: &mut Session, call: Call, number: u32) -> Vec<Fault> {
         6 => no_stripes(header),
         11 => vec![Fault::Blank],
         12 => vec![Fault::C(0)],
+        // Any bit of a word.
+        13 => (0..32)
+            .map(|bit| Fault::Differ(32 * session.random.index(1 << 15) + bit))
+            .collect(),
         _ => Vec::new(),
     }
 }
 
-/// Three lists of each kind.
-fn broken_lists(random: &mut Random, header: Header) -> Vec<Fault> {
-    let kinds = Broken::ALL.iter().flat_map(|broken| [broken; 3]);
-    kinds
-        .map(|broken| Fault::Erasures(broken.list(random, header.image_len())))
-        .collect()
+/// Three lists of each kind, for each list that the call is lent.
+fn broken_lists(random: &mut Random, header: Header, call: Call) -> Vec<Fault> {
+    let mut faults = Vec::new();
+    for buffer in faults::lists(call) {
+        let kinds = Broken::ALL.iter().flat_map(|broken| [broken; 3]);
+        let list = |broken: &Broken| broken.list(random, header.image_len());
+        faults.extend(kinds.map(list).map(|list| Fault::Erasures(buffer, list)));
+    }
+    faults
 }
 
 /// Empty levels, and numbers that no stripe of the vault has.

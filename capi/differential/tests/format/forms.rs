@@ -35,6 +35,33 @@ pub fn numbers(text: &str, between: &str) -> Vec<u32> {
     text.split(between).map(number).collect()
 }
 
+/// Numbers, of which some are told as a range: 1 to 6, 13.
+pub fn ranges(text: &str) -> Vec<u32> {
+    let range = |part| match holes(part, "{} to {}") {
+        Some([first, last]) => number(first)..number(last) + 1,
+        None => number(part)..number(part) + 1,
+    };
+    text.split(", ").flat_map(range).collect()
+}
+
+/// Where a word stands among others, from 0.
+fn place(word: &str, words: &[&str]) -> usize {
+    let found = words.iter().position(|&x| x == word);
+    found.unwrap_or_else(|| panic!("none of {words:?}: {word}"))
+}
+
+/// A small number as a word.
+pub fn counted(word: &str) -> usize {
+    place(word, &["no", "one", "two", "three", "four"])
+}
+
+/// A place in an order as a word, from 1.
+pub fn ordinal(word: &str) -> usize {
+    let low = ["first", "second", "third", "fourth", "fifth"];
+    let high = ["sixth", "seventh", "eighth", "ninth", "tenth"];
+    1 + place(word, &[low, high].concat())
+}
+
 /// Bytes of two hexadecimal digits each, with spaces between.
 pub fn bytes(text: &str) -> Vec<u8> {
     let byte = |x: &str| u8::from_str_radix(x, 16).ok().filter(|_| x.len() == 2);

@@ -14,4 +14,7 @@ mod powers;
 mod racklist;
 mod table;
 mod taking_back;
+mod two_examples;
+mod two_readings;
+mod two_tables;
 mod variations;

@@ -7,7 +7,7 @@ use reference::field;
 use reference::header::Header as ReferenceHeader;
 use reference::powers::ENTRIES;
 use std::ops::Range;
-use vault_library::{calls, erasures, sizes, stripes, Header, Refusal};
+use vault_library::{calls, erasures, sizes, stripes, Header, Reading, Refusal};
 
 /// w and its inverse, as the library codes with them: with a 1 in record n / 2 alone, the words of Y are w, w^3, .., w^(2n - 1).
 fn root_and_inverse(k: u32) -> [u32; 2] {
@@ -45,13 +45,15 @@ fn length(what: &str, formula: &str, k: u32, s: u32) -> [usize; 3] {
     let (n, words, width) = (1 << k, s as usize, s as usize + 1);
     match (what, formula) {
         ("block of a write", "s") => [words, words, header.data()],
-        ("raw copy; out of recover", "n * s") => [n * words, sizes::raw(k, s), header.raw_len()],
+        ("raw copy; out of recover and recover_two", "n * s") => {
+            [n * words, sizes::raw(k, s), header.raw_len()]
+        }
         ("full stripe", "2n(s + 1)") => [2 * n * width, sizes::full(k, s), header.full_len()],
         ("log", "(2n - 2)(s + 1)") => [(2 * n - 2) * width, sizes::log(k, s), header.log_len()],
         ("n blocks: out of decode", "n(s + 1)") => {
             [n * width, sizes::blocks(k, s), header.blocks_len()]
         }
-        ("scratch", "n(s + 1) + 4n") => {
+        ("scratch of decode, recover, recover_two and explain", "n(s + 1) + 4n") => {
             let formula = n * width + 4 * n;
             [formula, sizes::scratch(k, s), header.scratch_len()]
         }
@@ -89,7 +91,10 @@ fn all_calls(k: u32, s: u32, lengths: [usize; 12]) -> Result<(), Refusal> {
     calls::powers(&mut words(powers))?;
     calls::decode(header, &image, &[], k, &mut words(blocks), &mut scratch)?;
     let (mut counts, mut origins) = (words(counts), words(origins));
-    calls::recover(header, &image, &[], &mut words(records), &mut scratch)
+    let reading = Reading { image: &image, erasures: &[] };
+    calls::shelf_of_two(header, reading, reading, k)?;
+    calls::recover_two(header, reading, reading, &mut words(records), &mut scratch)
+        .and_then(|()| calls::recover(header, &image, &[], &mut words(records), &mut scratch))
         .and_then(|()| calls::explain(header, &image, &[], &mut counts, &mut origins, &mut scratch))
         .map_err(|fault| fault.refusal)
 }

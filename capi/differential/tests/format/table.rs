@@ -1,8 +1,8 @@
 //! Section 9: the table of calls, which is the one that reference/ has.
 use crate::document::{section, table};
-use crate::forms::{fit, holes, number};
+use crate::forms::{fit, ranges};
 use reference::calls::{Call, Use};
-use reference::lent::{Buffer, LIST};
+use reference::lent::{Buffer, LIST, LIST2};
 
 /// A text without what stands in its brackets.
 fn outside(text: &str) -> String {
@@ -13,12 +13,7 @@ fn outside(text: &str) -> String {
 /// The numbers that a call tests, of which some are told as 7 to 10.
 fn tested(text: &str) -> Vec<u32> {
     let text = outside(text).replace("then ", "");
-    let text = text.trim_end_matches(" on each stripe in turn");
-    let range = |part| match holes(part, "{} to {}") {
-        Some([first, last]) => number(first)..number(last) + 1,
-        None => number(part)..number(part) + 1,
-    };
-    text.split(", ").flat_map(range).collect()
+    ranges(text.trim_end_matches(" on each stripe in turn"))
 }
 
 /// A buffer by its name in the document.
@@ -39,9 +34,10 @@ fn changed(text: &str) -> Vec<&str> {
 }
 
 /// The buffers whose lengths a call tests, sorted.
-fn measured(text: &str) -> Vec<&str> {
+fn measured(text: &str) -> Vec<String> {
     let [_, names, _] = fit(text, "{}2 ({}){}");
-    let mut names: Vec<&str> = names.split(", ").collect();
+    let names = names.replace("both images", "image, image2");
+    let mut names: Vec<String> = names.split(", ").map(String::from).collect();
     names.sort();
     names
 }
@@ -61,7 +57,7 @@ fn section_9_calls() {
             lent.map(|lent| name(call, lent)).collect::<Vec<String>>()
         };
         assert_eq!(changed(row[2]), names(|lent| lent.0 != Use::Reads));
-        let mut lengths = names(|lent| lent.1 != LIST);
+        let mut lengths = names(|lent| ![LIST, LIST2].contains(&lent.1));
         lengths.sort();
         assert_eq!(measured(row[3]), lengths);
     }

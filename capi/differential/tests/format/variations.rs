@@ -2,7 +2,7 @@
 use crate::calls::{decode_stripe, recover, reference_header, Left};
 use crate::document::{said, table};
 use crate::example::{put, Example, LOST};
-use crate::forms::{self, bytes, fit, header, holes, number, numbers};
+use crate::forms::{self, bytes, counted, fit, header, holes, number, numbers};
 use crate::places::erased;
 use reference::{decode, erasures, image};
 use vault_library::{sizes, Header};
@@ -72,8 +72,7 @@ impl Variation<'_> {
         let lost = erasures::erased(header, stripe, &gaps);
         if let Some([count]) = holes(remark, "{} positions survive") {
             let survivors = lost.iter().filter(|&&x| !x).count();
-            let words = ["no", "one", "two", "three", "four"];
-            assert_eq!(count, words[survivors]);
+            assert_eq!(counted(count), survivors);
         } else if let Some([name]) = holes(remark, "{} is lost too") {
             let has = |list| erased(self.header, list).contains(&name.to_string());
             assert!(has(&self.list) && !has(&self.example.list), "{remark}");
