@@ -5,6 +5,7 @@ mod par2;
 mod plain;
 mod taking_back;
 mod tuned;
+mod two_readings;
 mod vaults;
 
 use measure::{interleaved, restored, thread_time, Effort, Subject, Time};
@@ -14,6 +15,7 @@ use std::process::ExitCode;
 use std::thread;
 use std::time::Duration;
 use taking_back::{case, Before};
+use two_readings::{Loss, TwoReadings};
 use vault_library::Header;
 use vaults::{By, Job, Vault};
 
@@ -258,6 +260,37 @@ fn print_taking_back(effort: Effort) -> [f64; 3] {
     })
 }
 
+/// The table of recovery from two readings and of that from one with a pass over both; gives the greater ratio at each size.
+fn print_two_readings(effort: Effort) -> [f64; SIZES.len()] {
+    println!(
+        "{:>4}{:>5}  {:<14}{:>20}{:>20}{:>22}",
+        "k", "s", "lost in each", "two readings", "one + a pass", "two/(one + a pass)"
+    );
+    SIZES.map(|(k, s)| {
+        let job = Job::new(k, s);
+        let ratios = [(Loss::Half, "half"), (Loss::Nothing, "nothing")].map(|(loss, lost)| {
+            let mut readings = TwoReadings::new(&job, loss);
+            readings.check();
+            let [mut two, mut one] = [readings.buffers(), readings.buffers()];
+            let times = interleaved(
+                effort,
+                vec![
+                    Box::new(|| readings.recover(&mut two)),
+                    Box::new(|| readings.recover_one_and_compare(&mut one)),
+                ],
+            );
+            println!(
+                "{k:>4}{s:>5}  {lost:<14}{:>20}{:>20}{:>22}",
+                both(times[0]),
+                both(times[1]),
+                ratio(times[0], times[1])
+            );
+            times[0].median / times[1].median
+        });
+        ratios.into_iter().fold(0.0, f64::max)
+    })
+}
+
 /// Times of an operation at each k, and its growth from the k before; gives the last growth.
 fn growth(effort: Effort, s: u32, operation: usize, name: &str) -> f64 {
     let jobs: Vec<Job> = (4..=10).map(|k| Job::new(k, s)).collect();
@@ -361,7 +394,8 @@ fn beside_itself(
     explaining: [f64; EXPLAINED.len()],
     growth: [f64; 2],
     taking_back: [f64; 3],
-) -> [Target; 11] {
+    two_readings: [f64; SIZES.len()],
+) -> [Target; 14] {
     let middle = |row: &Row, i: usize| row.library[i].median / row.plain[i].median;
     let intact = |row: &Row| row.library[3].median / row.library[2].median;
     let narrow = [large, small, single].map(|row| [0, 1, 2].map(|i| middle(row, i)));
@@ -385,6 +419,9 @@ fn beside_itself(
             taking_back[2],
             1.3,
         ),
+        ("two / one + a pass", two_readings[0], 1.2),
+        ("two / one + a pass at s = 3", two_readings[1], 1.2),
+        ("two / one + a pass at s = 1", two_readings[3], 1.2),
         ("opening at k = 10 / at k = 9", growth[0], 2.6),
         ("recovery at k = 10 / at k = 9, s = 3", growth[1], 2.6),
     ]
@@ -418,12 +455,20 @@ fn main() -> ExitCode {
     let explaining = print_explaining(effort);
     println!("\ntaking back the last of c writes beside decoding the same stripes in the image, both by the library, nothing lost\n");
     let taking_back = print_taking_back(effort);
+    println!("\nrecovery from two readings beside recovery from the first and one pass that compares both images, c = n - 1\n");
+    let two_readings = print_two_readings(effort);
     println!("\nthe library's growth with k, and its ratio to the size before (n log n: 2.22 from k = 9 to 10)\n");
     let growth = print_growth(effort);
     println!();
     print_par2(&rows[0]);
     println!("\ntargets at k = 10, s = 128 where no other k or s is named");
     print_targets(beside_plain(&rows));
-    print_targets(beside_itself(&rows, explaining, growth, taking_back));
+    print_targets(beside_itself(
+        &rows,
+        explaining,
+        growth,
+        taking_back,
+        two_readings,
+    ));
     ExitCode::SUCCESS
 }

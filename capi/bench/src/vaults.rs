@@ -89,7 +89,10 @@ impl Job {
         assert!(equal, "recovered records differ");
         let damaged = library.records.clone();
         library.recover_intact(By::Library, self);
-        assert!(library.records == damaged, "the intact image has other records");
+        assert!(
+            library.records == damaged,
+            "the intact image has other records"
+        );
         if self.k <= 6 {
             reference.recover(By::Reference, self);
             assert!(library == reference, "recovered records differ");

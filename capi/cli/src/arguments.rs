@@ -3,16 +3,18 @@ use crate::failure::Failure;
 use std::collections::VecDeque;
 use std::ffi::{OsStr, OsString};
 
-/// The options that a command takes: those that stand alone, and those that a value follows.
+/// The options that a command takes: those that stand alone, those that a value follows, and one that arguments of its own follow.
 pub struct Options {
     pub flags: &'static [&'static str],
     pub values: &'static [&'static str],
+    pub part: Option<&'static str>,
 }
 
 impl Options {
     pub const NONE: Options = Options {
         flags: &[],
         values: &[],
+        part: None,
     };
 }
 
@@ -20,6 +22,8 @@ pub struct Arguments {
     words: VecDeque<OsString>,
     flags: Vec<OsString>,
     values: Vec<(OsString, OsString)>,
+    /// The arguments that follow the option that has its own, if it is there.
+    part: Option<VecDeque<OsString>>,
 }
 
 impl Arguments {
@@ -29,12 +33,13 @@ impl Arguments {
             words: VecDeque::new(),
             flags: Vec::new(),
             values: Vec::new(),
+            part: None,
         };
         let mut words = words.into_iter();
         while let Some(word) = words.next() {
             let is = |option: &&str| word == **option;
             if word == "--" {
-                arguments.words.extend(words.by_ref());
+                arguments.last().extend(words.by_ref());
             } else if options.flags.iter().any(is) {
                 arguments.flags.push(word);
             } else if options.values.iter().any(is) {
@@ -42,13 +47,32 @@ impl Arguments {
                     return usage(format!("{} needs a value", word.display()));
                 };
                 arguments.values.push((word, value));
+            } else if options.part.iter().any(is) {
+                if arguments.part.replace(VecDeque::new()).is_some() {
+                    return usage(format!("{} is given twice", word.display()));
+                }
             } else if word.as_encoded_bytes().starts_with(b"--") {
                 return usage(format!("there is no option {}", word.display()));
             } else {
-                arguments.words.push_back(word);
+                arguments.last().push_back(word);
             }
         }
         Ok(arguments)
+    }
+
+    /// The arguments that the next one belongs to.
+    fn last(&mut self) -> &mut VecDeque<OsString> {
+        self.part.as_mut().unwrap_or(&mut self.words)
+    }
+
+    /// The arguments that follow the option that has its own, if it is there.
+    pub fn part(&mut self) -> Option<Arguments> {
+        self.part.take().map(|words| Arguments {
+            words,
+            flags: Vec::new(),
+            values: Vec::new(),
+            part: None,
+        })
     }
 
     pub fn flag(&self, option: &str) -> bool {

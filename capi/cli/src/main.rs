@@ -3,6 +3,7 @@ mod arguments;
 mod commands;
 mod failure;
 mod files;
+mod pair;
 mod picture;
 mod rack;
 

@@ -4,7 +4,7 @@ use crate::failure::Failure;
 use crate::files;
 use std::ffi::{OsStr, OsString};
 use std::fmt::{Display, Write};
-use vault_library::{sizes, Fault, Header};
+use vault_library::{sizes, Fault, Header, Reading};
 
 /// The arguments K, S and C.
 pub fn header(arguments: &mut Arguments) -> Result<Header, Failure> {
@@ -15,11 +15,26 @@ pub fn header(arguments: &mut Arguments) -> Result<Header, Failure> {
     })
 }
 
-/// What a rack's records are to come back from, and whether the answer is to be JSON.
-pub struct Given {
-    pub header: Header,
+/// An image and its gap list, as files hold them.
+pub struct Stored {
     pub image: Vec<u8>,
     pub gaps: Vec<u8>,
+}
+
+impl Stored {
+    pub fn reading(&self) -> Reading<'_> {
+        Reading {
+            image: &self.image,
+            erasures: &self.gaps,
+        }
+    }
+}
+
+/// What a rack's records are to come back from, one reading or two, and whether the answer is to be JSON.
+pub struct Given {
+    pub header: Header,
+    pub first: Stored,
+    pub second: Option<Stored>,
     pub json: bool,
 }
 
@@ -27,20 +42,38 @@ pub struct Given {
 pub const GIVEN: Options = Options {
     flags: &["--json"],
     values: &[],
+    part: Some("--and"),
 };
 
-/// The arguments K, S, C, IMAGE and, if they are there, GAPS and --json, and no more.
+/// The arguments K, S, C, IMAGE and, if they are there, GAPS, --and with another IMAGE and GAPS, and --json, and no more.
 pub fn given(mut arguments: Arguments) -> Result<Given, Failure> {
     let json = arguments.flag("--json");
+    let part = arguments.part();
     let header = header(&mut arguments)?;
-    let path = arguments.needed("IMAGE")?;
-    let list = arguments.next();
-    arguments.end()?;
+    let first = paths(arguments, "IMAGE")?;
+    let second = part.map(|part| paths(part, "IMAGE after --and"));
+    let second = second.transpose()?;
     Ok(Given {
         header,
+        first: stored(header, first)?,
+        second: second.map(|paths| stored(header, paths)).transpose()?,
+        json,
+    })
+}
+
+/// Where an image, which is known as `name`, and its gap list are.
+type Paths = (OsString, Option<OsString>);
+
+fn paths(mut arguments: Arguments, name: &str) -> Result<Paths, Failure> {
+    let paths = (arguments.needed(name)?, arguments.next());
+    arguments.end()?;
+    Ok(paths)
+}
+
+fn stored(header: Header, (path, list): Paths) -> Result<Stored, Failure> {
+    Ok(Stored {
         image: image(header, &path)?,
         gaps: gaps(header, list)?,
-        json,
     })
 }
 

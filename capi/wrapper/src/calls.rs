@@ -1,13 +1,13 @@
 //! The library's calls over slices. Each tests everything it is given, in the order of the table of refusals, and is proved to leave what the
-//! specification says: after refusals 1 to 6, 11 and 12 all buffers are as they were, after 7 to 10 output and scratch are zeros, but for the counts of
+//! specification says: after refusals 1 to 6 and 11 to 13 all buffers are as they were, after 7 to 10 output and scratch are zeros, but for the counts of
 //! [`explain`], and the buffers of a vault as they were.
 //!
 //! What `vault_sys` asks of a caller holds of every call here: a pointer and its count are those of one slice, which is aligned and valid, and what a call
 //! may change is borrowed for that call alone.
-use crate::{Fault, Header, Refusal};
+use crate::{Fault, Header, Part, Reading, Refusal, Which};
 use vault_sys::{
     vault_decode, vault_explain, vault_image, vault_open, vault_powers, vault_read, vault_recover,
-    vault_take_back, vault_write, VAULT_NO_SHELF,
+    vault_recover_two, vault_shelf_of_two, vault_take_back, vault_write, VAULT_NO_SHELF,
 };
 
 /// Builds the full stripe of raw records, which may be zeros, and zeroes the log. Gives the header.
@@ -144,6 +144,67 @@ pub fn recover(
         )
     };
     Fault::test(number, stripe)
+}
+
+/// All records, from two readings of one image: each stripe is decoded in the reading of which more of its positions survive, the first if they are as many.
+/// Where a position of a needed stripe survives in both, but with other words, it is refused ([`Refusal::ReadingsDiffer`]), and no stripe is named.
+pub fn recover_two(
+    header: Header,
+    first: Reading,
+    second: Reading,
+    out: &mut [u32],
+    scratch: &mut [u32],
+) -> Result<(), Fault> {
+    let Header { k, s, c } = header;
+    let mut stripe = VAULT_NO_SHELF;
+    // SAFETY: as said at the head of this file; stripe is this function's own. The readings may share slices, which are lent for reading.
+    #[rustfmt::skip]
+    let number = unsafe {
+        vault_recover_two(
+            k, s, c,
+            first.image.as_ptr(), first.image.len(),
+            first.erasures.as_ptr(), first.erasures.len(),
+            second.image.as_ptr(), second.image.len(),
+            second.erasures.as_ptr(), second.erasures.len(),
+            out.as_mut_ptr(), out.len(),
+            scratch.as_mut_ptr(), scratch.len(),
+            &mut stripe,
+        )
+    };
+    Fault::test(number, stripe)
+}
+
+/// One stripe of two readings, as a part of the image that [`recover_two`] decodes it in. [`Refusal::ReadingsDiffer`] is tested on all needed stripes, before
+/// the stripe's number.
+pub fn shelf_of_two<'a>(
+    header: Header,
+    first: Reading<'a>,
+    second: Reading<'a>,
+    stripe: u32,
+) -> Result<Part<'a>, Refusal> {
+    let Header { k, s, c } = header;
+    let (mut reading, mut start, mut count) = (0, 0, 0);
+    // SAFETY: as said at the head of this file; reading, start and count are this function's own. The readings may share slices, which are lent for reading.
+    #[rustfmt::skip]
+    let number = unsafe {
+        vault_shelf_of_two(
+            k, s, c,
+            first.image.as_ptr(), first.image.len(),
+            first.erasures.as_ptr(), first.erasures.len(),
+            second.image.as_ptr(), second.image.len(),
+            second.erasures.as_ptr(), second.erasures.len(),
+            stripe,
+            &mut reading, &mut start, &mut count,
+        )
+    };
+    let (of, image) = match reading {
+        0 => (Which::First, first.image),
+        _ => (Which::Second, second.image),
+    };
+    Refusal::test(number).map(|()| Part {
+        of,
+        bytes: &image[start..start + count],
+    })
 }
 
 /// Why recovery is taken or refused, with the same answer: the positions left on each stripe and how many more would do, two words for each stripe from 0 to

@@ -5,7 +5,7 @@
 //! [`Explanation`] what recovery finds in an image.
 //!
 //! ```
-//! use vault_library::{calls, erasures, sizes, stripes, Explanation, Origin, Vault};
+//! use vault_library::{calls, erasures, sizes, stripes, Explanation, Origin, Reading, Vault, Which};
 //!
 //! // Four records of one word, the second written twice.
 //! let mut vault = Vault::open(2, 1, vec![0; sizes::raw(2, 1)])?;
@@ -28,7 +28,14 @@
 //! let origins = Explanation::new(header, &image, &erasures)?.origins?;
 //! assert_eq!(origins[1], Origin::Level { stripe: 1, write: 1 });
 //!
-//! // That write is taken back, and record 1 is what it was before.
+//! // In another card reader the full stripe is whole: it is decoded there.
+//! let first = Reading { image: &image, erasures: &erasures };
+//! let second = Reading { image: &image, erasures: &[] };
+//! calls::recover_two(header, first, second, &mut records, &mut scratch)?;
+//! assert_eq!(records, [0, 8, 0, 0]);
+//! assert_eq!(calls::shelf_of_two(header, first, second, 2)?.of, Which::Second);
+//!
+//! // Write 1 is taken back, and record 1 is what it was before.
 //! vault.take_back()?;
 //! assert_eq!(vault.header().c, 1);
 //! assert_eq!(vault.read(1)?, [7]);
@@ -38,6 +45,7 @@ pub mod calls;
 pub mod erasures;
 mod explanation;
 mod header;
+mod readings;
 mod refusal;
 pub mod sizes;
 pub mod stripes;
@@ -45,5 +53,6 @@ mod vault;
 
 pub use explanation::{Count, Explanation, Origin};
 pub use header::Header;
+pub use readings::{Part, Reading, Which};
 pub use refusal::{Fault, Refusal};
 pub use vault::Vault;

@@ -17,10 +17,11 @@ pub enum Refusal {
     NotARecord = vault_sys::VAULT_NO_SHEET,
     Blank = vault_sys::VAULT_BLANK,
     RoundStart = vault_sys::VAULT_ROUND_START,
+    ReadingsDiffer = vault_sys::VAULT_READINGS_DIFFER,
 }
 
 /// Each refusal, by rising number from 1, with the table's name and what it means.
-const TABLE: [(Refusal, &str, &str); 12] = [
+const TABLE: [(Refusal, &str, &str); 13] = [
     (
         Refusal::Header,
         "plate",
@@ -81,6 +82,11 @@ const TABLE: [(Refusal, &str, &str); 12] = [
         Refusal::RoundStart,
         "round start",
         "this round has no write to take back",
+    ),
+    (
+        Refusal::ReadingsDiffer,
+        "readings differ",
+        "a position that is whole in both readings has another word in each",
     ),
 ];
 

@@ -41,7 +41,7 @@ pub fn blocks(k: u32, s: u32) -> usize {
     length(k, s, |n, s| n * (s + 1))
 }
 
-/// The scratch buffer of stripe decoding, of recovery and of explaining.
+/// The scratch buffer of stripe decoding, of recovery, from two readings too, and of explaining.
 pub fn scratch(k: u32, s: u32) -> usize {
     length(k, s, |n, s| n * (s + 1) + 4 * n)
 }

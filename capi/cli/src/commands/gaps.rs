@@ -34,6 +34,7 @@ usage, exit status 2, and then nothing is written.
     options: Options {
         flags: &[],
         values: &["-o"],
+        part: None,
     },
     run,
 };

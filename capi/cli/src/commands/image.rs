@@ -45,6 +45,7 @@ refused with 2.
     options: Options {
         flags: &["--text"],
         values: &[],
+        part: None,
     },
     run,
 };

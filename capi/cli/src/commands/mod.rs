@@ -6,6 +6,7 @@ macro_rules! given_help {
           last built
   IMAGE   a file, as 'vault image' writes it; what it holds in the gaps does not matter
   GAPS    a gap list, as 'vault gaps' writes it; '-' or no argument: there are no gaps
+  --and   what follows is another reading of the same rack, its IMAGE and its GAPS
   --json  print one line of JSON instead, whether taken or refused, with these keys:
             number   0, or the number in the table of refusals
             name     \"taken\", or the name in that table

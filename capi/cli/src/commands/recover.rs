@@ -1,27 +1,33 @@
 //! `vault recover`: all records, from what is left of a rack.
 use super::Command;
 use crate::failure::Failure;
-use crate::rack::Given;
+use crate::rack::{Given, Stored};
 use crate::{files, rack};
-use vault_library::{calls, sizes, Fault, Header};
+use vault_library::{calls, sizes, Fault, Header, Reading};
 
 pub const COMMAND: Command = Command {
     name: "recover",
     line: "bring all records back from what is left of a rack",
     help: concat!(
         "\
-usage: vault recover K S C IMAGE [GAPS] [--json]
+usage: vault recover K S C IMAGE [GAPS] [--and IMAGE [GAPS]] [--json]
 
 Prints all records of a vault, as they were last written: a line for each, its number and
 its S words in decimal, one space between. Half of each shelf may be lost.
+
+With --and they come from two readings of the rack. First the two are compared: a position
+that is whole in both has to be the same in both, or they are refused with 13, which names no
+shelf; 'vault explain' then shows where they differ. Then each shelf is taken from the reading
+that has more of its positions left, the first if they are as many; half of it may be lost
+there. Positions of one shelf are never taken from both.
 
 ",
         given_help!(),
         "            records  the 2^K records in order, each a list of S numbers; [] if refused
           as in {\"number\":7,\"name\":\"too few\",\"shelf\":\"C\",\"records\":[]}
 
-Refused with exit status 1: 1 (plate), 2 (length), 3 (gap list), and, naming the first shelf
-at fault, 7 (too few), 8 (stray), 9 (discord), 10 (no sheet).
+Refused with exit status 1: 1 (plate), 2 (length), 3 (gap list), 13 (readings differ), and,
+naming the first shelf at fault, 7 (too few), 8 (stray), 9 (discord), 10 (no sheet).
 "
     ),
     options: rack::GIVEN,
@@ -30,7 +36,8 @@ at fault, 7 (too few), 8 (stray), 9 (discord), 10 (no sheet).
 
 fn print_records(given: Given) -> Result<(), Failure> {
     let header = given.header;
-    let answer = recovered(header, &given.image, &given.gaps);
+    let second = given.second.as_ref().map(Stored::reading);
+    let answer = recovered(header, given.first.reading(), second);
     if given.json {
         files::print(as_json(header, &answer).as_bytes())?;
         return answer.map(|_| ()).map_err(|_| Failure::Told);
@@ -43,11 +50,19 @@ fn print_records(given: Given) -> Result<(), Failure> {
     files::print(text.as_bytes())
 }
 
-/// The words of all records.
-pub fn recovered(header: Header, image: &[u8], gaps: &[u8]) -> Result<Vec<u32>, Fault> {
+/// The words of all records, from one reading or from two.
+pub fn recovered(
+    header: Header,
+    first: Reading,
+    second: Option<Reading>,
+) -> Result<Vec<u32>, Fault> {
     let mut records = vec![0; sizes::raw(header.k, header.s)];
     let mut scratch = vec![0; sizes::scratch(header.k, header.s)];
-    calls::recover(header, image, gaps, &mut records, &mut scratch)?;
+    let (image, gaps) = (first.image, first.erasures);
+    match second {
+        None => calls::recover(header, image, gaps, &mut records, &mut scratch)?,
+        Some(second) => calls::recover_two(header, first, second, &mut records, &mut scratch)?,
+    }
     Ok(records)
 }
 

@@ -16,7 +16,7 @@ fn image_len(k: usize, s: usize) -> usize {
 #[test]
 fn random_bytes() {
     let mut random = Random::new(2);
-    let mut seen = [0; 12];
+    let mut seen = [0; 14];
     for run in 0..300 {
         let (k, s, c) = plate(&mut random);
         let all = image_len(k, s);
@@ -26,12 +26,19 @@ fn random_bytes() {
         let gaps = file("random-gaps", &gaps);
         let [k, s, c] = [k, s, c].map(|x| x.to_string());
         let shelf = random.below(6).to_string();
-        let words = match run % 4 {
+        let mut words = match run % 4 {
             0 => vec!["recover", &k, &s, &c, image, gaps],
             1 => vec!["explain", &k, &s, &c, image, gaps],
             2 => vec!["decode", &k, &s, &c, image, gaps, &shelf],
             _ => vec!["list", &k, &s, &c, image],
         };
+        // Another reading has other gaps, and often the same image.
+        let gaps = file("random-other-gaps", &random_gaps(&mut random, all));
+        let other = random_image(&mut random, all, run % 8 < 4);
+        let image = *random.one(&[image, file("random-other-image", &other)]);
+        if run % 4 < 2 && random.below(2) == 0 {
+            words.extend(["--and", image, gaps]);
+        }
         let answer = vault(&words, &[]);
         seen[refusal(&answer).1.unwrap_or(0) as usize] += 1;
         let length = random.index(200);
@@ -39,7 +46,7 @@ fn random_bytes() {
         seen[refusal(&answer).1.unwrap_or(0) as usize] += 1;
     }
     // The runs reach what they are for.
-    for number in [0, 2, 3, 4, 6, 7, 8, 9] {
+    for number in [0, 2, 3, 4, 6, 7, 8, 9, 13] {
         assert!(seen[number] > 0, "no run gave {number}: {seen:?}");
     }
 }
@@ -121,7 +128,7 @@ fn empty_level_at(k: usize, s: usize, c: usize, at: usize) -> bool {
 }
 
 /// Words of the command line, the commands first.
-const WORDS: [&str; 34] = [
+const WORDS: [&str; 35] = [
     "demo",
     "image",
     "gaps",
@@ -131,6 +138,7 @@ const WORDS: [&str; 34] = [
     "list",
     "table",
     "--json",
+    "--and",
     "--seed",
     "-o",
     "--text",

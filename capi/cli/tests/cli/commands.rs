@@ -335,6 +335,8 @@ fn demo_is_the_same_for_a_seed() {
         text.contains("(seed 7)")
             && text.contains("16 of 16 records are as they were last written")
     );
+    // After the recovery from one reading, and after that from two.
+    assert_eq!(text.matches(" 16 of 16 records are as").count(), 2);
     assert!(text.contains("refused 7 (too few) on shelf ") && !text.contains("DIFFERENT"));
     assert!(text.contains("\n   refused 11 (blank): "));
     // After the blank sheet, and after the one that is taken back.
@@ -355,6 +357,7 @@ fn demo_is_the_same_for_a_seed() {
         "4. THE LOSS. ",
         "5. THE RECOVERY. ",
         "6. ONE POSITION MORE. ",
+        "7. ANOTHER READER. ",
     ] {
         assert!(text.contains(&format!("\n\n{step}")), "{step}");
     }

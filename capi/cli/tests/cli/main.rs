@@ -5,4 +5,5 @@ mod commands;
 mod program;
 mod refusals;
 mod taking_back;
+mod two_readings;
 mod usage;

@@ -30,6 +30,23 @@ fn commands_and_options() {
     bad_line("recover 2 1 3 image gaps more", "one argument too many");
     bad_line("explain 2 1 3 image gaps more", "one argument too many");
     bad_line("explain 2 1 3 image --jsn", "there is no option --jsn");
+    for command in ["recover", "explain"] {
+        let bad_line = |words: &str, says| bad_line(&format!("{command} {words}"), says);
+        bad_line(
+            "2 1 3 image gaps --and image gaps more",
+            "argument too many",
+        );
+        bad_line("2 1 3 image gaps more --and image", "one argument too many");
+        bad_line(
+            "2 1 3 image --and image --and image",
+            "--and is given twice",
+        );
+        bad_line(
+            "2 1 3 image -- --and image",
+            "\"image\" is one argument too many",
+        );
+    }
+    bad_line("decode 2 1 3 image - C --and image", "no option --and");
     bad_line("gaps 2 1 -o", "-o needs a value");
     bad_line("list 2 1 3 --json", "there is no option --json");
     bad_line("list -- 2 1 3 --json", "cannot read \"--json\"");
@@ -49,6 +66,13 @@ fn missing_arguments() {
     bad_line("explain", "K is missing");
     bad_line("explain 2 1", "C is missing");
     bad_line("explain 2 1 3 --json", "IMAGE is missing");
+    bad_line("recover 2 1 3 --and image gaps", "IMAGE is missing");
+    bad_line("recover 2 1 3 image --and", "IMAGE after --and is missing");
+    bad_line(
+        "explain 2 1 3 image - --and --json",
+        "IMAGE after --and is missing",
+    );
+    bad_line("recover --and 2 1 3 image", "K is missing");
     bad_line("decode 2 1 3 image", "GAPS is missing");
     bad_line("decode 2 1 3 image -", "SHELF is missing");
     bad_line("gaps 2 1", "POSITION is missing");
@@ -79,6 +103,14 @@ fn numbers() {
     bad(["list", "2", "1", "3", ""], "IMAGE is empty");
     bad(["recover", "2", "1", "3", "/dev/null", ""], "GAPS is empty");
     bad(["explain", "2", "1", "3", "/dev/null", ""], "GAPS is empty");
+    for command in ["recover", "explain"] {
+        let bad = |words: [&str; 3], says| {
+            let words = [&[command, "2", "1", "3", "/dev/null"], &words[..]].concat();
+            bad(words, says);
+        };
+        bad(["--and", "", "gaps"], "IMAGE after --and is empty");
+        bad(["--and", "/dev/null", ""], "GAPS is empty");
+    }
     bad(["decode", "2", "1", "3", "image", "", "0"], "GAPS is empty");
     bad(
         ["decode", "2", "1", "3", "image", "-", ""],
@@ -122,6 +154,9 @@ fn files() {
             bad_line(&format!("{words} {file}"), "cannot read ");
             bad_line(&format!("{words} {image} {file}"), "cannot read ");
             bad_line(&format!("{words} {image} {file} --json"), "cannot read ");
+            let words = format!("{words} {image} --and");
+            bad_line(&format!("{words} {file}"), "cannot read ");
+            bad_line(&format!("{words} {image} {file}"), "cannot read ");
         }
         bad_line(&format!("decode 2 1 0 {file} - C"), "cannot read ");
         bad_line(&format!("decode 2 1 0 {image} {file} C"), "cannot read ");
@@ -162,6 +197,7 @@ fn outputs() {
         format!("recover 10 8 0 {image} --json"),
         format!("explain 10 8 0 {image}"),
         format!("explain 10 8 0 {image} --json"),
+        format!("explain 10 8 0 {image} --and {image}"),
         format!("decode 10 8 0 {image} - C"),
         "image 10 8".into(),
         "gaps 10 8 C:0-2047".into(),

@@ -1,5 +1,5 @@
-//! `vault demo`: a small rack is written, is sent a blank sheet and one for the wrong record, loses half of every shelf, is brought back, and loses one
-//! position too many.
+//! `vault demo`: a small rack is written, is sent a blank sheet and one for the wrong record, loses half of every shelf, is brought back, loses one position
+//! too many, and is brought back with a second reading of it.
 mod rack;
 mod sheets;
 
@@ -9,8 +9,9 @@ use super::Command;
 use crate::arguments::{number, Arguments, Options};
 use crate::failure::Failure;
 use crate::files;
+use crate::pair::Pair;
 use crate::rack::shelf_name;
-use rack::Rack;
+use rack::{holds, Rack};
 use random::Random;
 use sheets::{Sheet, MISKEYED, OPENED, UNPLUGGED, WRITTEN};
 use std::time::{SystemTime, UNIX_EPOCH};
@@ -25,7 +26,8 @@ usage: vault demo [--seed N]
 Shows the vault at work on data of its own: writes the sheets of a pressing, draws the rack,
 has a blank sheet turned away, takes back one that was keyed to the wrong record, loses half
 of every shelf at random, brings all records back and says where each sheet came from, then
-loses one position too many and says what is missing. No file is read or written.
+loses one position too many and says what is missing, and brings all back with the reading
+of another card reader. No file is read or written.
 
   --seed N  lose the same positions as the run that printed this seed; without it, each run
             loses others
@@ -33,6 +35,7 @@ loses one position too many and says what is missing. No file is read or written
     options: Options {
         flags: &[],
         values: &["--seed"],
+        part: None,
     },
     run,
 };
@@ -84,12 +87,17 @@ fn story(seed: u32) -> Result<String, Failure> {
     text += &rack.picture(&counts).rack();
 
     let refused = |fault| refused(header, fault);
-    let records = recovered(header, &rack.image, &rack.gaps()).map_err(refused)?;
+    let records = recovered(header, rack.reading(), None).map_err(refused)?;
     text += "\n5. THE RECOVERY. All sheets, from the halves that are left, and where each came from.\n\n";
     text += &comparison(header, &written, &records, &origins.map_err(refused)?);
 
     text += "\n6. ONE POSITION MORE. ";
     text += &one_more(header, &mut rack, &mut random)?;
+
+    let mut other = Rack::new(header, vault.image()?);
+    lose_halves(header, &mut other, &mut random);
+    text += "\n7. ANOTHER READER. The rack is read once more, and half of every shelf is lost there too.\n\n";
+    text += &both(header, [&rack, &other], &written)?;
     text += "\nThe same again: vault demo --seed ";
     text += &format!("{seed}. With your own files: vault --help.\n");
     Ok(text)
@@ -177,12 +185,22 @@ fn one_more(header: Header, rack: &mut Rack, random: &mut Random) -> Result<Stri
     let counts = rack.explained()?.counts;
     text += &rack.picture(&counts).shelf(stripe);
     text += "\n   The vault does not guess. Recovery is\n   ";
-    text += &match recovered(header, &rack.image, &rack.gaps()) {
+    text += &match recovered(header, rack.reading(), None) {
         Ok(_) => "taken".into(),
         Err(fault) => refused(header, fault).to_string(),
     };
     text += "\n\n";
     Ok(text + &shortfalls(header, &counts))
+}
+
+/// Draws two readings of the rack, and tells how many records come back from both.
+fn both(header: Header, racks: [&Rack; 2], written: &[Sheet]) -> Result<String, Failure> {
+    let [first, second] = racks.map(Rack::reading);
+    let text = Pair::new(header, [first, second])?.picture(holds);
+    let records = recovered(header, first, Some(second)).map_err(|fault| refused(header, fault))?;
+    let rule =
+        "Each shelf is taken from the reading that has more of it, the first if they are as many.";
+    Ok(text + &format!("\n   {rule}\n") + &as_written(written, &records))
 }
 
 /// The heading over [`columns`].
@@ -200,17 +218,22 @@ fn comparison(header: Header, written: &[Sheet], recovered: &[u32], origins: &[O
         "", "written last", "recovered"
     );
     text += &format!("   record   day         {NAMES}     {NAMES}   {SOURCE}\n");
-    let mut same = 0;
     for (record, (sheet, &origin)) in written.iter().zip(origins).enumerate() {
         let back = &recovered[record * sheet.len()..][..sheet.len()];
         let today = WRITTEN.iter().any(|write| write.0 as usize == record);
         let day = if today { "today" } else { "yesterday" };
         let verdict = if back == sheet { "same" } else { "DIFFERENT" };
-        same += usize::from(back == sheet);
         let (sheet, back) = (columns(sheet), columns(back));
         let from = source(header, origin);
         text += &format!("   {record:>6}   {day:<9}   {sheet}     {back}   {from}   {verdict}\n");
     }
+    text + "\n" + &as_written(written, recovered)
+}
+
+/// How many records came back as they were last written.
+fn as_written(written: &[Sheet], recovered: &[u32]) -> String {
+    let pairs = written.iter().zip(recovered.chunks(S as usize));
+    let same = pairs.filter(|(sheet, back)| sheet == back).count();
     let all = written.len();
-    text + &format!("\n   {same} of {all} records are as they were last written.\n")
+    format!("   {same} of {all} records are as they were last written.\n")
 }

@@ -1,12 +1,13 @@
-//! A rack that loses positions: its image, its gap list, and its picture.
+//! A rack that loses positions in a card reader: its image, its gap list, and its picture.
 use crate::picture::Picture;
 use random::Random;
 use std::collections::BTreeSet;
-use vault_library::{erasures, stripes, Count, Explanation, Header, Refusal};
+use vault_library::{erasures, stripes, Count, Explanation, Header, Reading, Refusal};
 
 pub struct Rack {
     header: Header,
-    pub image: Vec<u8>,
+    image: Vec<u8>,
+    gaps: Vec<u8>,
     /// Shelf and number of each lost position.
     lost: BTreeSet<(u32, usize)>,
 }
@@ -16,6 +17,7 @@ impl Rack {
         Rack {
             header,
             image,
+            gaps: Vec::new(),
             lost: BTreeSet::new(),
         }
     }
@@ -27,6 +29,7 @@ impl Rack {
         let garbage = random.bytes(bytes.len());
         self.image[bytes].copy_from_slice(&garbage);
         self.lost.insert((stripe, position));
+        self.gaps = self.listed();
         position
     }
 
@@ -36,25 +39,33 @@ impl Rack {
             .collect()
     }
 
-    pub fn gaps(&self) -> Vec<u8> {
+    /// The gap list of the lost positions.
+    fn listed(&self) -> Vec<u8> {
         let Header { k, s, .. } = self.header;
         let bytes = |&(stripe, position)| stripes::position(k, s, stripe, position);
         erasures::list(self.lost.iter().map(bytes).collect())
     }
 
+    pub fn reading(&self) -> Reading<'_> {
+        Reading {
+            image: &self.image,
+            erasures: &self.gaps,
+        }
+    }
+
     /// What the vault says of it.
     pub fn explained(&self) -> Result<Explanation, Refusal> {
-        Explanation::new(self.header, &self.image, &self.gaps())
+        Explanation::new(self.header, &self.image, &self.gaps)
     }
 
     /// Its picture, with the counts that the vault gave.
     pub fn picture<'a>(&self, counts: &'a [Count]) -> Picture<'a> {
-        Picture::new(self.header, &self.gaps(), counts, holds)
+        Picture::new(self.header, &self.gaps, counts, holds)
     }
 }
 
 /// The full shelf was built of yesterday's sheets.
-fn holds(header: Header, stripe: u32) -> String {
+pub fn holds(header: Header, stripe: u32) -> String {
     let sheets = 1 << stripe;
     let day = if stripe == header.k {
         "yesterday"
