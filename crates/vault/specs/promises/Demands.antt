@@ -40,7 +40,7 @@
 --   j, j'     a block of a stripe, or a word of a record or of a block, counted from 0
 --   n, n'     a number of the table of refusals
 --   A, T      a statement; a type
---   ts        the tests of a call, in rising number
+--   ts        the tests of a call, in the order in which it makes them
 --   d         a number of positions
 --   m, m'     an image, as bytes; of two readings the first's and the second's
 --   e, e'     an erasure list (gap list), as bytes; likewise
