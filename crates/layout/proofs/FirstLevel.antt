@@ -21,13 +21,13 @@ start c = record { few = omega arith; left = all }
     all (suc n) h = record { more = n; levels = omega arith; bits = h; goal = refl }
 
 -- a level that is filled, and one that is empty
-filled : (n l c : ℕ) → c % 2 ≡ 1 → first_empty (suc n) l c ≡ first_empty n (suc l) (c / 2)
+pub empty_next : (n l c : ℕ) → c % 2 ≡ 1 → first_empty (suc n) l c ≡ first_empty n (suc l) (c / 2)
 unfolding first_empty
-filled n l c o = rw (eq-eqb (c % 2) 1 o, first_empty)
+empty_next n l c o = rw (eq-eqb (c % 2) 1 o, first_empty)
 
-empty : (n l c : ℕ) → c % 2 ≡ 0 → first_empty (suc n) l c ≡ l
+pub empty_ends : (n l c : ℕ) → c % 2 ≡ 0 → first_empty (suc n) l c ≡ l
 unfolding first_empty
-empty n l c e = rw (ne_eqb (c % 2) 1 (λ o. omega arith), first_empty)
+empty_ends n l c e = rw (ne_eqb (c % 2) 1 (λ o. omega arith), first_empty)
 
 next : (k c level rest more : ℕ) → rest % 2 ≡ 1 → level + suc more ≡ k → suc rest < 2 ^ suc more → first_empty k 0 c ≡ first_empty (suc more) level rest
     → Left k c (level + 1) (rest / 2)
@@ -36,7 +36,7 @@ next k c level rest (suc more) o e b g = record {
   more = more;
   levels = omega arith;
   bits = omega arith;
-  goal = rw add-one (g ∙ filled (suc more) level rest o);
+  goal = rw add-one (g ∙ empty_next (suc more) level rest o);
 }
 
 pub turn : {c level rest : ℕ} → Search c level rest → rest % 2 ≡ 1 → Search c (level + 1) (rest / 2)
@@ -45,4 +45,4 @@ turn {c} {level} {rest} h o = record { few = omega arith; left = λ k b. let r =
 pub found : {c level rest : ℕ} → Search c level rest → rest % 2 ≡ 0 → (k : ℕ) → suc c < 2 ^ k → (level ≡ first_empty k 0 c) × (level < k)
 found {c} {level} {rest} h e k b =
     let r = h.left k b in
-    (sym (r.goal ∙ empty r.more level rest e), omega (arith, r.levels))
+    (sym (r.goal ∙ empty_ends r.more level rest e), omega (arith, r.levels))

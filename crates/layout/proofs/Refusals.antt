@@ -1,11 +1,11 @@
 -- Tests that hold or fail: those of three sizes, and what they make of a call's number and of what it leaves. Assumes nothing.
 use mathlib.Core.Path.{◌≡◌, refl, sym, ◌∙◌}
-use mathlib.Core.Bool.{Bool, true, false, ◌&&◌}
+use mathlib.Core.Bool.{Bool, true, false, ◌&&◌, not}
 use Prim.Native.Nat.{ℕ, ◌<◌}
 use native.Mathlib.Omega.{arith}
 use borrow.Author.Tests.{eqb-true, eq-eqb, ne_eqb}
 use lib.Dec.{eqb}
-use Rattle.field.proofs.Booleans.{both_true, first_true, second_true}
+use Rattle.field.proofs.Booleans.{if_else, both_true, first_true, second_true}
 use Rattle.std.specs.Prelude.{Result, Ok, Err}
 use Rattle.std.specs.Result.{IsErrAnd, is_ok}
 use Rattle.std.proofs.lemmas.Bool.{false≢true}
@@ -13,7 +13,7 @@ use Rattle.std.proofs.lemmas.Result.{err_from_is_err_and}
 use Rattle.layout.specs.declared.Header.{Header}
 use Rattle.layout.specs.declared.refusal.Refusal.{Refusal}
 use Rattle.layout.specs.declared.refusal.Refusal.TheVariants.{HeaderRange, Length, ErasureList, RecordNumber, DataWord, NoStripe}
-use Rattle.layout.specs.declared.refusal.Refusal.TheVariants.{TooFew, OutOfField, Inconsistent, NotRecords, Blank, RoundStart, ReadingsDiffer}
+use Rattle.layout.specs.declared.refusal.Refusal.TheVariants.{TooFew, OutOfField, Inconsistent, NotRecords, Blank, RoundStart, ReadingsDiffer, Struck}
 use Rattle.layout.specs.Header.{header_fits}
 use Rattle.layout.specs.Refusals.{Tests, done, test, refusal, if_taken, number_of, answer_number}
 
@@ -34,9 +34,27 @@ pub test_holds : {b : Bool} (n : ℕ) (ts : Tests) → b ≡ true → refusal (t
 unfolding refusal
 test_holds n ts e = rw e
 
+pub test_fails : {b : Bool} (n : ℕ) (ts : Tests) → b ≡ false → n ≡ refusal (test b n ts)
+unfolding refusal
+test_fails n ts e = rw e
+
 pub none_fails : refusal done ≡ 0
 unfolding refusal
 none_fails = refl
+
+-- of one test alone, by what it asks, and by the contrary
+pub alone : (b : Bool) (n : ℕ) → refusal (test b n done) ≡ if_else b 0 n
+unfolding refusal
+alone true n = refl
+alone false n = refl
+
+pub alone_not : (b : Bool) (n : ℕ) → refusal (test (not b) n done) ≡ if_else b n 0
+unfolding refusal
+alone_not true n = refl
+alone_not false n = refl
+
+pub alone_holds : {b : Bool} (n : ℕ) → b ≡ true → 0 ≡ refusal (test b n done)
+alone_holds n e = sym (test_holds n done e ∙ none_fails)
 
 -- a call that is taken passed each test
 pub passes : (b : Bool) (n : ℕ) (ts : Tests) → refusal (test b n ts) ≡ 0 → 0 < n → (b ≡ true) × (refusal ts ≡ 0)
@@ -91,6 +109,7 @@ some_number NotRecords = omega arith
 some_number Blank = omega arith
 some_number RoundStart = omega arith
 some_number ReadingsDiffer = omega arith
+some_number Struck = omega arith
 
 pub not_zero : (x : Refusal) → number_of x ≡ 0 → ⊥
 not_zero x z = absurd (omega (arith, some_number x))

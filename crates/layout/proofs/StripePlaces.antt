@@ -1,15 +1,16 @@
--- Where a stripe stands in the image, the write number of its first block, and its numbers. Assumes nothing.
+-- Where a stripe stands in the image, the write number of its first block, and its numbers; and that the stripes of a header are at most k. Assumes nothing.
 use mathlib.Core.Path.{◌≡◌, ap, ◌∙◌}
-use mathlib.Core.Bool.{true}
+use mathlib.Core.Bool.{true, false≢true}
 use mathlib.Core.Logic.{⊎_elim}
 use Prim.Native.Nat.{ℕ, suc, ◌+◌, ◌*◌, ◌-◌, ◌/◌, ◌%◌, ◌^◌, ◌≤◌, ◌<◌}
 use native.Mathlib.Nat.{div-lt_iff_lt-mul, eq-or-lt_of_le, mul-mod_left, mul-le-mul_right, zero-mod}
+use native.Mathlib.Decide.{dec_lt}
 use native.Mathlib.Omega.{arith}
-use borrow.Author.Tests.{eq-eqb, ne_eqb}
+use borrow.Author.Tests.{eq-eqb, ne_eqb, le-ltb}
 use lib.Pow.{pow_pos, pow_mono, pow-add}
 use Rattle.code.specs.Stripe.{Numbers}
 use Rattle.layout.specs.declared.Header.{Header}
-use Rattle.layout.specs.Header.{header_fits, width, full_size, image_size, level_at, first_of, stripe_at, stripe_of}
+use Rattle.layout.specs.Header.{header_fits, width, full_size, image_size, level_at, first_of, has_stripe, stripe_at, stripe_of}
 use Rattle.layout.proofs.Bounds.{Fits, fits}
 
 level_size : (m s : ℕ) → 2 ≤ m → (m - 2) * suc s + 2 * suc s ≡ m * suc s
@@ -66,6 +67,14 @@ module _ (h : Header) (l : ℕ) where
               f.log_is,
               f.image_is,
             )
+
+-- a stripe that the header has is one of those from 0 to k
+pub stripe_within : (h : Header) (l : ℕ) → has_stripe h l ≡ true → l ≤ h.k
+stripe_within h l e = at (dec_lt h.k l)
+  where
+    at : Dec (h.k < l) → l ≤ h.k
+    at (yes b) = absurd (false≢true (rw (ne_eqb l h.k (λ (q : l ≡ h.k). omega arith), le-ltb l h.k (omega arith), has_stripe) at e))
+    at (no b) = omega arith
 
 -- the numbers of a stripe are such as a stripe can have
 pub stripe_numbers : (h : Header) (l : ℕ) → header_fits h ≡ true → l ≤ h.k → Numbers (stripe_of h l)

@@ -3,7 +3,7 @@ use Rattle.std.specs.Prelude.{Bool, true, false, List, [], ℕ, eqb, Result, Ok,
 use Rattle.std.specs.Borrow.{Bor}
 use Rattle.layout.specs.declared.refusal.Refusal.{Refusal}
 use Rattle.layout.specs.declared.refusal.Refusal.TheVariants.{HeaderRange, Length, ErasureList, RecordNumber, DataWord, NoStripe, TooFew, OutOfField}
-use Rattle.layout.specs.declared.refusal.Refusal.TheVariants.{Inconsistent, NotRecords, Blank, RoundStart, ReadingsDiffer}
+use Rattle.layout.specs.declared.refusal.Refusal.TheVariants.{Inconsistent, NotRecords, Blank, RoundStart, ReadingsDiffer, Struck}
 
 -- THE TABLE OF REFUSALS (docs/FORMAT.md, section 10): the number of each
 abbrev pub number_of : Refusal → ℕ
@@ -20,6 +20,7 @@ number_of NotRecords = 10
 number_of Blank = 11
 number_of RoundStart = 12
 number_of ReadingsDiffer = 13
+number_of Struck = 14
 
 -- the number of an answer: 0 if the call is taken
 abbrev pub answer_number : {A : Type 0} → Result A Refusal → ℕ

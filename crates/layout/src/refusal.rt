@@ -21,6 +21,7 @@ pub enum Refusal {
     Blank = 11,
     RoundStart = 12,
     ReadingsDiffer = 13,
+    Struck = 14,
 }
 
 impl Refusal {
@@ -50,6 +51,7 @@ impl fmt::Display for Refusal {
             Refusal::Blank => "blank block",
             Refusal::RoundStart => "start of a round",
             Refusal::ReadingsDiffer => "readings differ",
+            Refusal::Struck => "struck record",
         })
     }
 }

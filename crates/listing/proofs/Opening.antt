@@ -16,7 +16,7 @@ use Rattle.layout.specs.declared.refusal.Refusal.{Refusal}
 use Rattle.layout.specs.Header.{header_of, header_fits, record_count, raw_size, full_size, log_size}
 use Rattle.layout.specs.Refusals.{done}
 use Rattle.layout.specs.Records.{are_data}
-use Rattle.layout.proofs.RecordWords.{zeros_data, records_data}
+use Rattle.layout.proofs.RecordWords.{zeros_data, fit_all}
 use Rattle.layout.proofs.Refusals.{equal_three, test_holds, none_fails, not_zero, if_taken_lem}
 use Rattle.store.specs.Buffers.{Buffers, buffers, opened}
 use Rattle.store.specs.StoreCalls.{Opened, opened_as, open_number, open_answer, open_leaves}
@@ -43,7 +43,7 @@ module _ (k s : ℕ) (r : InRange k s) (raw full log : List ℕ) (zeros : raw �
 
   taken : open_number k s raw full log ≡ 0
   taken =
-      let fit = records_data s raw (record_count h) raw_long ∙ ap are_data zeros ∙ zeros_data (raw_size h) in
+      let fit = fit_all s raw (record_count h) (ap are_data zeros ∙ zeros_data (raw_size h)) in
       test_holds 1 _ (range_fits k s r) ∙ test_holds 2 _ (equal_three _ _ _ _ _ _ raw_long full_long log_long) ∙ test_holds 5 done fit ∙ none_fails
 
   pub opens : (x : Refusal) → opened_as (Err x) ≡ open_answer k s raw full log → ⊥

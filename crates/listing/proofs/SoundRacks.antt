@@ -3,30 +3,28 @@ use mathlib.Core.Path.{◌≡◌, refl, sym, ◌∙◌, subst}
 use mathlib.Core.Bool.{Bool, true, false, not}
 use mathlib.Core.Logic.{⊎_elim}
 use mathlib.Core.List.{List, [], ◌∷◌}
-use Prim.Native.Nat.{ℕ, zero, suc, ◌+◌, ◌≤◌, ◌<◌}
+use Prim.Native.Nat.{ℕ, ◌+◌, ◌≤◌, ◌<◌}
 use native.Mathlib.Omega.{arith}
 use lib.Dec.{lit<, eqb}
 use lib.ListN.{length}
 use lib.Pow.{pow_mono}
 use Rattle.field.specs.Words.{Words}
 use Rattle.field.proofs.Booleans.{either}
-use Rattle.field.proofs.WordLists.{words_cons, words_append, words_drop, words_replicate}
-use Rattle.code.proofs.Lifting.{words_lifted}
-use Rattle.code.proofs.Shapes.{words_mixed, words_scaled}
+use Rattle.field.proofs.WordLists.{words_append, words_drop, words_replicate}
 use Rattle.code.proofs.CodedRows.{words_coded_rows}
 use Rattle.layout.specs.declared.Header.{Header}
 use Rattle.layout.specs.Header.{header_of, prime_of, vault_root, record_count, width, log_size, level_at, stripe_size, level_for}
 use Rattle.layout.specs.Records.{is_blank, replaced}
 use Rattle.layout.specs.Refusals.{Tests, done, test, refusal}
-use Rattle.layout.proofs.Bounds.{fits}
 use Rattle.layout.proofs.Refusals.{if_taken_lem}
 use Rattle.layout.proofs.RecordWords.{data_words, field_words}
 use Rattle.store.specs.Buffers.{Buffers, buffers, opened, full_stripe}
 use Rattle.store.specs.Writing as Writing
 use Rattle.store.specs.Writing.{half_at, new_row, rebuilt_half, log_with, last_of_round}
 use Rattle.store.specs.StoreCalls.{write_number, write_leaves}
+use Rattle.store.proofs.RebuiltLog.{words_rebuilt}
 use Rattle.store.proofs.StoredRecords.{words_blocks}
-use Rattle.store.proofs.WriteRefusals.{write_taken}
+use Rattle.store.proofs.WriteRefusals.{block_in_field, write_taken}
 use Rattle.listing.specs.Listing.{Rack, Filled, stopped, filled, write_all, zero_rack, text_of, listing, fill}
 use Rattle.listing.specs.Promises.{RoomEnough}
 use Rattle.listing.proofs.Writes.{taken_same}
@@ -41,17 +39,11 @@ words_full h r b =
     let p : record_count h ≤ 1024 = pow_mono {i = h.k} {j = 10} b in
     words_coded_rows (prime_of h) (vault_root h) h.k h.k 0 (width h) (lit< tt) (words_blocks 65537 h.s (lit< tt) r 0 (record_count h) (omega (arith, p)))
 
-words_half : (h : Header) (g : List ℕ) (y : ℕ) {b : List ℕ} (l : ℕ) → Words 65537 b → Words 65537 (rebuilt_half h g y b l)
-unfolding rebuilt_half
-words_half h g zero zero u = u
-words_half h g (suc y) zero u = words_scaled 65537 (lit< tt) _ _
-words_half h g y (suc l) u = words_lifted 65537 (width h) _ _ _ _ (lit< tt) (λ j t. words_mixed 65537 (lit< tt) _ _ _)
-
 words_log : (h : Header) (g : List ℕ) {b : List ℕ} (l : ℕ) → Words 65537 g → Words 65537 b → Words 65537 (log_with h g b l)
 words_log h g {b} l v u =
     let z : 0 < 65537 = lit< tt in
     words_append 65537 z (words_replicate 65537 z (level_at h l) 0 z)
-    (words_append 65537 z (words_append 65537 z (words_half h g 0 l u) (words_half h g 1 l u)) (words_drop 65537 z (level_at h l + stripe_size h l) v))
+    (words_append 65537 z (words_rebuilt h g l u) (words_drop 65537 z (level_at h l + stripe_size h l) v))
 
 abbrev SoundWords : Buffers → Type 0
 SoundWords u = Words 65537 u.full × Words 65537 u.log
@@ -96,8 +88,7 @@ module _ (k s : ℕ) (small : k ≤ 10) where
       let h = r.header in
       let same = taken_same h (eqb (write_number h r.held i b) 0) refl in
       let told = write_taken h r.held.raw r.held.full r.held.log i b (test (not (is_blank b)) 11 done) z in
-      let low : i < 65537 = omega (arith, told.within, (fits h told.fitting).few) in
-      let block : Words 65537 (i ∷ b) = words_cons 65537 (lit< tt) low (field_words (data_words b told.words)) in
+      let block : Words 65537 (i ∷ b) = block_in_field h told.fitting i told.within (field_words (data_words b told.words)) in
       let made = written_sound h r.held i b p.k_is (p.full_words, p.log_words) block in
       let left : SoundWords (write_leaves h r.held i b) = subst SoundWords (sym (if_taken_lem (Writing.written h r.held i b) r.held z)) made in
       record { k_is = same.0 ∙ p.k_is; s_is = same.1 ∙ p.s_is; full_words = left.0; log_words = left.1 }

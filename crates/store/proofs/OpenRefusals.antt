@@ -1,16 +1,17 @@
 -- What the tests of an opening that is taken tell. Assumes nothing.
-use mathlib.Core.Path.{◌≡◌, sym, ◌∙◌}
+use mathlib.Core.Path.{◌≡◌}
 use mathlib.Core.Bool.{true}
 use mathlib.Core.List.{List}
 use Prim.Native.Nat.{ℕ}
 use native.Mathlib.Omega.{arith}
 use lib.ListN.{length}
+use Rattle.field.specs.Words.{Words}
 use Rattle.layout.specs.declared.Header.{Header}
 use Rattle.layout.specs.Header.{header_of, record_count, header_fits, raw_size, full_size, log_size}
-use Rattle.layout.specs.Records.{are_data, records_fit}
+use Rattle.layout.specs.Records.{records_fit}
 use Rattle.layout.specs.Refusals.{Tests, done, test}
 use Rattle.layout.proofs.Refusals.{passes}
-use Rattle.layout.proofs.RecordWords.{records_data}
+use Rattle.layout.proofs.RecordWords.{records_words}
 use Rattle.store.specs.Buffers.{buffers}
 use Rattle.store.specs.StoreCalls.{buffers_fit, open_number}
 use Rattle.store.proofs.BufferRefusals.{lengths}
@@ -42,6 +43,6 @@ module _ (k s : ℕ) (r f g : List ℕ) where
             (omega arith)).0;
       }
 
-  -- and so all words are data words
-  pub open_data : open_number k s r f g ≡ 0 → are_data r ≡ true
-  open_data e = let t = open_taken e in sym (records_data s r (record_count header) t.raw_long) ∙ t.records
+  -- and so all words are words of the field
+  pub open_words : open_number k s r f g ≡ 0 → Words 65537 r
+  open_words e = let t = open_taken e in records_words s r (record_count header) t.raw_long t.records

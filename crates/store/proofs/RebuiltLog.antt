@@ -1,4 +1,4 @@
--- A level rebuilt: what gathering, folding and clearing leave of the log is `log_with` of specs/Writing. Assumes nothing.
+-- A level rebuilt: what gathering, folding and clearing leave of the log is `log_with` of specs/Writing, and its words are of the field. Assumes nothing.
 use mathlib.Core.Path.{◌≡◌, refl, sym, ap, ap₂, ◌∙◌}
 use mathlib.Core.List.{List, [], ◌∷◌, ◌++◌, append_assoc}
 use Prim.Native.Nat.{ℕ, zero, suc, ◌+◌, ◌-◌, ◌*◌, ◌^◌, ◌≤◌, ◌<◌}
@@ -6,6 +6,7 @@ use native.Mathlib.Nat.{one-mul}
 use native.Mathlib.Numerals.{add-one}
 use native.Mathlib.Omega.{arith}
 use borrow.Rule.Slice.PartMut.{put_mid}
+use lib.Dec.{lit<}
 use lib.ListN.{length, take, drop, replicate, length-append, length-drop}
 use lib.Seq.{sets, sets-eq, length-take-le, take_at, drop_at}
 use Rattle.field.specs.Field.{fermat, root_of}
@@ -15,9 +16,11 @@ use Rattle.field.proofs.PowerTables.{level_root}
 use Rattle.field.proofs.WordLists.{words_append, words_tail, sets_append, take_sets}
 use Rattle.code.specs.Rows.{lifted}
 use Rattle.code.specs.Transform.{mixed_halves, scaled}
+use Rattle.code.proofs.Lifting.{words_lifted}
+use Rattle.code.proofs.Shapes.{words_mixed, words_scaled}
 use Rattle.layout.specs.declared.Header.{Header}
 use Rattle.layout.specs.Header.{width, level_at, stripe_size}
-use Rattle.store.specs.Writing.{new_row, rebuilt_half, log_with}
+use Rattle.store.specs.Writing.{new_row, rebuilt_half, rebuilt, log_with}
 use Rattle.store.specs.steps.Writing.{half_start, half_in, gathered, folded, folded_both}
 use Rattle.store.proofs.StoredRecords.{words_reduced}
 use Rattle.store.proofs.Stores.{length_copy}
@@ -186,6 +189,16 @@ rebuilt_level h g b level {rx} {ry} f i t n ex ey er =
     er ∙ ap₂ (λ (u v : List ℕ). half u ++ half v) (take_at x y (2 ^ level * width h) l) (drop_at x y (2 ^ level * width h) l)
     ∙ ap₂ (λ (u v : List ℕ). half (gathered 65537 (width h) g 0 u level) ++ half (gathered 65537 (width h) g 1 v level)) ex ey
     ∙ ap₂ ◌++◌ (folded_gathered h g b level (omega arith) f i t) (folded_gathered h g b level (omega arith) f i t)
+
+-- ITS WORDS are of the field
+words_half : (h : Header) (g : List ℕ) (y : ℕ) {b : List ℕ} (l : ℕ) → Words 65537 b → Words 65537 (rebuilt_half h g y b l)
+unfolding rebuilt_half
+words_half h g zero zero u = u
+words_half h g (suc y) zero u = words_scaled 65537 (lit< tt) _ _
+words_half h g y (suc l) u = words_lifted 65537 (width h) _ _ _ _ (lit< tt) (λ j t. words_mixed 65537 (lit< tt) _ _ _)
+
+pub words_rebuilt : (h : Header) (g : List ℕ) {b : List ℕ} (l : ℕ) → Words 65537 b → Words 65537 (rebuilt h g b l)
+words_rebuilt h g l u = words_append 65537 (lit< tt) (words_half h g 0 l u) (words_half h g 1 l u)
 
 pub finished : (h : Header) (g b : List ℕ) (level : ℕ) {a e : ℕ} {r : List ℕ} → Places (width h) level a e
     → r ≡ rebuilt_half h g 0 b level ++ rebuilt_half h g 1 b level

@@ -1,9 +1,9 @@
--- What opening, writing and reading answer, and what they leave in each lent buffer, for every input. Assumes nothing: these are definitions.
+-- What opening, writing, striking and reading answer, and what they leave in each lent buffer, for every input. Assumes nothing: these are definitions.
 use Rattle.std.specs.Prelude.{Bool, ◌&&◌, not, List, [], ℕ, ltb, eqb, length, Result, Ok, Err}
 use Rattle.layout.specs.declared.Header.{Header}
 use Rattle.layout.specs.declared.refusal.Refusal.{Refusal}
 use Rattle.layout.specs.Header.{header_of, record_count, header_fits, raw_size, full_size, log_size}
-use Rattle.layout.specs.Records.{are_data, is_blank, record_in, records_fit}
+use Rattle.layout.specs.Records.{are_data, is_blank, is_struck, struck_data, record_in, records_fit}
 use Rattle.store.specs.Buffers.{Buffers, buffers, opened}
 use Rattle.store.specs.Writing.{next_header, written}
 use Rattle.layout.specs.Refusals.{Tests, done, test, refusal, if_taken, number_of}
@@ -82,9 +82,21 @@ earlier_answer h u i b = numbered (earlier_number h u i b) h
 abbrev pub earlier_leaves : Header → Buffers → (number : ℕ) → (block : List ℕ) → Buffers
 earlier_leaves h u i b = leaving (earlier_number h u i b) h u i b
 
--- READING gives a part of the raw buffer; a refused one an empty part
+-- STRIKING a record is a write of 65536 in each of its data words
+abbrev pub strike_number : Header → Buffers → (number : ℕ) → ℕ
+strike_number h u i = refusal (test (header_fits h) 1 (test (buffers_fit h u) 2 (test (ltb i (record_count h)) 4 done)))
+
+abbrev pub strike_answer : Header → Buffers → (number : ℕ) → Written
+strike_answer h u i = numbered (strike_number h u i) h
+
+abbrev pub strike_leaves : Header → Buffers → (number : ℕ) → Buffers
+strike_leaves h u i = leaving (strike_number h u i) h u i (struck_data h.s)
+
+-- READING gives a part of the raw buffer; a refused one an empty part, and so one of a struck record
 abbrev pub read_number : Header → (raw : List ℕ) → (number : ℕ) → ℕ
-read_number h raw i = refusal (test (header_fits h) 1 (test (eqb (length raw) (raw_size h)) 2 (test (ltb i (record_count h)) 4 done)))
+read_number h raw i =
+    refusal (test (header_fits h) 1
+    (test (eqb (length raw) (raw_size h)) 2 (test (ltb i (record_count h)) 4 (test (not (is_struck (record_in h.s raw i))) 14 done))))
 
 abbrev pub read_gives : Header → (raw : List ℕ) → (number : ℕ) → List ℕ
 read_gives h raw i = if_taken (read_number h raw i) (record_in h.s raw i) []

@@ -5,7 +5,7 @@ ghost use Rattle.store.specs.StoreCalls.{read_number, read_gives};
 
 use layout::{Header, Refusal, ValidHeader};
 
-// The record, a part of the raw buffer. Tests 1, 2, 4.
+// The record, a part of the raw buffer. Tests 1, 2, 4, 14 (a struck record).
 pub fn read<'a>(header: Header, raw: &'a [u32], number: u32) -> Result<&'a [u32], Refusal>
     ensures value { answer_number result ≡ read_number header raw.now number }
     ensures part { read_part result ≡ read_gives header raw.now number }
@@ -19,5 +19,9 @@ pub fn read<'a>(header: Header, raw: &'a [u32], number: u32) -> Result<&'a [u32]
     }
     let s = header.s as usize;
     let from = number as usize * s;
-    Ok(&raw[from..from + s])
+    let record = &raw[from..from + s];
+    if layout::words::is_struck(record) {
+        return Err(Refusal::Struck);
+    }
+    Ok(record)
 }

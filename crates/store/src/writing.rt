@@ -4,11 +4,11 @@ ghost use Rattle.std.proofs.lemmas.List.Edits.{sets};
 ghost use Rattle.field.specs.Field.{fermat, root_of};
 ghost use Rattle.field.specs.Words.{Words};
 ghost use Rattle.code.specs.Transform.{scaled};
-ghost use Rattle.layout.specs.Header.{log_size};
+ghost use Rattle.layout.specs.Header.{record_count, raw_size, full_size, log_size};
 ghost use Rattle.layout.specs.Records.{replaced};
 ghost use Rattle.layout.specs.Refusals.{answer_number};
 ghost use Rattle.store.specs.Buffers.{reduced, buffers};
-ghost use Rattle.store.specs.Writing.{log_with};
+ghost use Rattle.store.specs.Writing.{log_with, next_header, written};
 ghost use Rattle.store.specs.steps.Writing.{half_start, gathered, folded, folded_both};
 ghost use Rattle.store.specs.StoreCalls.{write_number, written_as, write_answer, write_leaves};
 
@@ -18,9 +18,9 @@ use mixing::direction::{Direction, Factor, Mixing, One, Power};
 
 // A block that is written: the record's number and its data, all words of the field.
 #[derive(Clone, Copy)]
-struct Block<'a> {
-    number: u32,
-    words: &'a [u32],
+pub(crate) struct Block<'a> {
+    pub number: u32,
+    pub words: &'a [u32],
     ghost in_field: { Words fermat.modulus (number ∷ words.now) },
 }
 
@@ -133,6 +133,46 @@ fn rebuild(header: ValidHeader, log: &mut [u32], level: usize, block: Block)
     log[..start].fill(0);
 }
 
+// Enters a block as a write: the raw record is replaced, and the first empty level, or by the n-th write of a round the full stripe, built anew. Gives the
+// header afterwards. Words that it reads from the buffers count modulo p.
+pub(crate) fn enter(
+    header: ValidHeader,
+    raw: &mut [u32],
+    full: &mut [u32],
+    log: &mut [u32],
+    block: Block,
+) -> Header
+    requires raw_len { length raw.old ≡ raw_size header.header }
+    requires full_len { length full.old ≡ full_size header.header }
+    requires log_len { length log.old ≡ log_size header.header }
+    requires block_len { length block.words.now ≡ header.header.s }
+    requires within { block.number < record_count header.header }
+    ensures value { result ≡ next_header header.header }
+    ensures raw_after { raw.new ≡
+        (written header.header (buffers raw.old full.old log.old) block.entry.number block.entry.words.now).raw }
+    ensures full_after { full.new ≡
+        (written header.header (buffers raw.old full.old log.old) block.entry.number block.entry.words.now).full }
+    ensures log_after { log.new ≡
+        (written header.header (buffers raw.old full.old log.old) block.entry.number block.entry.words.now).log }
+{
+    put_record(raw, block.number as usize, block.words);
+    let next = header.header.c + 1;
+    if next as usize == header.record_count() {
+        crate::opening::build::<Reduced>(header, raw, full);
+        log.fill(0);
+        return Header {
+            c: 0,
+            ..header.header
+        };
+    }
+    let level = layout::places::first_empty(header.header.c);
+    rebuild(header, log, level, block);
+    Header {
+        c: next,
+        ..header.header
+    }
+}
+
 // Tests 1, 2, 4, 5 and 11 of a write.
 fn check_writing(
     header: Header,
@@ -166,7 +206,7 @@ fn check_writing(
 }
 
 // Writes a block to a record, and gives the header afterwards. Tests 1, 2 (the three buffers and the block), 4, 5, 11 (a blank block); a refusal changes
-// nothing. Words that it reads from the buffers count modulo p.
+// nothing.
 pub fn write(
     header: Header,
     raw: &mut [u32],
@@ -184,22 +224,9 @@ pub fn write(
         (write_leaves header (buffers raw.old full.old log.old) number block.now).log }
 {
     let valid = check_writing(header, raw, full, log, number, block)?;
-    put_record(raw, number as usize, block);
-    let next = header.c + 1;
-    if next as usize == valid.record_count() {
-        crate::opening::build::<Reduced>(valid, raw, full);
-        log.fill(0);
-        return Ok(Header { c: 0, ..header });
-    }
-    let level = layout::places::first_empty(header.c);
-    rebuild(
-        valid,
-        log,
-        level,
-        Block {
-            number,
-            words: block,
-        },
-    );
-    Ok(Header { c: next, ..header })
+    let block = Block {
+        number,
+        words: block,
+    };
+    Ok(enter(valid, raw, full, log, block))
 }

@@ -4,11 +4,10 @@ use mathlib.Core.List.{List}
 use Prim.Native.Nat.{ℕ}
 use lib.ListN.{length, replicate}
 use Rattle.layout.specs.Header.{header_of, raw_size, full_size}
-use Rattle.layout.proofs.RecordWords.{data_words, field_words}
 use Rattle.layout.proofs.Refusals.{if_taken_lem}
 use Rattle.store.specs.Buffers.{Buffers, buffers, opened}
 use Rattle.store.specs.StoreCalls.{open_number, open_leaves}
-use Rattle.store.proofs.OpenRefusals.{open_taken, open_data}
+use Rattle.store.proofs.OpenRefusals.{open_taken, open_words}
 use Rattle.store.proofs.opening.open.Goals as goal
 
 emptied : (k s : ℕ) (r f g : List ℕ) {x : List ℕ} → open_number k s r f g ≡ 0 → x ≡ replicate (length g) 0 → x ≡ (open_leaves k s r f g).log
@@ -24,8 +23,7 @@ build-requires-clause-lengths c =
 
 pub build-requires-clause-whole_words : goal.build-requires-clause-whole_words
 build-requires-clause-whole_words c =
-    let d = open_data c.args.k c.args.s c.args.raw.now c.args.full.now c.args.log.now (sym c.in_ok-valid.ensures.number) in
-    record { words_of = λ _. field_words (data_words _ d) }
+    record { words_of = λ _. open_words c.args.k c.args.s c.args.raw.now c.args.full.now c.args.log.now (sym c.in_ok-valid.ensures.number) }
 
 pub returns-clause-log_after : goal.returns-clause-log_after
 returns-clause-log_after c =
