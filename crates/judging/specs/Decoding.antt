@@ -3,7 +3,7 @@ use Rattle.std.specs.Prelude.{Bool, true, false, ◌&&◌, List, ◌++◌, ℕ, 
 use Rattle.code.specs.declared.Stripe.{Stripe}
 use Rattle.code.specs.Stripe.{modulus_of, block_count}
 use Rattle.decoder.specs.Decoding.{survivors, is_consistent, blocks_in}
-use Rattle.layout.specs.Records.{are_data}
+use Rattle.layout.specs.Records.{record_fits}
 use Rattle.image.specs.Loading.{rows_in, are_below}
 
 -- BLOCK j of blocks of `width` words: its number, and its data words after it
@@ -13,12 +13,12 @@ block_number width bs j = get_or bs (j * width) 0
 abbrev pub block_data : (width : ℕ) → (blocks : List ℕ) → (j : ℕ) → List ℕ
 block_data width bs j = take (pred width) (drop (suc (j * width)) bs)
 
--- whether block j is a record: its number is a record's, on the full stripe its place, and its data are a record's
+-- whether block j is a record: its number is a record's, on the full stripe its place, and its data are a record's, those of a struck one among them
 abbrev pub number_fits : Stripe → (j number : ℕ) → Bool
 number_fits st j x = elim (eqb st.level st.k) [ true ↦ eqb x j | false ↦ ltb x (2 ^ st.k) ]
 
 abbrev pub is_record : Stripe → (blocks : List ℕ) → (j : ℕ) → Bool
-is_record st bs j = number_fits st j (block_number st.width bs j) && are_data (block_data st.width bs j)
+is_record st bs j = number_fits st j (block_number st.width bs j) && record_fits (block_data st.width bs j)
 
 unfoldable pub are_records : Stripe → (blocks : List ℕ) → (n : ℕ) → Bool
 are_records st bs zero = true

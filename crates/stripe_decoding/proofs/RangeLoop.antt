@@ -6,7 +6,7 @@ use Prim.Native.Nat.{ℕ, zero, suc, ◌+◌, ◌*◌, ◌^◌, ◌≤◌, ◌<�
 use native.Mathlib.Decide.{dec_lt}
 use native.Mathlib.Omega.{arith}
 use borrow.Author.Tests.{le-ltb}
-use lib.ListN.{length, take, drop, replicate, length-replicate, get_or-replicate, length-drop, length-append}
+use lib.ListN.{length, take, drop, replicate, length-replicate, length-drop, length-append}
 use lib.Pow.{pow_mono}
 use lib.Seq.{take_all, take_at, length-take-le}
 use Rattle.code.specs.declared.Stripe.{Stripe}
@@ -18,10 +18,11 @@ use Rattle.field.proofs.Booleans.{both_true, first_false, second_false}
 use Rattle.image.specs.Loading.{are_below, rows_in}
 use Rattle.image.specs.steps.Loading.{columns_of}
 use Rattle.judging.specs.Decoding.{Decoded, failed, decoded, are_records, from_test8, decode_rows, decoded_number}
-use Rattle.judging.specs.steps.Judging.{all_hold, Judged}
+use Rattle.judging.specs.declared.records.Fit.{Fit}
+use Rattle.judging.specs.steps.Judging.{all_fit, Judged}
 use Rattle.judging.specs.steps.Ready.{Ready}
 use Rattle.judging.specs.StripeFits.{StripeFits}
-use Rattle.judging.proofs.Judging.{MarksTo, marks_none, marks_range, all_held_true, held_before, held_records, held_below, held_place}
+use Rattle.judging.proofs.Judging.{any_fit, none_held, MarksTo, marks_none, marks_range, held_before, held_records, held_below, held_place}
 use Rattle.judging.proofs.ColumnRanges.{consistent_range, length_columns, length_decoded}
 use Rattle.range_decoding.specs.steps.Ranges.{RangeFits, is_consistent_range, range_number}
 use Rattle.range_laying.specs.declared.Content.{Content}
@@ -106,13 +107,13 @@ first_words {b} {n} cols {x} {part} zs rest e k q =
 pub same_length : (n : ℕ) (s part : List ℕ) → n ≤ length s → length part ≡ length (take n s) → length (part ++ drop n s) ≡ length s
 same_length n s part b e = length-append part (drop n s) ∙ omega (arith, e, length-take-le n s b, length-drop n s)
 
--- THE LOOP before the range from column `from` on: `fits` are the marks of the blocks, `fit` says whether all of them hold, and only while they do is
+-- THE LOOP before the range from column `from` on: `fits` are the marks of the blocks, `fit` says whether all may be records, and only while they may is
 -- anything laid. A level's first range is its only one
 module _ (c : Content) (st : Stripe) (ms : List Bool) (ws : List ℕ) where
   abbrev are_consistent : (from : ℕ) → Bool
   are_consistent from = consistent_to (modulus_of st) (root_in st) st.k st.level st.first st.width ms (rows st ms ws) from
 
-  pub record Ranging (room : ℕ) (o₀ o s : List ℕ) (fits : List Bool) (fit : Bool) (from : ℕ) : Type 0 where
+  pub record Ranging (room : ℕ) (o₀ o s : List ℕ) (fits : List Fit) (fit : Bool) (from : ℕ) : Type 0 where
     pub turns : from ≤ st.width
     pub sized : length s ≡ room
     pub same : length o ≡ length o₀
@@ -120,11 +121,11 @@ module _ (c : Content) (st : Stripe) (ms : List Bool) (ws : List ℕ) where
     pub below : 0 < from → are_below (modulus_of st) (rows st ms ws) ≡ true
     pub agreed : are_consistent from ≡ true
     pub marked : MarksTo st (blocks st ms ws) from fits
-    pub judged : fit ≡ all_hold fits (block_count st)
+    pub judged : fit ≡ all_fit fits (block_count st)
     pub laid : fit ≡ true → LaidTo c st (blocks st ms ws) from o₀ o
     pub untouched : st.level < st.k → fit ≡ false → o ≡ o₀
 
-  pub ranging_start : (o s : List ℕ) → StripeFits st → Ranging (length s) o o s (replicate {A = Bool} 1024 true) true 0
+  pub ranging_start : (o s : List ℕ) → StripeFits st → Ranging (length s) o o s (replicate 1024 any_fit) true 0
   unfolding consistent_to
   ranging_start o s f =
       let few : block_count st ≤ 1024 = pow_mono {i = st.level} {j = 10} (omega (arith, f.numbers.within, f.numbers.small)) in
@@ -136,12 +137,12 @@ module _ (c : Content) (st : Stripe) (ms : List Bool) (ws : List ℕ) where
         below = λ z. absurd (omega arith);
         agreed = refl;
         marked = marks_none st (blocks st ms ws) 1024 few;
-        judged = sym (all_held_true (replicate {A = Bool} 1024 true) (block_count st) (λ j b. get_or-replicate {A = Bool} 1024 j true false (omega arith)));
+        judged = sym (none_held (block_count st) 1024 few);
         laid = λ e. laid_start c st (blocks st ms ws) o;
         untouched = λ w e. refl;
       }
 
-  module _ {room : ℕ} {o₀ o s : List ℕ} {fits : List Bool} {fit : Bool} {from : ℕ} (R : Ranging room o₀ o s fits fit from) where
+  module _ {room : ℕ} {o₀ o s : List ℕ} {fits : List Fit} {fit : Bool} {from : ℕ} (R : Ranging room o₀ o s fits fit from) where
     module _ {range : Range} (f : RangeFits st from room range) {number : ℕ}
         (e : number ≡ range_number (are_below (modulus_of st) (rows st ms ws)) (is_consistent_range st ms (rows st ms ws) range)) where
       more_consistent : are_consistent (range.from + range.cols) ≡ (is_consistent_range st ms (rows st ms ws) range && are_consistent range.from)
@@ -184,7 +185,7 @@ module _ (c : Content) (st : Stripe) (ms : List Bool) (ws : List ℕ) where
 
       -- a range that is taken, its blocks' words l, and the marks after it
       module _ (z : number ≡ 0) {l : List ℕ} (q : l ≡ columns_of st.width range.from range.cols (block_count st) (blocks st ms ws))
-          {fits' : List Bool} {fit' : Bool} (J : Judged st range.from range.cols l fits fits') (h : fit' ≡ all_hold fits' (block_count st)) where
+          {fits' : List Fit} {fit' : Bool} (J : Judged st range.from range.cols l fits fits') (h : fit' ≡ all_fit fits' (block_count st)) where
         front : take (block_count st * range.cols) l ≡ columns_of st.width range.from range.cols (block_count st) (blocks st ms ws)
         front =
             let x = columns_of st.width range.from range.cols (block_count st) (blocks st ms ws) in

@@ -8,6 +8,7 @@ ghost use Rattle.range_laying.specs.steps.Blocks.{row_words, lay_blocks, laid_fr
 
 use image::source::Source;
 use judging::ReadyStripe;
+use judging::records::Fit;
 use layout::Refusal;
 use range_laying::Content;
 
@@ -53,7 +54,10 @@ pub fn decode_and_lay<S: Source>(
     // as many as the largest stripe has positions, and below its blocks: the library has no heap
     let mut factors = [0u32; 2048];
     store_factors(&mut factors, ready, scratch);
-    let mut fits = [true; 1024];
+    let mut fits = [Fit {
+        plain: true,
+        struck: true,
+    }; 1024];
     let mut fit = true;
     let mut from = 0;
     // No `for`: the room for each range says how many columns it has, and an iterator of ranges would keep this same `from`.

@@ -16,11 +16,12 @@ use Rattle.code.specs.declared.Stripe.{Stripe}
 use Rattle.layout.specs.declared.Header.{Header}
 use Rattle.layout.specs.declared.refusal.Refusal.{Refusal}
 use Rattle.layout.specs.Header.{header_fits, record_count, width, out_size, is_filled, stripe_of}
-use Rattle.layout.specs.Records.{are_data}
+use Rattle.layout.specs.Records.{record_fits}
 use Rattle.layout.specs.Refusals.{number_of}
 use Rattle.layout.proofs.Bounds.{fits}
-use Rattle.judging.specs.Decoding.{Decoded, failed, decoded, decoded_number, block_number, block_data, number_fits, is_record, are_records}
+use Rattle.judging.specs.Decoding.{Decoded, decoded_number, block_number, block_data, number_fits, is_record, are_records}
 use Rattle.judging.proofs.Judging.{number_below}
+use Rattle.judging.proofs.StripeNumbers.{failed_is}
 use Rattle.splitting.specs.Splitting.{lowest_of}
 use Rattle.taking_back.specs.TakingBack.{last_of, Before, fails, found, then_find, found_at, find_from, last_block, record_taken}
 use Rattle.taking_back.specs.TakingBack.{stopped, with_words, goes_back}
@@ -29,11 +30,6 @@ use Rattle.taking_back.specs.steps.Finding.{before_in, Goes, FindsBack}
 use Rattle.taking_back.proofs.BlockSearch.{last_within, number_front, data_front, last_front}
 use Rattle.splitting.proofs.Lowest.{lowest}
 use Rattle.taking_back.proofs.HeldStripes.{Laid}
-
--- a stripe that fails, by its number
-failed_is : (d : Decoded) {r : ℕ} → r ≡ decoded_number d → (r ≡ 0 → ⊥) → d ≡ failed r
-failed_is (failed n) e f = ap failed (sym e)
-failed_is (decoded bs) e f = absurd (f e)
 
 -- THE BLOCKS that the output begins with
 module _ (w m : ℕ) {d : Decoded} {out : List ℕ} (L : Laid (m * w) d out) (some : 0 < w) where
@@ -159,7 +155,7 @@ unfolding are_records
 each_record st bs zero e j b = absurd (omega arith)
 each_record st bs (suc n) e j b =
     ⊎_elim
-    (λ q. first_true _ (are_data (block_data st.width bs j)) (ap (is_record st bs) q ∙ first_true (is_record st bs n) (are_records st bs n) e))
+    (λ q. first_true _ (record_fits (block_data st.width bs j)) (ap (is_record st bs) q ∙ first_true (is_record st bs n) (are_records st bs n) e))
     (λ lt. each_record st bs n (second_true (is_record st bs n) (are_records st bs n) e) j lt) (eq-or-lt_of_le (suc-le-suc_iff.0 b))
 
 pub number_low : (h : Header) (l : ℕ) (bs : List ℕ) → l < h.k → are_records (stripe_of h l) bs (2 ^ l) ≡ true → (j : ℕ) → j < 2 ^ l

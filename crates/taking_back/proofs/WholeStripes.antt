@@ -5,8 +5,9 @@ use mathlib.Core.List.{List}
 use Prim.Native.Nat.{ℕ, zero, suc, ◌+◌, ◌*◌, ◌^◌}
 use native.Mathlib.Omega.{arith}
 use lib.Dec.{lit<}
-use lib.ListN.{length, get_or, replicate}
+use lib.ListN.{length, get_or}
 use Rattle.field.specs.Words.{Words}
+use Rattle.field.proofs.WordLists.{get_or_same}
 use Rattle.code.specs.declared.Stripe.{Stripe}
 use Rattle.code.specs.Stripe.{modulus_of, root_in, block_count, position_count, block_words, stripe_words, coded_stripe}
 use Rattle.code.specs.Rows.{Column}
@@ -21,13 +22,8 @@ use Rattle.judging.proofs.Proved as Judging
 use Rattle.taking_back.specs.TakingBack.{none_erased}
 
 -- no mark is set
-unmarked : (n k : ℕ) → get_or (replicate n false) k false ≡ false
-unmarked zero k = refl
-unmarked (suc n) zero = refl
-unmarked (suc n) (suc k) = unmarked n k
-
 pub none_set : (i : ℕ) → get_or none_erased i false ≡ false
-none_set i = unmarked 2048 i
+none_set i = get_or_same 2048 false i
 
 survivors_all : (i n : ℕ) → length (survivors_from none_erased i n) ≡ n
 unfolding survivors_from

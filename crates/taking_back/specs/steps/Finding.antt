@@ -7,7 +7,7 @@ use Rattle.layout.specs.Refusals.{number_of}
 use Rattle.judging.specs.Decoding.{Decoded, decoded, block_data}
 use Rattle.splitting.specs.Splitting.{lowest_of}
 use Rattle.taking_back.specs.declared.finding.Found.{Found}
-use Rattle.taking_back.specs.TakingBack.{Before, fails, found, record_taken, TakenBack, stopped, goes, goes_back}
+use Rattle.taking_back.specs.TakingBack.{Before, fails, found, record_taken, stopped, goes, goes_back}
 
 -- the record before, by the block's place in the output
 abbrev pub before_in : (width : ℕ) → (out : List ℕ) → Result ℕ Refusal → Before

@@ -7,7 +7,7 @@ pub loop-j-init : goal.loop-j-init
 loop-j-init c = judge_start _ _ _ _ _
 
 pub loop-j-preserved : goal.loop-j-preserved
-loop-j-preserved c = judge_turn c.loop-j.invariant c.loop-j-test.true c.row_fits.ensures
+loop-j-preserved c = judge_turn c.loop-j.invariant c.loop-j-test.true c.row_fits-row.ensures.plain c.row_fits-row.ensures.struck
 
 pub returns-clause-fits_after : goal.returns-clause-fits_after
 returns-clause-fits_after c =
