@@ -14,6 +14,7 @@ use Rattle.std.proofs.lemmas.List.{get_or-append_right}
 use Rattle.std.proofs.lemmas.Grind.{div_ceil_times}
 use lib.ListN.{length, get_or, take, drop, replicate, length-replicate, get_or-replicate, length-append, get_or-append, length-drop}
 use lib.Seq.{ext_get_or, length-take-le, get_or-take, get_or-drop}
+use Rattle.field.proofs.WordLists.{get_or_same}
 use Rattle.layout.specs.declared.Header.{Header}
 use Rattle.layout.specs.Header.{width, stripe_at}
 use Rattle.image.specs.Image.{number_at}
@@ -222,11 +223,6 @@ same_flags n f g e = is_flags (flags_from 0 n f) n g (length_flags 0 n f) (λ k 
 pub length_none : {marks : List Bool} (n : ℕ) → marks ≡ replicate n false → length marks ≡ n
 length_none n e = ap length e ∙ length-replicate n false
 
-get_or_none : (n k : ℕ) → get_or (replicate n false) k false ≡ false
-get_or_none zero k = refl
-get_or_none (suc n) zero = refl
-get_or_none (suc n) (suc k) = get_or_none n k
-
 -- THE LOOP over an erasure list: before pair i, what is marked and what the rest touch are what all touch
 pub record MarkLoop (base step n : ℕ) (bytes : List ℕ) (size : ℕ) (marks : List Bool) (i : ℕ) : Type 0 where
   pub within : i ≤ length bytes / 8
@@ -248,7 +244,7 @@ module _ {base step n : ℕ} {bytes : List ℕ} {size : ℕ} {marks : List Bool}
       record {
         within = omega arith;
         long = length_none size e;
-        each = λ k. rw (e, get_or_none size k)
+        each = λ k. rw (e, get_or_same size false k)
             (ap (λ (m : ℕ). mark_for base step n (erasures_from bytes 0 m) k) {x = length bytes / 8 - 0} {y = length bytes / 8}
             (omega arith));
       }

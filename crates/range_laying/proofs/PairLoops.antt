@@ -7,9 +7,9 @@ use native.Mathlib.Nat.{add-zero, eq-or-lt_of_le, suc-le-suc_iff}
 use native.Mathlib.Numerals.{add-one}
 use native.Mathlib.Omega.{arith}
 use lib.ListN.{length, get_or, drop, drop_of_length-le, length-append, length-drop, get_or-append}
-use lib.Seq.{length-sets, take_at, drop-drop, drop-append-add, get_or-append-add, get_or-take, get_or-drop}
+use lib.Seq.{length-sets, take_at, drop-drop, drop-append-add, get_or-append-add}
 use Rattle.layout.specs.Records.{record_in, replaced}
-use Rattle.layout.proofs.RecordWords.{replaced_is}
+use Rattle.layout.proofs.RecordWords.{replaced_is, word_of_record}
 use Rattle.range_laying.specs.Laid.{pairs_to, origins_laid}
 
 module _ (f g : ℕ → ℕ) where
@@ -79,7 +79,7 @@ same_pair r r' i i' e = (rw (add-zero (2 * i), add-zero (2 * i')) at (word 0 (om
   where
     at : (r : List ℕ) (i j : ℕ) → j < 2 → get_or (record_in 2 r i) j 0 ≡ get_or r (2 * i + j) 0
     at r i j b =
-        get_or-take 2 (drop (i * 2) r) j 0 b ∙ get_or-drop (i * 2) r j 0 ∙ ap (λ (n : ℕ). get_or r n 0) {x = i * 2 + j} {y = 2 * i + j} (omega arith)
+        word_of_record 2 r i j b ∙ ap (λ (n : ℕ). get_or r n 0) {x = i * 2 + j} {y = 2 * i + j} (omega arith)
 
     word : (j : ℕ) → j < 2 → get_or r (2 * i + j) 0 ≡ get_or r' (2 * i' + j) 0
     word j b = sym (at r i j b) ∙ ap (λ (x : List ℕ). get_or x j 0) e ∙ at r' i' j b

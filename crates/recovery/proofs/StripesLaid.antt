@@ -10,6 +10,7 @@ use Rattle.code.specs.Stripe.{block_words}
 use Rattle.layout.specs.declared.Header.{Header}
 use Rattle.layout.specs.Header.{is_filled, has_stripe, stripe_of}
 use Rattle.judging.specs.Decoding.{Decoded, failed, decoded, decoded_number}
+use Rattle.judging.proofs.StripeNumbers.{failed_is}
 use Rattle.range_laying.specs.declared.Content.{Content}
 use Rattle.range_laying.specs.declared.Content.TheVariants.{Blocks, Records, Origins}
 use Rattle.range_laying.specs.steps.Blocks.{lay_blocks, laid_from}
@@ -18,11 +19,7 @@ use Rattle.stripe_decoding.proofs.DecodedWords.{Comes, fails, gives}
 use Rattle.recovery.specs.Recovery.{Recovered, stopped, recovered, then_lay, levels_over, stripes_over}
 use Rattle.recovery.specs.steps.Laying.{layer_of, stripes_from}
 
--- WHAT A STRIPE DECODED TO, by its number, and the words of its blocks
-failed_is : (d : Decoded) {r : ℕ} → r ≡ decoded_number d → (r ≡ 0 → ⊥) → d ≡ failed r
-failed_is (failed n) e f = ap failed (sym e)
-failed_is (decoded bs) e f = absurd (f e)
-
+-- THE WORDS OF THE BLOCKS that a stripe decoded to
 blocks_long : {n : ℕ} {d : Decoded} {bs : List ℕ} → Comes n d → d ≡ decoded bs → length bs ≡ n
 blocks_long {n} {d} {bs} (fails x u q) e = absurd (none (sym q ∙ e))
   where

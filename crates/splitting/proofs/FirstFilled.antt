@@ -6,17 +6,10 @@ use native.Mathlib.Decide.{dec_lt}
 use native.Mathlib.Omega.{arith}
 use borrow.Author.Tests.{eq-eqb, ne_eqb}
 use Rattle.layout.specs.Header.{first_empty}
+use Rattle.layout.proofs.FirstLevel.{empty_next, empty_ends}
 use Rattle.splitting.specs.Splitting.{first_filled}
 
 -- one level, by its bit
-empty_ends : (n l c : ℕ) → c % 2 ≢ 1 → first_empty (suc n) l c ≡ l
-unfolding first_empty
-empty_ends n l c o = rw (ne_eqb (c % 2) 1 o, first_empty)
-
-empty_next : (n l c : ℕ) → c % 2 ≡ 1 → first_empty (suc n) l c ≡ first_empty n (suc l) (c / 2)
-unfolding first_empty
-empty_next n l c o = rw (eq-eqb (c % 2) 1 o, first_empty)
-
 pub filled_ends : (n l c : ℕ) → c % 2 ≡ 1 → first_filled (suc n) l c ≡ l
 unfolding first_filled
 filled_ends n l c o = rw (eq-eqb (c % 2) 1 o, first_filled)
@@ -34,4 +27,4 @@ first_filled_lem (suc n) l c = go (dec_lt 0 (c % 2)) (first_filled_lem n (suc l)
     go (yes o) rest =
         filled_next n l (suc c) (λ z. omega arith) ∙ ap (first_filled n (suc l)) {x = suc c / 2} {y = suc (c / 2)} (omega arith) ∙ rest
         ∙ sym (empty_next n l c (omega arith))
-    go (no e) rest = filled_ends n l (suc c) (omega arith) ∙ sym (empty_ends n l c (λ z. omega arith))
+    go (no e) rest = filled_ends n l (suc c) (omega arith) ∙ sym (empty_ends n l c (omega arith))

@@ -1,6 +1,6 @@
 -- Two readings compared: a position of which the marks are known, a stripe, and the loop over the stripes, which chooses as well. Assumes nothing.
 use Rattle.std.proofs.Common.{◌≡◌, refl, sym, ◌∙◌, ℕ, suc, ◌+◌, ◌*◌, ◌^◌, ◌<◌, ◌≤◌, Bool, true, false, ◌||◌, List, length, get_or, arith}
-use borrow.Author.Tests.{lt-ltb, le-ltb, ne_eqb}
+use borrow.Author.Tests.{lt-ltb}
 use native.Mathlib.Decide.{dec_lt}
 use mathlib.Core.Bool.{false≢true}
 use lib.ListN.{set, length-set}
@@ -10,14 +10,14 @@ use Rattle.layout.specs.declared.Header.{Header}
 use Rattle.layout.specs.Header.{width, image_size, has_stripe, stripe_at}
 use Rattle.layout.specs.Refusals.{done, test, refusal}
 use Rattle.layout.proofs.Bounds.{Fits}
-use Rattle.layout.proofs.Refusals.{passes}
-use Rattle.layout.proofs.StripePlaces.{inside}
+use Rattle.layout.proofs.Refusals.{test_fails, alone_holds, passes}
+use Rattle.layout.proofs.StripePlaces.{inside, stripe_within}
 use Rattle.code.proofs.Lifting.{row_in}
 use Rattle.image.specs.Erasures.{Erasure, erasures_in, is_erased, mark_at, marks_of}
 use Rattle.image.proofs.Marking.{get_or_flags}
 use Rattle.two_readings.specs.Agreeing.{all_below, same_words, position_agrees, stripe_agrees, agrees_if_needed, readings_agree}
 use Rattle.two_readings.specs.Choosing.{second_has_more}
-use Rattle.two_readings.proofs.TwoRefusals.{test_fails, alone_holds, alone_failed}
+use Rattle.two_readings.proofs.TwoRefusals.{alone_failed}
 use Rattle.two_readings.proofs.AllBelow.{all_start, all_holds, one_fails, all_end}
 
 -- A POSITION of a stripe: its mark is whether it is erased, its words are inside an image, and it agrees where it is erased or its words are the same
@@ -35,14 +35,6 @@ module _ (h : Header) (f : Fits h) (l i : ℕ) (w : l ≤ h.k) (b : i < 2 ^ suc 
       → position_agrees h m e m' e' l i ≡ (erased || same_words m m' (stripe_at h l + i * width h) (width h))
   unfolding position_agrees
   position_is m e m' e' p q r = rw (r, p, q, mark_is h l i f.k_high w b (erasures_in e), mark_is h l i f.k_high w b (erasures_in e')) refl
-
--- a stripe that the header has is one of those from 0 to k
-pub within : (h : Header) (l : ℕ) → has_stripe h l ≡ true → l < suc h.k
-within h l e = at (dec_lt l (suc h.k))
-  where
-    at : Dec (l < suc h.k) → l < suc h.k
-    at (yes b) = b
-    at (no b) = absurd (false≢true (rw (ne_eqb l h.k (λ (q : l ≡ h.k). omega arith), le-ltb l h.k (omega arith), has_stripe) at e))
 
 -- THE LOOP over the stripes: those below l agree where they are needed, and of each of these it is chosen which reading it is taken from
 pub record Compared (h : Header) (m e m' e' : List ℕ) (takes : List Bool) (l : ℕ) : Type 0 where
@@ -92,4 +84,4 @@ module _ (h : Header) (m e m' e' : List ℕ) where
       compared_agree = alone_holds 13 (sym (all_end _ l (suc h.k) c.agree (sym end)))
 
       pub compared_choice : (i : ℕ) → has_stripe h i ≡ true → get_or takes i false ≡ second_has_more h e e' i
-      compared_choice i s = c.choice i (rw (← end) (within h i s)) s
+      compared_choice i s = c.choice i (omega (arith, end, stripe_within h i s)) s

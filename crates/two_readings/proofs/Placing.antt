@@ -6,13 +6,12 @@ use Rattle.layout.specs.Header.{width, image_size, has_stripe, stripe_at, stripe
 use Rattle.layout.specs.Refusals.{done, test}
 use Rattle.layout.proofs.Bounds.{fits}
 use Rattle.layout.proofs.Refusals.{passes, if_taken_lem}
-use Rattle.layout.proofs.StripePlaces.{inside}
+use Rattle.layout.proofs.StripePlaces.{inside, stripe_within}
 use Rattle.image.specs.Loading.{stripe_in}
 use Rattle.two_readings.specs.declared.choosing.Place.{Place}
 use Rattle.two_readings.specs.Choosing.{chosen}
 use Rattle.two_readings.specs.ShelfOfTwoCall.{shelf_of_two_number, shelf_of_two_part, place, place_of_two}
 use Rattle.two_readings.proofs.Chosen.{number_more, chosen_first, chosen_second}
-use Rattle.two_readings.proofs.Comparing.{within}
 use Rattle.two_readings.proofs.TwoRefusals.{passed}
 
 module _ (h : Header) (m e m' e' : List ℕ) (l : ℕ) where
@@ -30,7 +29,7 @@ module _ (h : Header) (m e m' e' : List ℕ) (l : ℕ) where
       let p = passed h m e m' e' true (test (has_stripe h l) 6 done) z in
       let t = (passes (has_stripe h l) 6 done p.1 (omega arith)).0 in
       let f = fits h p.0.fits in
-      let b : l ≤ h.k = omega (arith, within h l t) in
+      let b = stripe_within h l t in
       record {
         there = t;
         below = b;

@@ -10,21 +10,14 @@ use lib.ListN.{length}
 use Rattle.layout.specs.declared.Header.{Header}
 use Rattle.layout.specs.Header.{header_fits, raw_size, scratch_size, image_size}
 use Rattle.layout.specs.Refusals.{Tests, done, test, refusal}
-use Rattle.layout.proofs.Refusals.{test_holds, none_fails, passes}
+use Rattle.layout.proofs.Refusals.{test_holds, test_fails, none_fails, alone_holds, passes}
 use Rattle.field.proofs.Booleans.{is_false, both_true, first_true, second_true, first_false, second_false}
 use Rattle.image.specs.Erasures.{erasures_fit}
 use Rattle.two_readings.specs.Agreeing.{readings_agree}
 use Rattle.two_readings.specs.RecoverTwoCall.{recover_two_early}
 use Rattle.two_readings.specs.TwoTests.{two_tests}
 
--- ONE TEST, which fails or holds; and where it failed alone
-pub test_fails : {b : Bool} (n : ℕ) (rest : Tests) → b ≡ false → n ≡ refusal (test b n rest)
-unfolding refusal
-test_fails n rest e = rw e
-
-pub alone_holds : {b : Bool} (n : ℕ) → b ≡ true → 0 ≡ refusal (test b n done)
-alone_holds n e = sym (test_holds n done e ∙ none_fails)
-
+-- ONE TEST that failed alone
 pub alone_failed : {b : Bool} {n x : ℕ} → x ≡ refusal (test b n done) → (x ≡ 0 → ⊥) → (b ≡ false) × (x ≡ n)
 alone_failed {b} {n} e d =
     let f = is_false b (λ t. d (e ∙ sym (alone_holds n t))) in

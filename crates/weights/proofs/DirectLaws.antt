@@ -10,11 +10,12 @@ use native.Mathlib.Decide.{dec_lt}
 use native.Mathlib.Omega.{arith}
 use lib.Pow.{pow_mono}
 use lib.ListN.{length, get_or, set, take, drop, get_or-append}
-use lib.Seq.{get_or-append-add, get_or-take, get_or-drop}
+use lib.Seq.{get_or-take, get_or-drop}
 use Rattle.field.specs.Words.{table}
 use Rattle.field.proofs.WordLists.{length_table, get_or_table, same_table}
 use Rattle.code.specs.steps.Storing.{stored, always, word_from}
 use Rattle.code.proofs.RowLaws.{stored_before, stored_at, stored_front, length_stored}
+use Rattle.code.proofs.Shapes.{append_low, append_high}
 use Rattle.logarithms.specs.Logarithms.{log_table}
 use Rattle.logarithms.specs.Weights.{exponent_at, log_of_power, log_of_less, log_at, logs}
 use Rattle.weights.specs.steps.Digits.{flag, powers_to}
@@ -131,17 +132,11 @@ module _ {l : ℕ} {ms : List Bool} {j : ℕ} (s t : List ℕ) (h : Sums l ms j 
   abbrev r : List ℕ
   r = take (a + n - a) (drop a t)
 
-  first_is : (e : ℕ) → e < n → get_or (s ++ t) e 0 ≡ get_or s e 0
-  first_is e c = get_or-append s t 0 e (omega arith)
-
-  behind_is : (x : List ℕ) (k : ℕ) → length x ≡ n → get_or (x ++ t) (n + k) 0 ≡ get_or t k 0
-  behind_is x k e = ap (λ (m : ℕ). get_or (x ++ t) (m + k) 0) (sym e) ∙ get_or-append-add x t k 0
-
   sum_is : (e : ℕ) → e < n → get_or s e 0 + get_or r e 0 ≡ row_sum (s ++ t) (n + a) e
   unfolding row_sum
   sum_is e c =
-      ap₂ ◌+◌ (sym (first_is e c))
-      (get_or-take (a + n - a) (drop a t) e 0 (omega arith) ∙ get_or-drop a t e 0 ∙ sym (behind_is s (a + e) long)
+      ap₂ ◌+◌ (sym (append_low s t long e c))
+      (get_or-take (a + n - a) (drop a t) e 0 (omega arith) ∙ get_or-drop a t e 0 ∙ sym (append_high s t long (a + e))
       ∙ ap (λ (k : ℕ). get_or (s ++ t) k 0) {x = n + (a + e)} {y = n + a + e} (omega arith))
 
   at : n + a ≡ 2 ^ suc l + (2 ^ suc l - f)
@@ -157,7 +152,7 @@ module _ {l : ℕ} {ms : List Bool} {j : ℕ} (s t : List ℕ) (h : Sums l ms j 
       record {
         sums = λ e c. get_or-append v t 0 e (omega arith) ∙ ap (λ (x : List ℕ). get_or x e 0) ev ∙ get_or_table (length s) e g (omega arith)
             ∙ sum_is e (omega arith) ∙ row_is h b ef at e c ∙ sym (less_marked l ms e j m);
-        terms = λ d c. ap (λ (k : ℕ). get_or (v ++ t) (k + d) 0) (sym count) ∙ behind_is v d same ∙ sym (behind_is s d long)
+        terms = λ d c. ap (λ (k : ℕ). get_or (v ++ t) (k + d) 0) (sym count) ∙ append_high v t same d ∙ sym (append_high s t long d)
             ∙ ap (λ (k : ℕ). get_or (s ++ t) (k + d) 0) count ∙ h.terms d c;
       }
 

@@ -8,10 +8,10 @@ use Rattle.code.proofs.Shapes.{positions}
 use Rattle.layout.specs.declared.Header.{Header}
 use Rattle.layout.specs.Header.{header_fits, stripe_of}
 use Rattle.layout.proofs.Bounds.{fits}
+use Rattle.layout.proofs.Refusals.{test_fails, alone_holds}
 use Rattle.stripe_decoding.proofs.StripeAnswers.{marks_fit}
 use Rattle.image.specs.Erasures.{Erasure, erasures_in, marks_of}
 use Rattle.two_readings.specs.Agreeing.{stripe_agrees}
-use Rattle.two_readings.proofs.TwoRefusals.{test_fails, alone_holds}
 use Rattle.two_readings.proofs.agreeing.compare_stripe.Goals.{After-positions_left-second_left, Joined-first_left-second_left}
 use Rattle.two_readings.proofs.agreeing.compare_stripe.Goals.{then-first_left-second_left, else-first_left-second_left}
 use Rattle.two_readings.proofs.agreeing.compare_stripe.Goals as goal

@@ -2,8 +2,8 @@
 use Rattle.std.proofs.Common.{sym, ◌∙◌, true}
 use Rattle.layout.specs.Header.{has_stripe}
 use Rattle.layout.specs.Refusals.{done, test}
-use Rattle.layout.proofs.Refusals.{header_passed_on, passed_on, not_zero}
-use Rattle.two_readings.proofs.TwoRefusals.{earlier, later, test_fails, alone_holds}
+use Rattle.layout.proofs.Refusals.{test_fails, alone_holds, header_passed_on, passed_on, not_zero}
+use Rattle.two_readings.proofs.TwoRefusals.{earlier, later}
 use Rattle.two_readings.proofs.choosing.check_stripe.Goals as goal
 
 pub returns-in_err-valid-clause-number : goal.returns-in_err-valid-clause-number
