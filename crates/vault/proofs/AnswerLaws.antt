@@ -1,7 +1,7 @@
 -- The promises of the room Answers, which hold as they are defined. Assumes nothing.
 use mathlib.Core.Path.{refl}
 use Rattle.vault.specs.promises.Answers.{NumberRead, OpeningRead, WriteRead, PartRead, VerdictRead, PlaceRead, HeaderHas, BuffersHave}
-use Rattle.vault.specs.promises.Answers.{OpenAnswers, WriteAnswers, BackAnswers}
+use Rattle.vault.specs.promises.Answers.{OpenAnswers, WriteAnswers, StrikeAnswers, BackAnswers}
 
 pub number_read : NumberRead
 number_read T given refusal = (refl, refl)
@@ -32,6 +32,9 @@ open_answers k s raw full log = refl
 
 pub write_answers : WriteAnswers
 write_answers v i b = (refl, refl, refl)
+
+pub strike_answers : StrikeAnswers
+strike_answers v i = (refl, refl, refl)
 
 pub back_answers : BackAnswers
 back_answers v scratch = (refl, refl, refl)

@@ -7,15 +7,14 @@ use Prim.Native.Nat.{ℕ, ◌+◌, ◌*◌, ◌^◌, ◌≤◌, ◌<◌}
 use native.Mathlib.Omega.{arith}
 use lib.Dec.{eqb, ltb}
 use lib.ListN.{length, replicate, length-replicate}
-use borrow.Author.Tests.{eq-eqb, lt-ltb}
 use Rattle.field.proofs.Booleans.{if_else, if_else_true, if_else_false, either}
 use Rattle.layout.specs.declared.Header.{Header}
 use Rattle.layout.specs.Header.{header_of, record_count, header_fits, raw_size, full_size, log_size}
 use Rattle.field.specs.Words.{every}
-use Rattle.layout.specs.Records.{is_data, are_data, is_zero, is_blank, record_in}
+use Rattle.layout.specs.Records.{is_data, are_data, is_zero, is_blank, struck_data, record_in, records_fit}
 use Rattle.layout.specs.Refusals.{Tests, done, test, refusal, if_taken}
-use Rattle.store.proofs.OpenRefusals.{open_data}
-use Rattle.layout.proofs.RecordWords.{data_words, are_data_lem, zeros_blank, blank_zeros, zeros_data, replaced_is, record_same, record_end, fit_all}
+use Rattle.store.proofs.OpenRefusals.{open_taken}
+use Rattle.layout.proofs.RecordWords.{zeros_blank, blank_zeros, zeros_data, replaced_is, record_same, record_end, fit_each, fit_one, fit_all}
 use Rattle.layout.proofs.Refusals.{equal_three, test_holds, none_fails, if_refused}
 use Rattle.store.specs.Buffers.{Buffers}
 use Rattle.store.specs.Writing.{next_header, written}
@@ -23,10 +22,12 @@ use Rattle.store.specs.StoreCalls.{buffers_fit, numbered, leaving}
 use Rattle.splitting.specs.Splitting.{header_before}
 use Rattle.taking_back.specs.TakingBack.{TakenBack, stopped, goes, number_back, buffers_back}
 use Rattle.taking_back.specs.TakeBackCall.{take_back_early, take_back_comes}
-use Rattle.vault.specs.Event.{Opening, Event, write, earlier, take_back}
+use Rattle.vault.specs.Event.{Opening, Event, write, earlier, strike, take_back}
 use Rattle.vault.specs.History.{Vault, vault, number_on, step, Opens, opened_vault, vault_after}
 use Rattle.vault.specs.Model.{Model, words_fit, words_zero, judged, table_number, put, opened_model, model_of}
 use Rattle.vault.specs.promises.Blanks.{GivesEleven, ElseAsEarlier, FiveNotBlank, Fitting, OpensIff, ZerosOpen, BlankRefused, BlankKept}
+use Rattle.vault.proofs.Judged.{judged_words}
+use Rattle.vault.proofs.Table.{raw_holds}
 use Rattle.vault.proofs.Histories.{data_fit, blank_zero, after_more, fed_more, records_long_lem, numbers_are}
 
 -- FOUR TESTS AND MORE: either the four hold, and the others decide, or the first of the four that fails does, whatever follows
@@ -108,7 +109,7 @@ five_not_blank v i b e blank =
     never_five (header_fits h) (buffers_fit h v.held && eqb (length b) h.s) (ltb i (record_count h)) (are_data b)
     (ap (every is_data) blank ∙ zeros_data (length b)) e
 
--- a write whose number is not 0
+-- a write whose number is not 0, and a strike
 refused : (v : Vault) (i : ℕ) (b : List ℕ) {n : ℕ} → (n ≡ 0 → ⊥) → vault (numbered n v.header).header (leaving n v.header v.held i b) ≡ v
 refused v i b d = let h = v.header in ap₂ vault (if_refused (next_header h) h d) (if_refused (written h v.held i b) v.held d)
 
@@ -128,28 +129,30 @@ back_refused h u x early d = go (eqb early 0) d
 pub refused_stays : (v : Vault) (next : Event) → (number_on v next ≡ 0 → ⊥) → step v next ≡ v
 refused_stays v (write i b) d = refused v i b d
 refused_stays v (earlier i b) d = refused v i b d
+refused_stays v (strike i) d = refused v i (struck_data v.header.s) d
 refused_stays v (take_back scratch) d =
     let h = v.header in
     ap₂ vault (if_refused (header_before h) h d)
     (back_refused h v.held (take_back_comes h v.held) (take_back_early h v.held scratch) d)
 
--- ZERO RECORDS are opened, as all records of data words are
-opens_if : (o : Opening) → Fitting o → are_data o.raw ≡ true → Opens o
+-- RECORDS THAT FIT are opened, and zero records do
+opens_if : (o : Opening) → Fitting o → records_fit o.s o.raw (2 ^ o.k) ≡ true → Opens o
 opens_if o t e =
     let h = header_of o.k o.s 0 in
     test_holds 1 _ t.header
     ∙ test_holds 2 _ (equal_three (length o.raw) (raw_size h) (length o.full) (full_size h) (length o.log) (log_size h) t.raw_long t.full_long
     t.log_long)
-    ∙ test_holds 5 done (fit_all o.s o.raw (record_count h) e) ∙ none_fails
+    ∙ test_holds 5 done e ∙ none_fails
 
 pub opens_iff : OpensIff
-opens_iff o t = (
-  λ e i. let w = (data_words o.raw (open_data o.k o.s o.raw o.full o.log e)).word i in omega (arith, w),
-  λ b. opens_if o t (are_data_lem o.raw (record { word = λ i. omega (arith, b i) })),
-)
+opens_iff o t =
+    let holds = λ (i : ℕ) (b : i < 2 ^ o.k). raw_holds (header_of o.k o.s 0) o.raw i t.raw_long b in (
+      λ e i b. (holds i b).0 (fit_one o.s o.raw (2 ^ o.k) i (open_taken o.k o.s o.raw o.full o.log e).records b),
+      λ d. opens_if o t (fit_each o.s o.raw (2 ^ o.k) (λ i b. (holds i b).1 (d i b))),
+    )
 
 pub zeros_open : ZerosOpen
-zeros_open o t e = opens_if o t (ap (every is_data) e ∙ zeros_data (length o.raw))
+zeros_open o t e = opens_if o t (fit_all o.s o.raw (2 ^ o.k) (ap (every is_data) e ∙ zeros_data (length o.raw)))
 
 -- a block that is entered is the record then
 put_record : (m : Model) (i : ℕ) (b : List ℕ) → length b ≡ m.s → i < 2 ^ m.k → length m.records ≡ 2 ^ m.k * m.s
@@ -158,17 +161,12 @@ put_record m i b e within long =
     let inside : i * m.s + m.s ≤ length m.records = omega (arith, long, record_end (2 ^ m.k) m.s i within) in
     ap (λ (r : List ℕ). record_in m.s r i) (sym (replaced_is m.s m.records i b e (omega arith))) ∙ record_same m.s m.records i b e inside
 
-three_hold : (p q r : Bool) (n : ℕ) → p ≡ true → q ≡ true → r ≡ true
-    → elim p [ true ↦ elim q [ true ↦ elim r [ true ↦ n | false ↦ 5 ] | false ↦ 4 ] | false ↦ 2 ] ≡ n
-three_hold p q r n x y z = rw (x, y, z)
-
 -- A BLOCK OF ZEROS for a record of the model is judged by 11 alone
 module _ (m : Model) (i s : ℕ) (within : i < 2 ^ m.k) (long : s ≡ m.s) where
   judged_zeros : (n : ℕ) → judged m i (replicate s 0) n ≡ n
   judged_zeros n =
       let b : List ℕ = replicate s 0 in
-      three_hold (eqb (length b) m.s) (ltb i (2 ^ m.k)) (words_fit b) n (eq-eqb _ _ (length-replicate s 0 ∙ long)) (lt-ltb i (2 ^ m.k) within)
-      (sym (data_fit b) ∙ zeros_data s)
+      judged_words m i b n (length-replicate s 0 ∙ long) within ∙ if_else_true (words_fit b) n 5 (sym (data_fit b) ∙ zeros_data s)
 
   zeros_today : table_number m (write i (replicate s 0)) ≡ 11
   zeros_today = judged_zeros _ ∙ if_else_true (words_zero (replicate s 0)) 11 0 (sym (blank_zero (replicate s 0)) ∙ zeros_blank s)

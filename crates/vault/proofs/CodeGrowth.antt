@@ -1,6 +1,6 @@
 -- The code of a column from single words up: that of one word, and that of an older and a newer half from theirs. Of the room Coding of specs/promises.
 -- Assumes nothing.
-use mathlib.Core.Path.{◌≡◌, refl, sym, ap, ap₂, ◌∙◌}
+use mathlib.Core.Path.{◌≡◌, refl, sym, ap, ap₂, ◌∙◌, subst}
 use mathlib.Core.List.{List, [], ◌∷◌, ◌++◌}
 use Prim.Native.Nat.{ℕ, zero, suc, ◌+◌, ◌*◌, ◌-◌, ◌/◌, ◌%◌, ◌^◌, ◌≤◌, ◌<◌}
 use native.Mathlib.Nat.{add-zero, mul_assoc, mod-lt, mod-add-div, div-one, div-div-eq-div-mul, add-mul-div_left, pow-succ'}
@@ -22,13 +22,13 @@ use Rattle.vault.proofs.Coding.{root_is}
 use Rattle.vault.proofs.Leaving.{power_is}
 
 -- POWERS of the root of a vault, and of its power that mixes halves of 2^l words
-root_power : (k i : ℕ) → power 65537 (root k) i ≡ 3 ^ (32768 / 2 ^ k * i) % 65537
+pub root_power : (k i : ℕ) → power 65537 (root k) i ≡ 3 ^ (32768 / 2 ^ k * i) % 65537
 unfolding root
 root_power k i =
     ap (λ (w : ℕ). power 65537 w i) (sym (power_is 65537 3 (32768 / 2 ^ k) (omega arith))) ∙ sym (power_mul 65537 (omega arith) 3 (32768 / 2 ^ k) i)
     ∙ power_is 65537 3 (32768 / 2 ^ k * i) (omega arith)
 
-level_power : (k l i : ℕ) → l ≤ k → k ≤ 10 → power 65537 (power 65537 (root k) (2 ^ k / 2 ^ l)) i ≡ 3 ^ (32768 / 2 ^ l * i) % 65537
+pub level_power : (k l i : ℕ) → l ≤ k → k ≤ 10 → power 65537 (power 65537 (root k) (2 ^ k / 2 ^ l)) i ≡ 3 ^ (32768 / 2 ^ l * i) % 65537
 level_power k l i a b =
     ap (λ (w : ℕ). power 65537 (power 65537 w (2 ^ k / 2 ^ l)) i) (sym (root_is k))
     ∙ ap (λ (w : ℕ). power 65537 w i) (level_root k l a (omega arith) ∙ root_is l) ∙ root_power l i
@@ -68,30 +68,32 @@ turned_append w k t (z ∷ x) y =
     (turned_append w k (suc t) x y
     ∙ ap (λ (n : ℕ). turned 65537 w k (suc t) x ++ turned 65537 w k n y) {x = suc t + length x} {y = t + suc (length x)} (omega arith))
 
--- word i of both halves of the mixed column is as the statement says, of the words that stand at i in the columns mixed
-record Mixes (g a b sum difference : ℕ) : Type 0 where
-  sums : sum ≡ (a + g * b) % 65537
-  small : difference < 65537
-  differs : (difference + g * b) % 65537 ≡ a % 65537
+-- word i of both halves of the mixed column is as the statements say, of the words that stand at i in the columns mixed
+pub record Mixes (g a b sum difference : ℕ) : Type 0 where
+  pub sums : sum ≡ (a + g * b) % 65537
+  pub small : difference < 65537
+  pub differs : (difference + g * b) % 65537 ≡ a % 65537
+
+pub mixed_is : (v m g i : ℕ) (older newer : List ℕ) → length older ≡ m → i < m → power 65537 v i ≡ g % 65537
+    → Mixes g (get_or older i 0) (get_or newer i 0) (get_or (mixed 65537 v older newer) i 0) (get_or (mixed 65537 v older newer) (m + i) 0)
+mixed_is v m g i older newer long b q =
+    let there = mixed_high 65537 v m older newer i long b in
+    record {
+      sums = mixed_low 65537 v older newer i (omega arith) ∙ sum_is (get_or older i 0) (get_or newer i 0) g (power 65537 v i) q;
+      small = rw there (difference_lt (get_or older i 0) (times 65537 (power 65537 v i) (get_or newer i 0)));
+      differs = ap (λ (n : ℕ). (n + g * get_or newer i 0) % 65537) there ∙ difference_is (get_or older i 0) (get_or newer i 0) g (power 65537 v i) q;
+    }
 
 mixes : (k l i : ℕ) (x y : List ℕ) → suc l ≤ k → k ≤ 10 → length x ≡ 2 ^ l → length y ≡ 2 ^ l → i < 2 ^ l
     → Mixes (3 ^ (32768 / 2 ^ l * i)) (get_or (transform 65537 (root k) k l x) i 0) (get_or (transform 65537 (root k) k l y) i 0)
     (get_or (transform 65537 (root k) k (suc l) (x ++ y)) i 0) (get_or (transform 65537 (root k) k (suc l) (x ++ y)) (2 ^ l + i) 0)
 mixes k l i x y c d e f b =
     let w : ℕ = root k in
-    let v : ℕ = power 65537 w (2 ^ k / 2 ^ l) in
     let older : List ℕ = transform 65537 w k l x in
     let newer : List ℕ = transform 65537 w k l y in
-    let long : length older ≡ 2 ^ l = length_transform 65537 w k l x e in
     let g : ℕ = 3 ^ (32768 / 2 ^ l * i) in
-    let q = level_power k l i (omega arith) d in
-    let there = ap (λ (c : List ℕ). get_or c (2 ^ l + i) 0) (halves w k l x y e) ∙ mixed_high 65537 v (2 ^ l) older newer i long b in
-    record {
-      sums = ap (λ (c : List ℕ). get_or c i 0) (halves w k l x y e) ∙ mixed_low 65537 v older newer i (omega arith)
-          ∙ sum_is (get_or older i 0) (get_or newer i 0) g (power 65537 v i) q;
-      small = rw there (difference_lt (get_or older i 0) (times 65537 (power 65537 v i) (get_or newer i 0)));
-      differs = ap (λ (n : ℕ). (n + g * get_or newer i 0) % 65537) there ∙ difference_is (get_or older i 0) (get_or newer i 0) g (power 65537 v i) q;
-    }
+    subst (λ (c : List ℕ). Mixes g (get_or older i 0) (get_or newer i 0) (get_or c i 0) (get_or c (2 ^ l + i) 0)) (sym (halves w k l x y e))
+    (mixed_is (power 65537 w (2 ^ k / 2 ^ l)) (2 ^ l) g i older newer (length_transform 65537 w k l x e) b (level_power k l i (omega arith) d))
 
 -- and so of numbers that are those words
 said : (g a b s d a' b' s' d' : ℕ) → a' ≡ a → b' ≡ b → s' ≡ s → d' ≡ d → Mixes g a b s d
@@ -142,7 +144,7 @@ lower_bit k bit r b =
     parity x z y e = omega arith
 
 -- and a number with the bits of t in reverse is t reversed
-is_reversed : (k t r : ℕ) → r < 2 ^ k → ((bit : ℕ) → bit < k → r / 2 ^ bit % 2 ≡ t / 2 ^ (k - suc bit) % 2) → r ≡ reversed k t
+pub is_reversed : (k t r : ℕ) → r < 2 ^ k → ((bit : ℕ) → bit < k → r / 2 ^ bit % 2 ≡ t / 2 ^ (k - suc bit) % 2) → r ≡ reversed k t
 is_reversed zero t r b f = omega (arith, reversed_zero t)
 is_reversed (suc k) t r b f =
     let rest : r % 2 ^ k ≡ reversed k (t / 2) =

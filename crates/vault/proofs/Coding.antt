@@ -6,8 +6,8 @@ use mathlib.Core.List.{List, ◌∷◌, ◌++◌}
 use Prim.Native.Nat.{ℕ, zero, suc, ◌+◌, ◌*◌, ◌/◌, ◌%◌, ◌^◌, ◌≤◌, ◌<◌}
 use native.Mathlib.Nat.{div-div-eq-div-mul}
 use native.Mathlib.Omega.{arith}
-use lib.ListN.{length, get_or, drop}
-use lib.Seq.{get_or-take, get_or-drop, ext_get_or}
+use lib.ListN.{length, get_or}
+use lib.Seq.{ext_get_or}
 use Rattle.std.specs.Prelude.{◌↔◌}
 use Rattle.code.specs.Rows.{column}
 use Rattle.code.specs.Stripe.{coded, coded_rows}
@@ -17,7 +17,7 @@ use Rattle.field.specs.Field.{fermat, root_of}
 use Rattle.layout.specs.declared.Header.{Header}
 use Rattle.layout.specs.Header.{vault_root}
 use Rattle.layout.specs.Records.{record_in}
-use Rattle.layout.proofs.RecordWords.{length_record}
+use Rattle.layout.proofs.RecordWords.{length_record, word_of_record}
 use Rattle.store.specs.Buffers.{reduced, blocks_from, blocks_of}
 use Rattle.store.proofs.Stores.{reduced_at}
 use Rattle.store.proofs.StoredRecords.{length_reduced}
@@ -101,7 +101,7 @@ blocks_are h raw i long b =
     λ q c. block_stands n s raw long 0 n i q (omega arith) b c ∙ ap (λ (x : ℕ). get_or (block s raw x) q 0) {x = 0 + i} {y = i} (omega arith) in (
       ap (λ (x : ℕ). get_or (blocks_of h raw) x 0) {x = i * suc s} {y = i * suc s + 0} (omega arith) ∙ stands 0 (omega arith),
       λ j lt. stands (suc j) (omega arith) ∙ reduced_at 65537 (record_in s raw i) j (omega (arith, length_record n s raw i long b))
-          ∙ ap (λ (x : ℕ). x % 65537) (get_or-take s (drop (i * s) raw) j 0 lt ∙ get_or-drop (i * s) raw j 0),
+          ∙ ap (λ (x : ℕ). x % 65537) (word_of_record s raw i j lt),
     )
 
 pub full_codes : FullCodes

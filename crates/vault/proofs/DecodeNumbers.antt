@@ -18,7 +18,7 @@ use Rattle.image.specs.ImageTests.{image_tests}
 use Rattle.judging.specs.Decoding.{decoded_number}
 use Rattle.judging.specs.Promises.{OutOfField}
 use Rattle.judging.proofs.Proved as Decoding
-use Rattle.judging.proofs.StripeNumbers.{stripe_fits}
+use Rattle.judging.proofs.StripeNumbers.{failed_is, stripe_fits}
 use Rattle.stripe_decoding.specs.Decoding.{decode_stripe}
 use Rattle.stripe_decoding.specs.StripeCall.{decode_early, decode_number}
 use Rattle.vault.specs.promises.Decoding.{marks, words_in, Readable, Fails}
@@ -27,7 +27,7 @@ use Rattle.vault.specs.promises.Table.{InRange, OutLength, ScratchLength, IsStri
 use Rattle.vault.specs.promises.Table.{Rows, none, row, EachNumber}
 use Rattle.vault.specs.promises.Numbers.{ImageRows, StripeRows, StripeNumbers, FailsIff, DecodeNumbers, AskedIff}
 use Rattle.vault.proofs.StripeDecoding.{nine_iff, ten_iff}
-use Rattle.vault.proofs.StripeCall.{failed_number, number_fails, needed_within}
+use Rattle.vault.proofs.StripeCall.{failed_number, needed_within}
 use Rattle.vault.proofs.Erasures.{stripe_word, well_formed_iff, marked_iff}
 use Rattle.vault.proofs.Table.{Beside, ended, beside, each_number, then_iff, Says, not_false, fails_unless, sure, both_say, equal_says}
 use Rattle.vault.proofs.Table.{fits_iff, needed_iff, stripe_says}
@@ -117,7 +117,7 @@ number_is v o = go (eqb v 7) refl (eqb v 8) refl (eqb v 9) refl (eqb v 10) refl
 
 -- A STRIPE FAILS with a number if that is its number, and each of the four tests fails if its row applies
 pub fails_iff : FailsIff
-fails_iff h m e l n z = (λ f. failed_number f, λ q. number_fails n z q)
+fails_iff h m e l n z = (λ f. failed_number f, λ q. failed_is _ (sym q) (λ e. omega arith))
 
 module _ (h : Header) (m e : List ℕ) (l : ℕ) where
   abbrev number : ℕ

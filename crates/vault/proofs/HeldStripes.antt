@@ -26,7 +26,7 @@ use Rattle.judging.specs.Decoding.{decoded_number}
 use Rattle.judging.specs.Promises as Rows
 use Rattle.judging.specs.Promises.{OutOfField}
 use Rattle.judging.proofs.Proved as Judging
-use Rattle.judging.proofs.StripeNumbers.{stripe_fits}
+use Rattle.judging.proofs.StripeNumbers.{failed_is, stripe_fits}
 use Rattle.taking_back.specs.TakingBack.{stripe_held, none_erased, decode_held}
 use Rattle.taking_back.proofs.HeldStripes.{full_held, level_held, stripe_long}
 use Rattle.taking_back.proofs.WholeStripes.{none_set, all_survive, never_seven}
@@ -35,8 +35,8 @@ use Rattle.vault.specs.promises.Decoding.{HoldRecords}
 use Rattle.vault.specs.promises.Table.{FullLength, LogLength, InRange, NoRecord, EachNumber}
 use Rattle.vault.specs.promises.TakingBack.{HeldIs, HeldDecodes, HeldFails, CodesHeld, HeldRows, HeldNumbers, HeldFailsIff, HeldBlocksIff}
 use Rattle.vault.proofs.ImageNumbers.{OfStripe, rows_number}
-use Rattle.vault.proofs.NoRecords.{words_no}
-use Rattle.vault.proofs.StripeCall.{failed_number, number_fails}
+use Rattle.vault.proofs.NoRecords.{blocks_no}
+use Rattle.vault.proofs.StripeCall.{failed_number}
 use Rattle.vault.proofs.Table.{ended, beside, each_number, then_iff, not_false, fits_iff, full_is, log_is}
 
 -- ITS WORDS
@@ -140,7 +140,7 @@ module _ (v : Vault) (l : ℕ) where
       SomeNoRecord = (bs : List ℕ) × (j : ℕ) × CodesHeld v l bs × (j < 2 ^ l) × NoRecord v.header l bs j
 
       none_records : (bs : List ℕ) → RowCodes bs → HoldRecords v.header l bs false ↔ ((j : ℕ) × (j < 2 ^ l) × NoRecord v.header l bs j)
-      none_records bs C = words_no v.header l bs C.blocks.words
+      none_records bs C = blocks_no v.header l bs C.blocks.long
 
       ten : HeldFails v l 10 ↔ SomeNoRecord
       ten =
@@ -177,7 +177,7 @@ number_is n o d = go (eqb n 8) refl (eqb n 9) refl (eqb n 10) refl
         ⊎_elim (λ z. sym z) (λ t. absurd (omega (arith, t.0, t.1, d, eqb-false n 8 p, eqb-false n 9 q, eqb-false n 10 r))) o
 
 pub held_fails_iff : HeldFailsIff
-held_fails_iff v l n z = (λ f. failed_number f, λ q. number_fails n z q)
+held_fails_iff v l n z = (λ f. failed_number f, λ q. failed_is _ (sym q) (λ e. omega arith))
 
 fails_with : (v : Vault) (l n : ℕ) → 0 < n → (not (eqb (number v l) n) ≡ false) ↔ HeldFails v l n
 fails_with v l n z =
@@ -186,7 +186,7 @@ fails_with v l n z =
 
 pub held_numbers : HeldNumbers
 held_numbers v l range full log w =
-    let tested = number_is (number v l) (rows_number (stripe v l) none_erased (words v l)) (λ e. not_seven v l (number_fails 7 (omega arith) e)) in
+    let tested = number_is (number v l) (rows_number (stripe v l) none_erased (words v l)) (λ e. not_seven v l (failed_is _ (sym e) (λ q. omega arith))) in
     subst (λ (n : ℕ). EachNumber n (HeldRows v l)) tested
     (each_number (HeldRows v l)
     (beside (omega arith) (λ o. then_iff (fails_with v l 8 (omega arith)) (eight v l range full log w))

@@ -7,36 +7,37 @@ use Prim.Native.Nat.{ℕ, suc, ◌*◌, ◌-◌, ◌%◌, ◌^◌, ◌<◌}
 use native.Mathlib.Nat.{zero-div}
 use native.Mathlib.Omega.{arith}
 use lib.Dec.{eqb, ltb}
-use lib.ListN.{length, get_or, take, length-append}
+use lib.ListN.{length, get_or, take, length-append, length-replicate}
 use lib.Pow.{pow_pos}
-use borrow.Author.Tests.{eqb-true, eqb-false, ltb-true}
+use borrow.Author.Tests.{eqb-true, eqb-false}
 use Rattle.layout.specs.declared.Header.{Header}
 use Rattle.layout.specs.Header.{header_of, level_for}
 use Rattle.field.specs.Words.{every}
-use Rattle.layout.specs.Records.{are_data, is_blank, replaced}
+use Rattle.layout.specs.Records.{are_data, is_blank, struck_data, replaced}
 use Rattle.store.specs.Buffers.{full_stripe, Buffers, buffers, opened}
 use Rattle.store.specs.Writing.{next_header, log_with, written}
 use Rattle.layout.specs.Refusals.{Tests, done, test, refusal, if_taken}
-use Rattle.store.specs.StoreCalls.{buffers_fit, write_tests, numbered, leaving, write_number, earlier_number}
+use Rattle.store.specs.StoreCalls.{buffers_fit, write_tests, numbered, leaving, write_number, earlier_number, strike_number}
 use Rattle.splitting.specs.Splitting.{header_before}
 use Rattle.taking_back.specs.TakingBack.{buffers_back}
 use Rattle.taking_back.specs.TakeBackCall.{take_back_comes}
-use Rattle.vault.specs.Event.{Entry, Opening, Event, write, earlier, take_back}
+use Rattle.vault.specs.Event.{Entry, Opening, Event, write, earlier, strike, take_back}
 use Rattle.vault.specs.History.{Vault, vault, number_on, step, after, Opens, opened_vault, vault_after, header_after}
-use Rattle.vault.specs.Model.{Model, writes, words_fit, words_zero, judged, back_judged, table_number, put, cancelled}
+use Rattle.vault.specs.Model.{Model, writes, words_fit, words_zero, judged, strike_judged, back_judged, table_number, put, struck, cancelled}
 use Rattle.vault.specs.Model.{fed, fed_all, opened_model, model_of}
 use Rattle.vault.specs.Round.{Round, put_all, before_each, records_in, model_in, start_of, grown, cut, turn_round, round_after, opened_round, round_of}
 use Rattle.vault.specs.Round.{round_header, represent}
 use Rattle.vault.specs.promises.Histories.{SizesBegin, SizesKept, SizesStay, RecordsLong, RawIs, ModelIs, BeforeIs}
 use Rattle.field.proofs.Booleans.{if_else, if_else_true, if_else_false}
-use Rattle.layout.proofs.Refusals.{passes, none_fails}
-use Rattle.layout.proofs.RecordWords.{data_words, replaced_is, record_end}
-use Rattle.store.proofs.OpenRefusals.{open_taken, open_data}
+use Rattle.layout.proofs.Refusals.{none_fails, alone_not}
+use Rattle.layout.proofs.RecordWords.{data_fits, struck_fits, replaced_is, record_end}
+use Rattle.store.proofs.OpenRefusals.{open_taken}
+use Rattle.vault.proofs.Judged.{write_enters, strike_within, some_write}
 use Rattle.vault.proofs.Levels.{log_empty}
-use Rattle.vault.proofs.Rounds.{fit_sizes, Taken, AllTaken, none, more, Good, taken_append, put_append, length_put, words_put, before_append}
+use Rattle.vault.proofs.Rounds.{fit_sizes, Taken, AllTaken, none, more, Good, taken_append, put_append, length_put, fit_put, before_append}
 use Rattle.vault.proofs.Rounds.{length_before, before_at, records_long, header_fits_lem, buffers_fit_lem}
 use Rattle.vault.proofs.Rebuilding.{log_written}
-use Rattle.vault.proofs.TakingBackRounds.{cut_back, some_write, back_early, back_number}
+use Rattle.vault.proofs.TakingBackRounds.{cut_back, back_early, back_number}
 
 -- THE INVARIANT: a vault and a model represent a round
 pub record Represents (a : Round) (v : Vault) (m : Model) : Type 0 where
@@ -59,12 +60,7 @@ blank_zero [] = refl
 blank_zero (x ∷ b) = rw (blank_zero b)
 
 pub blank_number : (b : List ℕ) → refusal (test (not (is_blank b)) 11 done) ≡ elim (words_zero b) [ true ↦ 11 | false ↦ 0 ]
-unfolding refusal
-blank_number b = ap (λ (z : Bool). refusal (test (not z) 11 done)) (blank_zero b) ∙ go (words_zero b)
-  where
-    go : (z : Bool) → refusal (test (not z) 11 done) ≡ elim z [ true ↦ 11 | false ↦ 0 ]
-    go true = refl
-    go false = refl
+blank_number b = alone_not (is_blank b) 11 ∙ ap (λ (z : Bool). if_else z 11 0) (blank_zero b)
 
 -- THE START OF A ROUND: no writes since, and a log of zeros
 pub start : (k s : ℕ) (r : List ℕ) → represent (start_of k s r) ≡ opened (header_of k s 0) r
@@ -80,7 +76,7 @@ module _ (o : Opening) (opens : Opens o) where
       record {
         sizes = fit_sizes o.k o.s 0 t.fitting;
         base_long = t.raw_long;
-        base_words = data_words o.raw (open_data o.k o.s o.raw o.full o.log opens);
+        base_fits = t.records;
         taken = none;
         few = pow_pos o.k;
       }
@@ -98,18 +94,19 @@ module _ (o : Opening) (opens : Opens o) where
 
 -- a write that the table takes, with any model
 pub taken_is : (m : Model) (i : ℕ) (b : List ℕ) (n : ℕ) → judged m i b n ≡ 0 → Taken m.k m.s (record { number = i; block = b })
-unfolding refusal
-taken_is m i b n e =
-    let rest : Tests = test false n done in
-    let t₁ = passes (eqb (length b) m.s) 2 (test (ltb i (2 ^ m.k)) 4 (test (words_fit b) 5 rest)) e (omega arith) in
-    let t₂ = passes (ltb i (2 ^ m.k)) 4 (test (words_fit b) 5 rest) t₁.1 (omega arith) in
-    record {
-      within = ltb-true i (2 ^ m.k) t₂.0;
-      long = eqb-true (length b) m.s t₁.0;
-      words = data_words b (data_fit b ∙ (passes (words_fit b) 5 rest t₂.1 (omega arith)).0);
-    }
+taken_is m i b n e = let t = write_enters m i b n e in record { within = t.within; long = t.long; fits = data_fits b (data_fit b ∙ t.words) }
 
--- A WRITE on a good round, today's or an earlier one
+-- and a strike
+pub strike_is : (m : Model) (i : ℕ) → strike_judged m i ≡ 0 → Taken m.k m.s (record { number = i; block = struck m })
+strike_is m i e = record { within = strike_within m i e; long = length-replicate m.s 65536; fits = struck_fits m.s }
+
+-- A STRIKE on a good round has the table's number
+strike_number_lem : (a : Round) → Good a → (i : ℕ) → strike_number (round_header a) (represent a) i ≡ table_number (model_in a) (strike i)
+unfolding refusal
+strike_number_lem a good i =
+    ap₂ (λ (p q : Bool). refusal (test p 1 (test q 2 (test (ltb i (2 ^ a.k)) 4 done)))) (header_fits_lem good) (buffers_fit_lem good)
+
+-- A WRITE on a good round, today's or an earlier one, or what a strike writes
 module _ (a : Round) (good : Good a) (i : ℕ) (b : List ℕ) where
   abbrev h : Header
   h = round_header a
@@ -194,7 +191,7 @@ module _ (a : Round) (good : Good a) (i : ℕ) (b : List ℕ) where
           good = record {
             sizes = good.sizes;
             base_long = length_put a.base good.base_long all_taken;
-            base_words = words_put a.base good.base_words all_taken;
+            base_fits = fit_put a.base good.base_long good.base_fits all_taken;
             taken = none;
             few = pow_pos a.k;
           };
@@ -215,7 +212,7 @@ module _ (a : Round) (good : Good a) (i : ℕ) (b : List ℕ) where
           good = record {
             sizes = good.sizes;
             base_long = good.base_long;
-            base_words = good.base_words;
+            base_fits = good.base_fits;
             taken = all_taken;
             few = omega (arith, now_long);
           };
@@ -296,11 +293,13 @@ module _ (a : Round) (good : Good a) (scratch : List ℕ) where
 number_on_lem : (a : Round) → Good a → (e : Event) → number_on (vault (round_header a) (represent a)) e ≡ table_number (model_in a) e
 number_on_lem a good (write i b) = write_number_lem a good i b
 number_on_lem a good (earlier i b) = earlier_number_lem a good i b
+number_on_lem a good (strike i) = strike_number_lem a good i
 number_on_lem a good (take_back scratch) = back_number good scratch
 
 turn_from : (a : Round) → Good a → (e : Event) → Represents (turn_round a e) (step (vault (round_header a) (represent a)) e) (fed (model_in a) e)
 turn_from a good (write i b) = turned a good i b (write_number_lem a good i b) (taken_is (model_in a) i b (elim (words_zero b) [ true ↦ 11 | false ↦ 0 ]))
 turn_from a good (earlier i b) = turned a good i b (earlier_number_lem a good i b) (taken_is (model_in a) i b 0)
+turn_from a good (strike i) = turned a good i (struck_data a.s) (strike_number_lem a good i) (strike_is (model_in a) i)
 turn_from a good (take_back scratch) = taken_back a good scratch
 
 pub turn_represents : (a : Round) (v : Vault) (m : Model) (e : Event) → Represents a v m → Represents (turn_round a e) (step v e) (fed m e)
@@ -328,6 +327,7 @@ back_same m false = (refl, refl)
 fed_same : (m : Model) (e : Event) → ((fed m e).k ≡ m.k) × ((fed m e).s ≡ m.s)
 fed_same m (write i b) = put_same m i b (eqb (table_number m (write i b)) 0)
 fed_same m (earlier i b) = put_same m i b (eqb (table_number m (earlier i b)) 0)
+fed_same m (strike i) = put_same m i (struck m) (eqb (strike_judged m i) 0)
 fed_same m (take_back scratch) = back_same m (eqb (back_judged m scratch) 0)
 
 -- a list of events and one more

@@ -17,6 +17,7 @@ use Rattle.layout.specs.declared.Header.{Header}
 use Rattle.layout.specs.Header.{width, raw_size, header_fits, is_full, is_filled, first_of, stripe_of}
 use Rattle.layout.specs.Records.{record_in, replaced}
 use Rattle.layout.specs.Refusals.{if_taken}
+use Rattle.layout.proofs.RecordWords.{word_of_record}
 use Rattle.layout.proofs.Refusals.{if_taken_lem}
 use Rattle.layout.proofs.StripePlaces.{first_level}
 use Rattle.image.proofs.ImageRefusals.{whole}
@@ -89,6 +90,9 @@ abbrev pub blocks_of : Decoded → List ℕ
 blocks_of (failed n) = []
 blocks_of (decoded bs) = bs
 
+pub is_decoded : (h : Header) (d : ℕ → Decoded) → AllDecode h d → (l : ℕ) → Needed h l → d l ≡ decoded (blocks_of (d l))
+is_decoded h d all l n = let p = (all l n).1 in p ∙ ap decoded (sym (ap blocks_of p))
+
 -- no level is above the full stripe
 reaches : {k l l' : ℕ} → l ≤ k → l' ≤ k → (l < k → l' ≤ l) → l' ≤ l
 reaches w w' g = ⊎_elim (λ q. omega arith) g (eq-or-lt_of_le w)
@@ -102,11 +106,8 @@ module _ {h : Header} {d : ℕ → Decoded} {i l j : ℕ} {bs : List ℕ} (B : L
   same_blocks : (l' : ℕ) → l' ≡ l → blocks l' ≡ bs
   same_blocks l' q = ap blocks q ∙ ap blocks_of B.decodes
 
-  is_decoded : (l' : ℕ) → Needed h l' → d l' ≡ decoded (blocks l')
-  is_decoded l' n = let p = (all l' n).1 in p ∙ ap decoded (sym (ap blocks_of p))
-
   are_blocks : (l' : ℕ) → Needed h l' → Blocks h l' (blocks l')
-  are_blocks l' n = are l' (blocks l') (needed_within h l' n) (is_decoded l' n)
+  are_blocks l' n = are l' (blocks l') (needed_within h l' n) (is_decoded h d all l' n)
 
   -- it is there when the stripes from l' on are laid, if its own is among them
   record Placed (l' : ℕ) (r : List ℕ) : Type 0 where
@@ -144,7 +145,7 @@ module _ {h : Header} {d : ℕ → Decoded} {i l j : ℕ} {bs : List ℕ} (B : L
     below_it : l' < l → NowThere → record_in s (y.over l' (blocks l') r) i ≡ data_of l bs j
     below_it lt H =
         let n : Needed h l' = inr (b, f) in
-        ⊎_elim (λ z. absurd (B.lowest l' z.0 (blocks l') n lt (is_decoded l' n) z.1.among z.1.to)) (λ z. z.1 ∙ P.here (λ _. lt)) H
+        ⊎_elim (λ z. absurd (B.lowest l' z.0 (blocks l') n lt (is_decoded h d all l' n) z.1.among z.1.to)) (λ z. z.1 ∙ P.here (λ _. lt)) H
 
     lay_level : Placed l' (y.over l' (blocks l') r)
     lay_level =
@@ -182,8 +183,9 @@ module _ {h : Header} {d : ℕ → Decoded} {i l j : ℕ} {bs : List ℕ} (B : L
 
   stays : (size : ℕ) → record_in s (recovered_words (stripes_over h d y) size) i ≡ data_of l bs j
   stays size =
-      let t = levels_keep h d y blocks Placed (λ l' b f. is_decoded l' (inr (b, f))) lay_level past_level h.k (y.full (blocks h.k)) (le_refl h.k) lay_full in
-      rw (is_decoded h.k needed_full, t.1) (t.2.here (λ b. omega arith))
+      let laid = λ (l' : ℕ) (b : l' < h.k) (f : is_filled h l' ≡ true). is_decoded h d all l' (inr (b, f)) in
+      let t = levels_keep h d y blocks Placed laid lay_level past_level h.k (y.full (blocks h.k)) (le_refl h.k) lay_full in
+      rw (is_decoded h d all h.k needed_full, t.1) (t.2.here (λ b. omega arith))
 
 -- A CALL THAT GIVES 0 leaves what the stripes come to
 call_leaves : {h : Header} {d : ℕ → Decoded} {y : Layer} {s : ℕ} {data_of : (stripe : ℕ) → (blocks : List ℕ) → (j : ℕ) → List ℕ} {i l j : ℕ} {bs : List ℕ}
@@ -224,7 +226,7 @@ pub data_holds : (h : Header) (d : ℕ → Decoded) (early : ℕ) (out : List �
 data_holds h d early out {i} {j = j} q {bs} are taken B b =
     let xs = if_taken early (recovered_words (recover h d) (raw_size h)) out in
     let same : record_in h.s xs i ≡ block_data (width h) bs j = call_leaves (records_lay h) B early (raw_size h) out are taken in
-    sym (get_or-take h.s (drop (i * h.s) xs) q 0 b ∙ get_or-drop (i * h.s) xs q 0) ∙ ap (λ (r : List ℕ). get_or r q 0) same
+    sym (word_of_record h.s xs i q b) ∙ ap (λ (r : List ℕ). get_or r q 0) same
     ∙ get_or-take h.s (drop (suc (j * suc h.s)) bs) q 0 b ∙ get_or-drop (suc (j * suc h.s)) bs q 0
     ∙ ap (λ (n : ℕ). get_or bs n 0) {x = suc (j * suc h.s) + q} {y = j * suc h.s + suc q} (omega arith)
 

@@ -1,15 +1,15 @@
 -- Rows laid over records: `laid` of the rows of some entries is `put_all`, and all records of a list put over any other are the list. Assumes nothing.
 use mathlib.Core.Path.{◌≡◌, refl, sym, ap, ap₂, ◌∙◌}
+use mathlib.Core.Bool.{true}
 use mathlib.Core.List.{List, [], ◌∷◌, ◌++◌, append_assoc, append-nil}
 use Prim.Native.Nat.{ℕ, zero, suc, ◌+◌, ◌*◌, ◌^◌, ◌≤◌, ◌<◌}
 use native.Mathlib.Nat.{zero-mul, suc-mul, add-zero}
 use native.Mathlib.Omega.{arith}
 use lib.ListN.{length, get_or, take, drop, drop_of_length-le, length-append, length-drop}
-use lib.Dec.{lit<}
 use lib.Seq.{take_all, drop-nil, take-suc, drop-cons, take_at, drop_at, drop-append-add, get_or-drop, drop-drop, take-add, length-take-le}
 use Rattle.field.specs.Words.{Words}
 use Rattle.field.proofs.WordLists.{words_part}
-use Rattle.layout.specs.Records.{record_in, replaced}
+use Rattle.layout.specs.Records.{record_in, replaced, records_fit}
 use Rattle.store.specs.Buffers.{blocks_from}
 use Rattle.judging.specs.Decoding.{block_number, block_data}
 use Rattle.range_laying.specs.Laid.{laid}
@@ -17,7 +17,7 @@ use Rattle.vault.specs.Event.{Entry}
 use Rattle.vault.specs.Round.{put_all, rows_of}
 use Rattle.vault.proofs.Rounds.{Taken, AllTaken, none, more, put_append}
 use Rattle.store.proofs.StoredRecords.{reduced_same}
-use Rattle.layout.proofs.RecordWords.{length_record, record_end, replaced_is}
+use Rattle.layout.proofs.RecordWords.{length_record, record_end, replaced_is, fit_one}
 
 -- entry j
 abbrev pub no_entry : Entry
@@ -92,14 +92,14 @@ block_numbered s r i (suc n) zero h = ap (record_in s r) (sym (add-zero i))
 block_numbered s r i (suc n) (suc j) h = block_numbered s r (suc i) n j (omega arith) ∙ ap (record_in s r) {x = suc i + j} {y = i + suc j} (omega arith)
 
 module _ (k s : ℕ) (r : List ℕ) (long : length r ≡ 2 ^ k * s) where
-  pub numbered_fit : Words 65536 r → (i n : ℕ) → i + n ≤ 2 ^ k → AllTaken k s (numbered s r i n)
+  pub numbered_fit : records_fit s r (2 ^ k) ≡ true → (i n : ℕ) → i + n ≤ 2 ^ k → AllTaken k s (numbered s r i n)
   unfolding numbered
   numbered_fit u i zero h = none
   numbered_fit u i (suc n) h =
       more {x = record { number = i; block = record_in s r i }} (record {
         within = omega arith;
         long = length_record (2 ^ k) s r i long (omega arith);
-        words = words_part 65536 (lit< tt) s (i * s) u;
+        fits = fit_one s r (2 ^ k) i u (omega arith);
       })
       (numbered_fit u (suc i) n (omega arith))
 
@@ -137,7 +137,7 @@ module _ (k s : ℕ) (r : List ℕ) (long : length r ≡ 2 ^ k * s) where
         let none : up_to 0 ≡ z = ap (λ (q : ℕ). take q r ++ drop q z) (zero-mul s) in
         ap (λ (y : List ℕ). put_all s y (numbered s r 0 (2 ^ k))) (sym none) ∙ put_from 0 (2 ^ k) (omega arith)
 
--- blocks of records that are data words are these entries' rows
+-- blocks of records whose words are below p are these entries' rows
 pub blocks_rows : (p s : ℕ) (r : List ℕ) → 0 < p → Words p r → (i n : ℕ) → blocks_from p s r i n ≡ rows_of (numbered s r i n)
 unfolding blocks_from rows_of numbered
 blocks_rows p s r z u i zero = refl

@@ -1,16 +1,18 @@
 -- WHAT OPENING, READING, THE IMAGE AND THE POWERS LEAVE, by the call's number: of the room Leaving of specs/promises. LeavingStripes has decoding,
 -- LeavingLayers recovery and explaining, TwoLeaving and TwoShelves the calls on two readings. Assumes nothing.
-use mathlib.Core.Path.{◌≡◌, sym, ap, ◌∙◌, subst}
-use mathlib.Core.Bool.{◌&&◌}
+use mathlib.Core.Path.{◌≡◌, refl, sym, ap, ◌∙◌, subst}
+use mathlib.Core.Bool.{◌&&◌, not}
 use mathlib.Core.List.{List, [], ◌∷◌, ◌++◌}
 use Prim.Native.Nat.{ℕ, zero, suc, ◌+◌, ◌*◌, ◌-◌, ◌/◌, ◌%◌, ◌^◌, ◌<◌}
 use native.Mathlib.Nat.{zero-div, div-one, div-div-eq-div-mul, mod-eq_of_lt, pow-zero, pow-succ'}
 use native.Mathlib.Omega.{arith}
-use lib.ListN.{length, get_or, drop, replicate, get_or-append}
-use lib.Seq.{get_or-append-add, get_or-take, get_or-drop}
+use lib.ListN.{length, get_or, replicate, get_or-append}
+use lib.Seq.{get_or-append-add}
 use borrow.Author.Tests.{eqb-true, eq-eqb, ltb-true, lt-ltb}
 use Rattle.std.proofs.lemmas.Nat.{mul-mod_second}
+use Rattle.std.specs.Prelude.{◌↔◌}
 use lib.Dec.{eqb, ltb}
+use Rattle.field.proofs.Booleans.{if_else, if_else_true, if_else_false}
 use Rattle.field.specs.Residue.{times}
 use Rattle.field.specs.Power.{power}
 use Rattle.field.proofs.Powers.{power_zero, power_suc, power_mul}
@@ -18,10 +20,10 @@ use Rattle.field.proofs.PowerTables.{length_table_of_powers, powers_at}
 use Rattle.field.specs.Field.{power_table}
 use Rattle.layout.specs.declared.Header.{Header}
 use Rattle.layout.specs.Header.{header_of, record_count, header_fits, raw_size, full_size, log_size, image_size}
-use Rattle.layout.specs.Records.{record_in}
+use Rattle.layout.specs.Records.{is_struck, record_in}
 use Rattle.layout.specs.Refusals.{Tests, done, test}
-use Rattle.layout.proofs.Refusals.{equal_three, three_equal, test_holds, none_fails, passes, if_taken_lem, if_refused}
-use Rattle.layout.proofs.RecordWords.{length_record}
+use Rattle.layout.proofs.Refusals.{alone_not, equal_three, three_equal, test_holds, none_fails, passes, if_taken_lem, if_refused}
+use Rattle.layout.proofs.RecordWords.{length_record, word_of_record}
 use Rattle.store.specs.Buffers.{buffers, opened, full_stripe}
 use Rattle.store.specs.StoreCalls.{read_number, read_gives}
 use Rattle.store.proofs.StoredRecords.{length_full}
@@ -31,10 +33,11 @@ use Rattle.vault.specs.History.{vault_after, header_after, image_after}
 use Rattle.vault.specs.Round.{Round, records_in, round_of, round_header, log_words}
 use Rattle.vault.specs.promises.Leaving.{OpenRefused, OpenTaken, ReadRefused, ReadTaken, ReadsModel, byte_of, ImageOf, ImageRefused, ImageTaken, ImagesHistory}
 use Rattle.vault.specs.promises.Leaving.{PowersRefused, PowersTaken}
-use Rattle.vault.specs.promises.Table.{ImageLength}
+use Rattle.vault.specs.promises.Table.{ImageLength, IsStruck}
 use Rattle.image.specs.ImageCall.{image_number, image_leaves}
 use Rattle.power_table.specs.PowersCall.{powers_leaves}
 use Rattle.vault.proofs.Levels.{length_log}
+use Rattle.vault.proofs.Table.{Says, fails_unless, sure, struck_says}
 use Rattle.vault.proofs.Rounds.{Good, records_long, header_fits_lem}
 use Rattle.vault.proofs.Histories.{histories}
 use Rattle.vault.proofs.Demand3.{length_image}
@@ -57,27 +60,49 @@ read_refused h raw i d = if_refused (record_in h.s raw i) [] d
 
 pub read_taken : ReadTaken
 read_taken h raw i t =
-    let last : Tests = test (ltb i (record_count h)) 4 done in
+    let more : Tests = test (not (is_struck (record_in h.s raw i))) 14 done in
+    let last : Tests = test (ltb i (record_count h)) 4 more in
     let long = eqb (length raw) (raw_size h) in
     let one = passes (header_fits h) 1 (test long 2 last) t (omega arith) in
     let two = passes long 2 last one.1 (omega arith) in
-    let b = ltb-true i (record_count h) (passes (ltb i (record_count h)) 4 done two.1 (omega arith)).0 in
+    let b = ltb-true i (record_count h) (passes (ltb i (record_count h)) 4 more two.1 (omega arith)).0 in
     let e : read_gives h raw i ≡ record_in h.s raw i = if_taken_lem (record_in h.s raw i) [] t in (
       ap length e ∙ length_record (record_count h) h.s raw i (eqb-true (length raw) (raw_size h) two.0) b,
-      λ j lt. ap (λ (x : List ℕ). get_or x j 0) e ∙ get_or-take h.s (drop (i * h.s) raw) j 0 lt ∙ get_or-drop (i * h.s) raw j 0,
+      λ j lt. ap (λ (x : List ℕ). get_or x j 0) e ∙ word_of_record h.s raw i j lt,
     )
 
 -- after any history the header and the buffers are those of a good round
-read_round : (a : Round) → Good a → (i : ℕ) → i < 2 ^ a.k →
-    let h = round_header a in
-    (read_number h (records_in a) i ≡ 0) × (read_gives h (records_in a) i ≡ record_in a.s (records_in a) i)
-read_round a good i b =
-    let h = round_header a in
-    let last : Tests = test (ltb i (record_count h)) 4 done in
-    let taken : read_number h (records_in a) i ≡ 0 =
-    test_holds 1 _ (header_fits_lem good) ∙ test_holds 2 last (eq-eqb (length (records_in a)) (raw_size h) (records_long good))
-    ∙ test_holds 4 done (lt-ltb i (record_count h) b) ∙ none_fails in
-    (taken, if_taken_lem (record_in a.s (records_in a) i) [] taken)
+module _ (a : Round) (good : Good a) (i : ℕ) (b : i < 2 ^ a.k) where
+  abbrev kept : List ℕ
+  kept = record_in a.s (records_in a) i
+
+  abbrev Struck : Type 0
+  Struck = IsStruck a.s (λ q. get_or kept q 0)
+
+  read_is : read_number (round_header a) (records_in a) i ≡ if_else (is_struck kept) 14 0
+  read_is =
+      let h = round_header a in
+      let more : Tests = test (not (is_struck kept)) 14 done in
+      let last : Tests = test (ltb i (record_count h)) 4 more in
+      test_holds 1 _ (header_fits_lem good) ∙ test_holds 2 last (eq-eqb (length (records_in a)) (raw_size h) (records_long good))
+      ∙ test_holds 4 more (lt-ltb i (record_count h) b) ∙ alone_not (is_struck kept) 14
+
+  kept_struck : Says (is_struck kept) Struck
+  kept_struck = struck_says kept (λ q. get_or kept q 0) (length_record (2 ^ a.k) a.s (records_in a) i (records_long good) b) (λ q t. refl)
+
+  else_taken : (Struck → ⊥) → read_number (round_header a) (records_in a) i ≡ 0
+  else_taken d = read_is ∙ if_else_false (is_struck kept) 14 0 ((fails_unless kept_struck).1 d)
+
+  read_struck : (read_number (round_header a) (records_in a) i ≡ 14) ↔ Struck
+  read_struck = (
+    λ e. sure kept_struck (λ d. let z = else_taken d in omega arith),
+    λ t. read_is ∙ if_else_true (is_struck kept) 14 0 (kept_struck.1 t),
+  )
+
+  read_round :
+      let h = round_header a in
+      ((read_number h (records_in a) i ≡ 14) ↔ Struck) × ((Struck → ⊥) → (read_number h (records_in a) i ≡ 0) × (read_gives h (records_in a) i ≡ kept))
+  read_round = (read_struck, λ d. let z = else_taken d in (z, if_taken_lem kept [] z))
 
 pub reads_model : ReadsModel
 reads_model o es i O = let t = histories o es O in rw (header_after, vault_after, t.vault_is, t.model_is) (read_round (round_of o es) t.good i)

@@ -17,6 +17,7 @@ pub mod Explaining
 pub mod HeldStripes
 pub mod Histories
 pub mod ImageNumbers
+pub mod Judged
 pub mod LastBlocks
 pub mod LastWrites
 pub mod Laying
@@ -35,6 +36,7 @@ pub mod Origins
 pub mod PairsByBytes
 pub mod Proved
 pub mod Rebuilding
+pub mod RebuiltLevels
 pub mod RecordBefore
 pub mod Recovering
 pub mod RoundDecoding
@@ -43,6 +45,8 @@ pub mod RoundStripes
 pub mod Rounds
 pub mod SameRounds
 pub mod SomeLast
+pub mod Standing
+pub mod Strikes
 pub mod StripeCall
 pub mod StripeDecoding
 pub mod StripesEnd

@@ -1,7 +1,7 @@
 -- ONE EVENT MORE, and the model: an event that is refused leaves it, and one that is taken puts a block's words in the place of a record's. The room Histories
 -- of specs/promises. Assumes nothing.
 use mathlib.Core.Path.{◌≡◌, refl, sym, ap, ◌∙◌, subst}
-use mathlib.Core.Logic.{◌⊎◌, ⊎_elim}
+use mathlib.Core.Logic.{◌⊎◌, inl, inr, ⊎_elim}
 use mathlib.Core.List.{List, [], ◌∷◌, ◌++◌}
 use Prim.Native.Nat.{ℕ, suc, ◌+◌, ◌*◌, ◌-◌, ◌^◌, ◌≤◌, ◌<◌}
 use native.Mathlib.Omega.{arith}
@@ -17,7 +17,7 @@ use Rattle.vault.specs.Event.{Entry, Event}
 use Rattle.vault.specs.Model.{Model, writes, table_number, put, entered, opened_model, fed_all, model_of}
 use Rattle.vault.specs.promises.Histories.{ModelBegins, ModelKept, Puts, ModelPuts}
 use Rattle.vault.proofs.Rounds.{Taken}
-use Rattle.vault.proofs.Histories.{taken_is, fed_more, records_long_lem}
+use Rattle.vault.proofs.Histories.{taken_is, strike_is, fed_more, records_long_lem}
 
 -- A LIST WITH OTHER WORDS, b, in place of those from number a up to c
 module _ (r b : List ℕ) (a c : ℕ) (end : a + length b ≡ c) (inside : c ≤ length r) where
@@ -70,13 +70,16 @@ module _ (m : Model) (i : ℕ) (b : List ℕ) where
 pub model_kept : ModelKept
 model_kept o es e d = let m = model_of o es in fed_more (opened_model o) es e ∙ if_refused (entered m e) m d
 
-puts_entered : (m : Model) (e : Event) (i : ℕ) (b : List ℕ) → Puts e i b → entered m e ≡ put m i b
-puts_entered m e i b p = ⊎_elim (λ q. ap (entered m) q) (λ q. ap (entered m) q) p
+puts_entered : (m : Model) (e : Event) (i : ℕ) (b : List ℕ) → Puts m.s e i b → entered m e ≡ put m i b
+puts_entered m e i b (inl q) = ap (entered m) q
+puts_entered m e i b (inr (inl q)) = ap (entered m) q
+puts_entered m e i b (inr (inr q)) = ap (entered m) q.0 ∙ ap (put m i) (sym q.1)
 
-puts_taken : (m : Model) (e : Event) (i : ℕ) (b : List ℕ) → Puts e i b → table_number m e ≡ 0 → Taken m.k m.s (record { number = i; block = b })
-puts_taken m e i b p z =
-    ⊎_elim (λ q. taken_is m i b _ (ap (table_number m) (sym q) ∙ z))
-    (λ q. taken_is m i b _ (ap (table_number m) (sym q) ∙ z)) p
+puts_taken : (m : Model) (e : Event) (i : ℕ) (b : List ℕ) → Puts m.s e i b → table_number m e ≡ 0 → Taken m.k m.s (record { number = i; block = b })
+puts_taken m e i b (inl q) z = taken_is m i b _ (ap (table_number m) (sym q) ∙ z)
+puts_taken m e i b (inr (inl q)) z = taken_is m i b _ (ap (table_number m) (sym q) ∙ z)
+puts_taken m e i b (inr (inr q)) z =
+    subst (λ (c : List ℕ). Taken m.k m.s (record { number = i; block = c })) (sym q.1) (strike_is m i (ap (table_number m) (sym q.0) ∙ z))
 
 pub model_puts : ModelPuts
 model_puts o es e i b O p z =

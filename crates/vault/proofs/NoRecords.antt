@@ -1,4 +1,4 @@
--- BLOCKS THAT ARE NO RECORDS (number 10), by their words: what the promises of the crate judging say of a list of blocks, said of one word of one of them.
+-- BLOCKS THAT ARE NO RECORDS (number 10), by their words: what the promises of the crate judging say of a list of blocks, said of the words of one of them.
 -- Assumes nothing.
 use mathlib.Core.Path.{◌≡◌, refl, sym, ap, ◌∙◌}
 use mathlib.Core.Bool.{Bool, true, false, ◌&&◌}
@@ -9,21 +9,20 @@ use native.Mathlib.Decide.{dec_lt}
 use native.Mathlib.Omega.{arith}
 use borrow.Author.Tests.{eqb-true, eqb-false, ne_eqb, ltb-false, le-ltb}
 use lib.Dec.{eqb, ltb}
-use lib.ListN.{length, get_or, take, drop}
-use lib.Seq.{get_or-take, get_or-drop}
+use lib.ListN.{length, get_or, drop, length-drop}
+use lib.Seq.{length-take-le, get_or-take, get_or-drop}
 use Rattle.std.specs.Prelude.{◌↔◌}
 use Rattle.std.proofs.lemmas.Bool.{false≢true}
-use Rattle.std.proofs.lemmas.List.{length-take, get_or_past}
-use Rattle.field.specs.Words.{Words}
 use Rattle.field.proofs.Booleans.{first_false, second_false}
 use Rattle.code.specs.declared.Stripe.{Stripe}
 use Rattle.layout.specs.declared.Header.{Header}
 use Rattle.layout.specs.Header.{stripe_of}
-use Rattle.layout.specs.Records.{are_data}
+use Rattle.layout.specs.Records.{record_fits}
+use Rattle.layout.proofs.RecordWords.{record_end}
 use Rattle.judging.specs.Decoding.{block_number, block_data, number_fits, is_record, are_records}
 use Rattle.vault.specs.promises.Decoding.{Codes, HoldRecords}
-use Rattle.vault.specs.promises.Table.{NoRecord}
-use Rattle.vault.proofs.Table.{data_fails}
+use Rattle.vault.specs.promises.Table.{HoldsRecord, block_word, NoRecord}
+use Rattle.vault.proofs.Table.{Says, fails_unless, record_says}
 
 -- one of them is not
 no_record_at : (st : Stripe) (bs : List ℕ) (n : ℕ) → are_records st bs n ≡ false → (j : ℕ) × (j < n) × (is_record st bs j ≡ false)
@@ -45,7 +44,7 @@ one_no_record st bs (suc n) j b e = go (dec_lt j n) (λ c. one_no_record st bs n
     go (yes c) below = second_false (is_record st bs n) (below c)
     go (no d) below = let s : j ≡ n = omega arith in first_false (are_records st bs n) (ap (is_record st bs) (sym s) ∙ e)
 
--- a block's number, and its data: words of the field
+-- a block's number, and its data
 number_no : (h : Header) (l j x : ℕ) → j < 2 ^ l → (number_fits (stripe_of h l) j x ≡ false) ↔ ((2 ^ h.k ≤ x) ⊎ ((l ≡ h.k) × (x ≡ j → ⊥)))
 number_no h l j x b = go (eqb l h.k) refl
   where
@@ -56,36 +55,24 @@ number_no h l j x b = go (eqb l h.k) refl
         (λ e. inr (full, eqb-false x j e), λ t. ⊎_elim (λ o. ne_eqb x j (λ p. omega arith)) (λ d. ne_eqb x j d.1) t)
     go false c = (λ e. inl (ltb-false x (2 ^ h.k) e), λ t. ⊎_elim (λ o. le-ltb x (2 ^ h.k) o) (λ d. absurd (eqb-false l h.k c d.0)) t)
 
-module _ (s : ℕ) (bs : List ℕ) (j : ℕ) (u : Words 65537 bs) where
-  abbrev its_words : List ℕ
-  its_words = take s (drop (suc (j * suc s)) bs)
-
-  word_is_at : (q : ℕ) → q < s → get_or its_words q 0 ≡ get_or bs (j * suc s + suc q) 0
-  word_is_at q b =
-      get_or-take s (drop (suc (j * suc s)) bs) q 0 b ∙ get_or-drop (suc (j * suc s)) bs q 0
-      ∙ ap (λ (i : ℕ). get_or bs i 0) {x = suc (j * suc s) + q} {y = j * suc s + suc q} (omega arith)
-
-  over_at : (q : ℕ) → 65535 < get_or its_words q 0 → Dec (q < s) → (q : ℕ) × (q < s) × (get_or bs (j * suc s + suc q) 0 ≡ 65536)
-  over_at q o (yes b) = (q, b, omega (arith, word_is_at q b, u.word (j * suc s + suc q)))
-  over_at q o (no d) =
-      let few : length its_words ≤ q = omega (arith, length-take s (drop (suc (j * suc s)) bs)) in
-      absurd (omega (arith, get_or_past its_words q 0 few))
-
-  data_no : (are_data (block_data (suc s) bs j) ≡ false) ↔ ((q : ℕ) × (q < s) × (get_or bs (j * suc s + suc q) 0 ≡ 65536))
-  data_no = (
-    λ e. let w = (data_fails its_words).0 e in over_at w.place w.over (dec_lt w.place s),
-    λ t. (data_fails its_words).1 (record { place = t.0; over = omega (arith, word_is_at t.0 t.1, t.2) }),
-  )
+data_says : (h : Header) (l j : ℕ) (bs : List ℕ) → length bs ≡ 2 ^ l * suc h.s → j < 2 ^ l
+    → Says (record_fits (block_data (suc h.s) bs j)) (HoldsRecord h.s (block_word h bs j))
+data_says h l j bs long b =
+    let from = suc (j * suc h.s) in
+    record_says (block_data (suc h.s) bs j) (block_word h bs j)
+    (length-take-le h.s (drop from bs) (omega (arith, length-drop from bs, long, record_end (2 ^ l) (suc h.s) j b)))
+    (λ q t. get_or-take h.s (drop from bs) q 0 t ∙ get_or-drop from bs q 0
+    ∙ ap (λ (i : ℕ). get_or bs i 0) {x = from + q} {y = j * suc h.s + suc q} (omega arith))
 
 -- block j of blocks that code
 either_false : (a : Bool) {b : Bool} → (a && b) ≡ false → (a ≡ false) ⊎ (b ≡ false)
 either_false true e = inr e
 either_false false e = inl refl
 
-record_no : (h : Header) (l j : ℕ) (bs : List ℕ) → Words 65537 bs → j < 2 ^ l → (is_record (stripe_of h l) bs j ≡ false) ↔ NoRecord h l bs j
-record_no h l j bs u b =
+record_no : (h : Header) (l j : ℕ) (bs : List ℕ) → length bs ≡ 2 ^ l * suc h.s → j < 2 ^ l → (is_record (stripe_of h l) bs j ≡ false) ↔ NoRecord h l bs j
+record_no h l j bs long b =
     let number = number_no h l j (block_number (suc h.s) bs j) b in
-    let words = data_no h.s bs j u in (
+    let words = fails_unless (data_says h l j bs long b) in (
       λ e. ⊎_elim (λ n. ⊎_elim (λ x. inl x) (λ y. inr (inl y)) (number.0 n)) (λ d. inr (inr (words.0 d)))
           (either_false (number_fits (stripe_of h l) j (block_number (suc h.s) bs j)) e),
       λ t. ⊎_elim (λ x. first_false _ (number.1 (inl x)))
@@ -93,12 +80,12 @@ record_no h l j bs u b =
     )
 
 -- of the blocks of a stripe
-pub words_no : (h : Header) (l : ℕ) (bs : List ℕ) → Words 65537 bs → HoldRecords h l bs false ↔ ((j : ℕ) × (j < 2 ^ l) × NoRecord h l bs j)
-words_no h l bs u = (
-  λ f. let t = no_record_at (stripe_of h l) bs (2 ^ l) f in (t.0, t.1, (record_no h l t.0 bs u t.1).0 t.2),
-  λ t. one_no_record (stripe_of h l) bs (2 ^ l) t.0 t.1 ((record_no h l t.0 bs u t.1).1 t.2),
+pub blocks_no : (h : Header) (l : ℕ) (bs : List ℕ) → length bs ≡ 2 ^ l * suc h.s → HoldRecords h l bs false ↔ ((j : ℕ) × (j < 2 ^ l) × NoRecord h l bs j)
+blocks_no h l bs long = (
+  λ f. let t = no_record_at (stripe_of h l) bs (2 ^ l) f in (t.0, t.1, (record_no h l t.0 bs long t.1).0 t.2),
+  λ t. one_no_record (stripe_of h l) bs (2 ^ l) t.0 t.1 ((record_no h l t.0 bs long t.1).1 t.2),
 )
 
 pub records_no : (h : Header) (m e : List ℕ) (l : ℕ) (bs : List ℕ) → Codes h m e l bs
     → HoldRecords h l bs false ↔ ((j : ℕ) × (j < 2 ^ l) × NoRecord h l bs j)
-records_no h m e l bs C = words_no h l bs C.blocks.words
+records_no h m e l bs C = blocks_no h l bs C.blocks.long

@@ -6,14 +6,16 @@ use Prim.Native.Nat.{ℕ, suc, ◌*◌, ◌-◌, ◌^◌, ◌<◌}
 use lib.ListN.{length, get_or, take, replicate}
 use Rattle.layout.specs.Header.{header_of}
 use Rattle.layout.specs.Records.{record_in}
-use Rattle.vault.specs.Event.{write, earlier}
+use Rattle.vault.specs.Event.{write, earlier, strike}
 use Rattle.vault.specs.Model.{writes, table_number, model_of}
 use Rattle.vault.specs.History.{number_on, vault_after}
 use Rattle.vault.specs.Round.{put_all, round_of}
 use Rattle.vault.specs.promises.Openings.{HeaderAsOpened, RecordsAsOpened, BeforeAsOpened, LastAsOpened, StartAsOpened, RefusedAsOpened, KeptAsOpened}
+use Rattle.vault.specs.promises.Openings.{StruckAsOpened}
 use Rattle.vault.proofs.Histories.{header_is, sizes_stay, records_long_lem, before_is}
 use Rattle.vault.proofs.LastWrites.{last_is_record, else_at_start}
 use Rattle.vault.proofs.Blanks.{blank_refused, blank_kept}
+use Rattle.vault.proofs.Strikes.{strike_taken}
 
 pub header_as_opened : HeaderAsOpened
 header_as_opened o es O =
@@ -57,3 +59,9 @@ kept_as_opened o es i O b =
     (number_on (vault_after o es) next ≡ 0) × (table_number (model_of o es) next ≡ 0) ×
     (record_in s (model_of o (es ++ (next ∷ []))).records i ≡ replicate s 0))
     same.1 (blank_kept o es i O (subst (λ (k : ℕ). i < 2 ^ k) (sym same.0) b))
+
+pub struck_as_opened : StruckAsOpened
+struck_as_opened o es i O b =
+    let same = sizes_stay o es in
+    let t = strike_taken o es i O (subst (λ (k : ℕ). i < 2 ^ k) (sym same.0) b) in
+    (t.0, subst (λ (s : ℕ). record_in s (model_of o (es ++ (strike i ∷ []))).records i ≡ replicate s 65536) same.1 t.2)

@@ -7,8 +7,8 @@ use Rattle.vault.proofs.StripeCall.{gives_seven, gives_eight, gives_nine, gives_
 use Rattle.vault.proofs.Demand3.{image_long, recovers_all, no_other, levels_decode, full_decodes_lem}
 use Rattle.vault.proofs.Erasures.{word_is, well_formed_iff, marked_iff, survives_iff, survivors_rise, same_words_iff, same_outside}
 use Rattle.vault.proofs.Table.{refusal_is, fits_iff, needed_iff}
-use Rattle.vault.proofs.Numbers.{open_numbers, write_numbers, earlier_numbers, table_numbers, earlier_table, same_table, read_numbers, image_numbers}
-use Rattle.vault.proofs.Numbers.{powers_numbers}
+use Rattle.vault.proofs.Numbers.{open_numbers, write_numbers, earlier_numbers, strike_numbers, table_numbers, earlier_table, strike_table, same_table}
+use Rattle.vault.proofs.Numbers.{read_numbers, image_numbers, powers_numbers}
 use Rattle.vault.proofs.ImageNumbers.{recover_numbers, explain_numbers, explain_asked_iff}
 use Rattle.vault.proofs.DecodeNumbers.{stripe_numbers, fails_iff, decode_numbers, asked_iff}
 use Rattle.vault.proofs.Leaving.{open_refused, open_taken, read_refused, read_taken, reads_model, image_refused, image_taken, images_history}
@@ -18,8 +18,9 @@ use Rattle.vault.proofs.LeavingLayers.{recover_refused, recover_failed, recover_
 use Rattle.vault.proofs.CodeGrowth.{code_begins, code_mixes}
 use Rattle.vault.proofs.Coding.{codes_iff, blocks_are, full_codes}
 use Rattle.vault.proofs.AnswerLaws.{number_read, opening_read, write_read, part_read, verdict_read, place_read, header_has, buffers_have}
-use Rattle.vault.proofs.AnswerLaws.{open_answers, write_answers, back_answers}
+use Rattle.vault.proofs.AnswerLaws.{open_answers, write_answers, strike_answers, back_answers}
 use Rattle.vault.proofs.Writing.{write_puts, write_counts, write_keeps, write_reduces, write_ends}
+use Rattle.vault.proofs.RebuiltLevels.{write_rebuilds}
 use Rattle.vault.proofs.LastBlocks.{recover_holds, explain_holds}
 use Rattle.vault.proofs.Recovering.{answers_say, stops_iff, taken_iff, explain_stops_iff, explain_taken_iff}
 use Rattle.vault.proofs.SomeLast.{each_has_last}
@@ -28,6 +29,7 @@ use Rattle.vault.proofs.ExplainedRounds.{explains_why}
 use Rattle.vault.proofs.LastWrites.{last_is_record, else_at_start}
 use Rattle.vault.proofs.Origins.{origins_true, one_origin}
 use Rattle.vault.proofs.Blanks.{gives_eleven, else_as_earlier, five_not_blank, refused_stays, opens_iff, zeros_open, blank_refused, blank_kept}
+use Rattle.vault.proofs.Strikes.{strike_taken, still_five, standing_begins, standing_grows, as_last_written, last_or_none, reads_struck, strike_explained}
 use Rattle.vault.proofs.Boundary.{part_is, part_at, shelf_is, none_named, none_explained, none_named_of_two}
 use Rattle.vault.proofs.TwoAgreeing.{differ_iff}
 use Rattle.vault.proofs.TwoExchanged.{choice_is, exchanged_shelf, exchanged_stripe, exchanged, twice_is_once}
@@ -37,9 +39,11 @@ use Rattle.vault.proofs.TwoNumbers.{recover_two_numbers, two_asked_iff, shelf_of
 use Rattle.vault.proofs.TwoRecovering.{two_stops_iff, two_taken_iff, seven_of_two, two_has_last, two_holds}
 use Rattle.vault.proofs.TwoShelves.{shelf_bytes, shelf_decodes, shelf_refused, place_is, place_at}
 use Rattle.vault.proofs.Openings.{header_as_opened, records_as_opened, before_as_opened, last_as_opened, start_as_opened, refused_as_opened, kept_as_opened}
+use Rattle.vault.proofs.Openings.{struck_as_opened}
 use Rattle.vault.proofs.Worked.{worked, worked_blanks, worked_bytes, worked_stripes, worked_strays, worked_faults, worked_histories}
 use Rattle.vault.proofs.Worked.{worked_halves, worked_numbers, worked_answers, worked_back, worked_back_faults, worked_back_histories}
 use Rattle.vault.proofs.Worked.{worked_two, worked_two_faults, worked_shelves}
+use Rattle.vault.proofs.Worked.{worked_strikes, worked_reads, worked_struck, worked_strike_histories, worked_struck_blocks, worked_eight}
 use Rattle.vault.proofs.TakingBackHistories.{back_after, model_takes, back_undoes, back_again, back_to_start}
 use Rattle.vault.proofs.BackLeaves.{back_scratch, back_puts, back_log}
 use Rattle.vault.proofs.BackNumbers.{back_numbers}
@@ -117,8 +121,10 @@ proved = record {
     open_numbers = open_numbers;
     write_numbers = write_numbers;
     earlier_numbers = earlier_numbers;
+    strike_numbers = strike_numbers;
     table_numbers = table_numbers;
     earlier_table = earlier_table;
+    strike_table = strike_table;
     same_table = same_table;
     back_table = back_table;
     same_counted = same_counted;
@@ -184,6 +190,7 @@ proved = record {
     write_counts = write_counts;
     write_keeps = write_keeps;
     write_reduces = write_reduces;
+    write_rebuilds = write_rebuilds;
     write_ends = write_ends;
   };
   answers = record {
@@ -197,6 +204,7 @@ proved = record {
     buffers_have = buffers_have;
     open_answers = open_answers;
     write_answers = write_answers;
+    strike_answers = strike_answers;
     back_answers = back_answers;
   };
   explaining = record {
@@ -218,6 +226,16 @@ proved = record {
     zeros_open = zeros_open;
     blank_refused = blank_refused;
     blank_kept = blank_kept;
+  };
+  strikes = record {
+    strike_taken = strike_taken;
+    still_five = still_five;
+    standing_begins = standing_begins;
+    standing_grows = standing_grows;
+    as_last_written = as_last_written;
+    last_or_none = last_or_none;
+    reads_struck = reads_struck;
+    strike_explained = strike_explained;
   };
   boundary = record {
     part_is = part_is;
@@ -256,6 +274,7 @@ proved = record {
     start_as_opened = start_as_opened;
     refused_as_opened = refused_as_opened;
     kept_as_opened = kept_as_opened;
+    struck_as_opened = struck_as_opened;
   };
   worked = worked;
   worked_blanks = worked_blanks;
@@ -273,4 +292,10 @@ proved = record {
   worked_two = worked_two;
   worked_two_faults = worked_two_faults;
   worked_shelves = worked_shelves;
+  worked_strikes = worked_strikes;
+  worked_reads = worked_reads;
+  worked_struck = worked_struck;
+  worked_strike_histories = worked_strike_histories;
+  worked_struck_blocks = worked_struck_blocks;
+  worked_eight = worked_eight;
 }

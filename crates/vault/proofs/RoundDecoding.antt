@@ -19,7 +19,7 @@ use Rattle.field.proofs.Booleans.{both_true}
 use Rattle.decoder.specs.Decoding.{survivors}
 use Rattle.layout.specs.declared.Header.{Header}
 use Rattle.layout.specs.Header.{vault_root, width, full_size, is_full, is_filled, first_of, level_at, stripe_size, stripe_at, stripe_of}
-use Rattle.layout.specs.Records.{are_data}
+use Rattle.layout.specs.Records.{record_fits}
 use Rattle.store.specs.Buffers.{full_stripe, blocks_of}
 use Rattle.image.specs.Image.{image_of, word_at}
 use Rattle.image.specs.Erasures.{erasures_in}
@@ -29,7 +29,7 @@ use Rattle.vault.specs.Event.{Entry}
 use Rattle.vault.specs.Round.{Round, rows_of, round_header, level_entries, level_words, log_words}
 use Rattle.vault.specs.promises.Decoding.{marks, Half}
 use Rattle.vault.specs.promises.Losses.{Needed, KeepsHalf, SameStripe, SameWords}
-use Rattle.layout.proofs.RecordWords.{are_data_lem, field_words}
+use Rattle.layout.proofs.RecordWords.{records_words}
 use Rattle.store.proofs.StoredRecords.{length_full}
 use Rattle.vault.proofs.Levels.{level_filled, level_empty, level_place}
 use Rattle.layout.proofs.StripePlaces.{first_full}
@@ -44,8 +44,8 @@ module _ {k : ℕ} (h : Header) {xs : List Entry} (E : AllTaken k h.s xs) (l : �
     (fit : (j : ℕ) → j < length xs → number_fits (stripe_of h l) j (get_or xs j no_entry).number ≡ true) where
   is_record_lem : (j : ℕ) → j < length xs → is_record (stripe_of h l) (rows_of xs) j ≡ true
   is_record_lem j lt =
-      both_true {a = number_fits (stripe_of h l) j (block_number (width h) (rows_of xs) j)} {b = are_data (block_data (width h) (rows_of xs) j)}
-      (rw (number_at E j lt) (fit j lt)) (rw (data_at E j lt) (are_data_lem (get_or xs j no_entry).block (entry_at E j lt).words))
+      both_true {a = number_fits (stripe_of h l) j (block_number (width h) (rows_of xs) j)} {b = record_fits (block_data (width h) (rows_of xs) j)}
+      (rw (number_at E j lt) (fit j lt)) (rw (data_at E j lt) (entry_at E j lt).fits)
 
   pub are_records_lem : (n : ℕ) → n ≤ length xs → are_records (stripe_of h l) (rows_of xs) n ≡ true
   unfolding are_records
@@ -71,13 +71,13 @@ module _ {a : Round} (good : Good a) where
   start = numbered a.s a.base 0 (2 ^ a.k)
 
   pub start_taken : AllTaken a.k a.s start
-  start_taken = numbered_fit a.k a.s a.base good.base_long good.base_words 0 (2 ^ a.k) (omega arith)
+  start_taken = numbered_fit a.k a.s a.base good.base_long good.base_fits 0 (2 ^ a.k) (omega arith)
 
   pub length_start : length start ≡ 2 ^ a.k
   length_start = length_numbered a.s a.base 0 (2 ^ a.k)
 
   pub start_rows : blocks_of h a.base ≡ rows_of start
-  start_rows = blocks_rows 65537 a.s a.base (lit< tt) (field_words good.base_words) 0 (2 ^ a.k)
+  start_rows = blocks_rows 65537 a.s a.base (lit< tt) (records_words a.s a.base (2 ^ a.k) good.base_long good.base_fits) 0 (2 ^ a.k)
 
   -- the numbers of a level's entries are records', and those of the full stripe's are their places
   pub level_numbers : (l : ℕ) → l < a.k → (j : ℕ) → j < length (level_entries h a.since l)

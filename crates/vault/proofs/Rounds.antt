@@ -13,17 +13,17 @@ use lib.Seq.{length-take-le, get_or-append-add, length-sets}
 use lib.Pow.{pow_mono}
 use borrow.Author.Tests.{le-leb, lt-ltb}
 use Rattle.field.specs.Words.{Words}
-use Rattle.field.proofs.WordLists.{words_nil, words_cons, words_append, words_sets}
+use Rattle.field.proofs.WordLists.{words_nil, words_cons, words_append}
 use Rattle.code.specs.Rows.{Column}
 use Rattle.field.proofs.Booleans.{both_true}
 use Rattle.layout.specs.Header.{header_of, is_in, header_fits, raw_size, full_size, log_size, is_filled, first_of}
-use Rattle.layout.specs.Records.{replaced}
+use Rattle.layout.specs.Records.{record_fits, replaced, records_fit}
 use Rattle.store.specs.Buffers.{blocks_of}
 use Rattle.store.specs.StoreCalls.{buffers_fit}
 use Rattle.vault.specs.Event.{Entry}
 use Rattle.vault.specs.Round.{Round, put_all, before_each, rows_of, records_in, round_header, level_entries, represent}
 use Rattle.layout.proofs.Bounds.{fits}
-use Rattle.layout.proofs.RecordWords.{field_words}
+use Rattle.layout.proofs.RecordWords.{record_words, fit_replaced}
 use Rattle.layout.proofs.Refusals.{equal_three}
 use Rattle.store.proofs.StoredRecords.{length_blocks, words_blocks, length_full}
 use Rattle.vault.proofs.Levels.{filled_in, length_log}
@@ -47,21 +47,21 @@ fit_sizes k s c e =
     let f = fits (header_of k s c) e in
     record { k_low = f.k_low; k_high = f.k_high; s_low = f.s_low; s_high = f.s_high }
 
--- a write that was taken: a record's number, and s data words
+-- a write or a strike that was taken: a record's number, and s words that may be the data of a record
 pub record Taken (k s : ℕ) (x : Entry) : Type 0 where
   pub within : x.number < 2 ^ k
   pub long : length x.block ≡ s
-  pub words : Words 65536 x.block
+  pub fits : record_fits x.block ≡ true
 
 pub data AllTaken (k s : ℕ) : List Entry → Type 0 where
   none : AllTaken k s []
   more : {x : Entry} {xs : List Entry} → Taken k s x → AllTaken k s xs → AllTaken k s (x ∷ xs)
 
--- THE INVARIANT of rounds: n records of s data words, and since then fewer than n writes, each taken
+-- THE INVARIANT of rounds: n records of s words, each of which may be the data of one, and since then fewer than n writes, each taken
 pub record Good (a : Round) : Type 0 where
   pub sizes : Sizes a.k a.s
   pub base_long : length a.base ≡ 2 ^ a.k * a.s
-  pub base_words : Words 65536 a.base
+  pub base_fits : records_fit a.s a.base (2 ^ a.k) ≡ true
   pub taken : AllTaken a.k a.s a.since
   pub few : length a.since < 2 ^ a.k
 
@@ -95,7 +95,7 @@ pub words_rows : {k s : ℕ} {xs : List Entry} → k ≤ 10 → AllTaken k s xs 
 unfolding rows_of
 words_rows b none = words_nil 65537 (lit< tt)
 words_rows b (more {x = x} h t) =
-    words_cons 65537 (lit< tt) (omega (arith, h.within, pow_mono b)) (words_append 65537 (lit< tt) {a = x.block} (field_words h.words) (words_rows b t))
+    words_cons 65537 (lit< tt) (omega (arith, h.within, pow_mono b)) (words_append 65537 (lit< tt) {a = x.block} (record_words x.block h.fits) (words_rows b t))
 
 pub rows_column : {k s : ℕ} {xs : List Entry} (n : ℕ) → k ≤ 10 → AllTaken k s xs → length xs ≡ n → Column 65537 (n * suc s) (rows_of xs)
 rows_column {s} n b t e = record { long = length_rows t ∙ ap (λ (m : ℕ). m * suc s) e; words = words_rows b t }
@@ -112,11 +112,13 @@ length_put r e none = e
 length_put {k} {s} r e (more {x = x} h t) =
     length_put (replaced s r x.number x.block) (length-sets r (x.number * s) x.block ∙ e) t
 
-pub words_put : {k s : ℕ} {xs : List Entry} (r : List ℕ) → Words 65536 r → AllTaken k s xs → Words 65536 (put_all s r xs)
+pub fit_put : {k s : ℕ} {xs : List Entry} (r : List ℕ) → length r ≡ 2 ^ k * s → records_fit s r (2 ^ k) ≡ true → AllTaken k s xs
+    → records_fit s (put_all s r xs) (2 ^ k) ≡ true
 unfolding put_all
-words_put r u none = u
-words_put {s} r u (more {x = x} h t) =
-    words_put (replaced s r x.number x.block) (words_sets 65536 (lit< tt) x.block (x.number * s) u h.words) t
+fit_put r e f none = f
+fit_put {k} {s} r e f (more {x = x} h t) =
+    fit_put (replaced s r x.number x.block) (length-sets r (x.number * s) x.block ∙ e)
+    (fit_replaced s r (2 ^ k) x.number x.block e h.long h.within h.fits f) t
 
 -- what is remembered before each: one more write remembers the records that it finds
 pub before_append : (s : ℕ) (r : List ℕ) (xs : List Entry) (x : Entry) → before_each s r (xs ++ (x ∷ [])) ≡ put_all s r xs ∷ before_each s r xs

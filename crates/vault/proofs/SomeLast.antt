@@ -11,12 +11,12 @@ use borrow.Author.Tests.{eq-eqb}
 use Rattle.layout.specs.declared.Header.{Header}
 use Rattle.layout.specs.Header.{width, has_stripe}
 use Rattle.image.proofs.ImageRefusals.{whole}
-use Rattle.judging.specs.Decoding.{Decoded, decoded, block_number}
+use Rattle.judging.specs.Decoding.{Decoded, block_number}
 use Rattle.recovery.specs.Recovery.{Layer, records}
 use Rattle.recovery.specs.RecoveryCall.{recover_early, unnamed}
 use Rattle.vault.specs.promises.Losses.{Needed}
 use Rattle.vault.specs.promises.Recovering.{in_image, AllDecode, LastBlock, EachHasLast}
-use Rattle.vault.proofs.LastBlocks.{AreBlocks, decoded_blocks, blocks_of}
+use Rattle.vault.proofs.LastBlocks.{AreBlocks, decoded_blocks, blocks_of, is_decoded}
 use Rattle.vault.proofs.LastWrites.{Last, None}
 use Rattle.vault.proofs.Recovering.{call_answer, when_taken}
 use Rattle.vault.proofs.StripeCall.{needed_passes, passes_needed}
@@ -55,9 +55,6 @@ module _ (h : Header) (d : ℕ → Decoded) (i : ℕ) (are : AreBlocks h d) (all
   abbrev blocks : ℕ → List ℕ
   blocks l = blocks_of (d l)
 
-  is_decoded : (l : ℕ) → Needed h l → d l ≡ decoded (blocks l)
-  is_decoded l n = let p = (all l n).1 in p ∙ ap decoded (sym (ap blocks_of p))
-
   abbrev numbered : (stripe j : ℕ) → ℕ
   numbered l = block_number (width h) (blocks l)
 
@@ -83,7 +80,7 @@ module _ (h : Header) (d : ℕ → Decoded) (i : ℕ) (are : AreBlocks h d) (all
   found_full : Found h.k
   found_full =
       let n : Needed h h.k = inl (eq-eqb h.k h.k refl) in
-      let K = are h.k (blocks h.k) (le_refl h.k) (is_decoded h.k n) in
+      let K = are h.k (blocks h.k) (le_refl h.k) (is_decoded h d all h.k n) in
       (n, ⊎_elim (λ z. z) (λ none. absurd (none i b (K.place refl i b))) (search_of h.k))
 
   last_of : (l : ℕ) × (j : ℕ) × (bs : List ℕ) × LastBlock h d i l bs j
@@ -98,7 +95,7 @@ module _ (h : Header) (d : ℕ → Decoded) (i : ℕ) (are : AreBlocks h d) (all
         blocks l,
         record {
           needed = n;
-          decodes = is_decoded l n;
+          decodes = is_decoded h d all l n;
           among = a.among;
           number = a.to;
           last = a.last;

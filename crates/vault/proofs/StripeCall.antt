@@ -20,7 +20,7 @@ use Rattle.judging.specs.Decoding.{Decoded, failed, decoded, decoded_number, dec
 use Rattle.judging.specs.Promises as Rows
 use Rattle.judging.proofs.Proved as Decoding
 use Rattle.judging.proofs.RowDecoding.{Outcome, gives, nine, ten, outcome}
-use Rattle.judging.proofs.StripeNumbers.{stripe_fits}
+use Rattle.judging.proofs.StripeNumbers.{failed_is, stripe_fits}
 use Rattle.stripe_decoding.specs.Decoding.{decode_stripe}
 use Rattle.stripe_decoding.specs.StripeCall.{decode_early, decode_number, decode_leaves}
 use Rattle.vault.specs.promises.Decoding.{marks, words_in, Readable, Asked, GivesSeven, GivesEight}
@@ -28,15 +28,12 @@ use Rattle.vault.specs.promises.Decoding.{GivesNine, GivesTen, GivesZero, Leaves
 use Rattle.vault.specs.promises.Losses.{Needed}
 use Rattle.field.proofs.Booleans.{both_true, first_true, second_true}
 use Rattle.layout.proofs.Refusals.{passes, test_holds, none_fails, equal_three, if_taken_lem}
+use Rattle.layout.proofs.StripePlaces.{stripe_within}
 use Rattle.vault.proofs.StripeDecoding.{readable_rows, decodes_iff, nine_iff, ten_iff}
 
--- the number of what decoding comes to; one other than 0 is that of a failure
+-- the number of what decoding comes to
 pub failed_number : {d : Decoded} {n : ℕ} → d ≡ failed n → decoded_number d ≡ n
 failed_number p = ap decoded_number p
-
-pub number_fails : {d : Decoded} (n : ℕ) → 0 < n → decoded_number d ≡ n → d ≡ failed n
-number_fails {d = failed x} n z q = ap failed q
-number_fails {d = decoded bs} n z q = absurd (omega arith)
 
 -- a readable stripe with number 0 has blocks, and they are records
 zero_only : {st : Stripe} {ms : List Bool} {r : List ℕ} {d : Decoded} → Outcome st ms r d → decoded_number d ≡ 0
@@ -72,7 +69,7 @@ module _ (h : Header) (m e : List ℕ) (l : ℕ) (out scratch : List ℕ) (asked
       let t₁ = (passes (header_fits h) 1 _ asked (omega arith)).1 in
       let t₂ = (passes _ 2 _ t₁ (omega arith)).1 in
       let t₃ = (passes (erasures_fit h e) 3 _ t₂ (omega arith)).1 in
-      needed_within h l (passes_needed h l (passes (has_stripe h l) 6 done t₃ (omega arith)).0)
+      stripe_within h l (passes (has_stripe h l) 6 done t₃ (omega arith)).0
 
   abbrev found : Decoded
   found = decode_stripe h m (erasures_in e) l
@@ -84,7 +81,7 @@ module _ (h : Header) (m e : List ℕ) (l : ℕ) (out scratch : List ℕ) (asked
   words_of = if_taken_lem (decoded_words found (out_size h)) out asked
 
   fails : (n : ℕ) → 0 < n → decode_number h m e l out scratch ≡ n → found ≡ failed n
-  fails n z q = number_fails n z (sym number_of ∙ q)
+  fails n z q = failed_is found (sym q ∙ number_of) (λ e. omega arith)
 
   -- with a number other than 7 and 8 the stripe is readable
   is_read : (n : ℕ) → (n ≡ 7 → ⊥) → (n ≡ 8 → ⊥) → decode_number h m e l out scratch ≡ n → Readable h m e l

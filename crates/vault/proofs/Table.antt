@@ -4,22 +4,23 @@ use mathlib.Core.Path.{◌≡◌, refl, sym, ap, ◌∙◌, subst}
 use mathlib.Core.Bool.{Bool, true, false, ◌&&◌, not}
 use mathlib.Core.Logic.{◌⊎◌, inl, inr, ⊎_elim}
 use mathlib.Core.List.{List, [], ◌∷◌}
-use Prim.Native.Nat.{ℕ, suc, ◌*◌, ◌-◌, ◌/◌, ◌%◌, ◌^◌, ◌≤◌, ◌<◌}
+use Prim.Native.Nat.{ℕ, zero, suc, ◌*◌, ◌-◌, ◌/◌, ◌%◌, ◌^◌, ◌≤◌, ◌<◌}
 use native.Mathlib.Nat.{pow-succ'}
 use native.Mathlib.Omega.{arith}
 use lib.Dec.{eqb, ltb, leb, lit<}
+use lib.ListN.{length, get_or}
 use borrow.Author.Tests.{eqb-true, eq-eqb, ltb-true, ltb-false, lt-ltb, le-ltb, leb-true, leb-false, le-leb}
 use Rattle.std.specs.Prelude.{◌↔◌}
-use Rattle.std.proofs.lemmas.Bool.{false≢true}
+use Rattle.std.proofs.lemmas.Bool.{false≢true, or_left, or_right, or_cases}
 use Rattle.field.specs.Words.{Words, every}
 use Rattle.field.proofs.Booleans.{if_else, either, is_false, both_true, first_true, second_true, first_false, second_false}
 use Rattle.field.proofs.EveryWord.{every_words, words_every}
 use Rattle.layout.specs.declared.Header.{Header}
 use Rattle.layout.specs.Header.{record_count, is_in, header_fits, full_size, log_size, has_stripe}
-use Rattle.layout.specs.Records.{is_data, are_data, is_zero, is_blank}
+use Rattle.layout.specs.Records.{is_data, are_data, is_struck_word, is_struck, record_fits, is_zero, is_blank, record_in}
 use Rattle.layout.specs.Refusals.{Tests, done, test, refusal}
-use Rattle.layout.proofs.RecordWords.{data_words}
-use Rattle.vault.specs.promises.Table.{OutOfRange, FitsIff, NoDataWord, IsStripe, NeededIff, AllZero}
+use Rattle.layout.proofs.RecordWords.{data_words, length_record, word_of_record}
+use Rattle.vault.specs.promises.Table.{OutOfRange, FitsIff, NoDataWord, IsStruck, HoldsRecord, record_word, StruckRecord, IsStripe, NeededIff, AllZero}
 use Rattle.vault.specs.promises.Table.{Rows, none, row, EachAfter, NoneAfter, EachNumber, Fresh, Match, RefusalIs}
 use Rattle.vault.proofs.StripeCall.{needed_passes, passes_needed}
 
@@ -123,6 +124,9 @@ pub not_false : (b : Bool) → not b ≡ false → b ≡ true
 not_false true e = refl
 not_false false e = absurd (false≢true (sym e))
 
+pub fails_if : {b : Bool} {A : Type 0} → Says b A → (not b ≡ false) ↔ A
+fails_if {b} s = (λ e. s.0 (not_false b e), λ a. ap not (s.1 a))
+
 pub both_say : {a b : Bool} {A B : Type 0} → Says a A → Says b B → Says (a && b) (A × B)
 both_say {a} {b} s t = (λ e. (s.0 (first_true a b e), t.0 (second_true a b e)), λ p. both_true (s.1 p.0) (t.1 p.1))
 
@@ -184,6 +188,45 @@ over_65535 (x ∷ l) e = go (is_data x) refl e (over_65535 l)
 pub data_fails : (l : List ℕ) → (are_data l ≡ false) ↔ NoDataWord l
 data_fails l = (over_65535 l, λ w. is_false (are_data l) (λ t. let b = (data_words l t).word w.place in omega (arith, w.over)))
 
+-- THE DATA OF A RECORD: b has s words, those that `word` says
+each_passes : (f : ℕ → Bool) (b : List ℕ) → every f b ≡ true → (q : ℕ) → q < length b → f (get_or b q 0) ≡ true
+unfolding every
+each_passes f [] e q h = absurd (omega arith)
+each_passes f (x ∷ b) e zero h = first_true (f x) (every f b) e
+each_passes f (x ∷ b) e (suc q) h = each_passes f b (second_true (f x) (every f b) e) q (omega arith)
+
+passes_each : (f : ℕ → Bool) (b : List ℕ) → ((q : ℕ) → q < length b → f (get_or b q 0) ≡ true) → every f b ≡ true
+unfolding every
+passes_each f [] e = refl
+passes_each f (x ∷ b) e = both_true (e 0 (omega arith)) (passes_each f b (λ q h. e (suc q) (omega arith)))
+
+module _ (b : List ℕ) {s : ℕ} (word : ℕ → ℕ) (long : length b ≡ s) (at : (q : ℕ) → q < s → get_or b q 0 ≡ word q) where
+  every_says : (f : ℕ → Bool) {P : ℕ → Type 0} → ((x : ℕ) → Says (f x) (P x)) → Says (every f b) ((q : ℕ) → q < s → P (word q))
+  every_says f say = (
+    λ e q h. (say (word q)).0 (ap f (sym (at q h)) ∙ each_passes f b e q (omega (arith, long))),
+    λ d. passes_each f b (λ q h. let t : q < s = omega (arith, long) in ap f (at q t) ∙ (say (word q)).1 (d q t)),
+  )
+
+  data_says : Says (are_data b) ((q : ℕ) → q < s → word q ≤ 65535)
+  data_says = every_says is_data (λ x. (leb-true x 65535, le-leb x 65535))
+
+  pub struck_says : Says (is_struck b) (IsStruck s word)
+  struck_says = every_says is_struck_word (λ x. (eqb-true x 65536, eq-eqb x 65536))
+
+  pub record_says : Says (record_fits b) (HoldsRecord s word)
+  record_says = (
+    λ e. ⊎_elim (λ t. inl (data_says.0 t)) (λ t. inr (struck_says.0 t)) (or_cases (are_data b) (is_struck b) e),
+    λ r. ⊎_elim (λ d. or_left (are_data b) (is_struck b) (data_says.1 d)) (λ d. or_right (are_data b) (is_struck b) (struck_says.1 d)) r,
+  )
+
+-- of one record of a raw buffer
+module _ (h : Header) (r : List ℕ) (i : ℕ) (long : length r ≡ 2 ^ h.k * h.s) (within : i < 2 ^ h.k) where
+  pub raw_holds : Says (record_fits (record_in h.s r i)) (HoldsRecord h.s (record_word h r i))
+  raw_holds = record_says (record_in h.s r i) (record_word h r i) (length_record (2 ^ h.k) h.s r i long within) (word_of_record h.s r i)
+
+  pub raw_struck : Says (is_struck (record_in h.s r i)) (StruckRecord h r i)
+  raw_struck = struck_says (record_in h.s r i) (record_word h r i) (length_record (2 ^ h.k) h.s r i long within) (word_of_record h.s r i)
+
 -- 6, no stripe
 pub needed_iff : NeededIff
 needed_iff h l = (
@@ -202,4 +245,4 @@ blank_says b = (
 )
 
 pub blank_fails : (b : List ℕ) → (not (is_blank b) ≡ false) ↔ AllZero b
-blank_fails b = (λ e. (blank_says b).0 (not_false (is_blank b) e), λ z. ap not ((blank_says b).1 z))
+blank_fails b = fails_if (blank_says b)

@@ -2,7 +2,7 @@
 -- so that each is shown of rounds. From it the promises on histories of the rooms Histories and TakingBack. Assumes nothing.
 use mathlib.Core.Path.{◌≡◌, refl, sym, ap, ap₂, ◌∙◌, subst}
 use mathlib.Core.Bool.{Bool}
-use mathlib.Core.Logic.{⊎_elim}
+use mathlib.Core.Logic.{inl, inr}
 use mathlib.Core.List.{List, [], ◌∷◌, ◌++◌, append_assoc, append-nil}
 use Prim.Native.Nat.{ℕ, zero, suc, ◌+◌, ◌*◌, ◌-◌, ◌^◌, ◌≤◌, ◌<◌}
 use native.Mathlib.Omega.{arith}
@@ -19,14 +19,15 @@ use Rattle.taking_back.specs.TakeBackCall.{take_back_scratch}
 use Rattle.vault.specs.Event.{Entry, Opening, Event, take_back}
 use Rattle.vault.specs.Model.{Model, writes, table_number, cancelled, opened_model, model_of}
 use Rattle.vault.specs.History.{Vault, vault, number_on, step, Opens, opened_vault, vault_after, header_after}
-use Rattle.vault.specs.Round.{Round, put_all, model_in, start_of, cut, advanced, turn_round, round_after, opened_round, round_of}
+use Rattle.vault.specs.Round.{Round, put_all, model_in, start_of, grown, cut, advanced, turn_round, round_after, opened_round, round_of}
 use Rattle.vault.specs.Round.{round_header, represent}
 use Rattle.vault.specs.promises.Histories.{Puts, ModelTakes}
 use Rattle.vault.specs.promises.Table.{BackLength, none, row, EachNumber}
 use Rattle.vault.specs.promises.TakingBack.{BackAfter, BackUndoes, AllPut, BackAgain, BackToStart}
 use Rattle.vault.proofs.Histories.{histories, model_is, header_is, numbers_are, round_writes, sizes_stay, after_more, fed_more}
 use Rattle.vault.proofs.Numbers.{back_table}
-use Rattle.vault.proofs.TakingBackRounds.{cut_back, some_write, back_early}
+use Rattle.vault.proofs.Judged.{some_write}
+use Rattle.vault.proofs.TakingBackRounds.{cut_back, back_early}
 
 -- THE NUMBER
 pub back_after : BackAfter
@@ -88,15 +89,21 @@ back_rounds (suc n) a scratch e b =
     (take-take (length (take (c - 1) a.since) - n) (c - 1) a.since (omega arith)
     ∙ ap (λ (i : ℕ). take i a.since) {x = length (take (c - 1) a.since) - n} {y = c - suc n} (omega arith))
 
--- A WRITE UNDONE: one that is taken and does not end the round, and then a taking-back
-module _ (a : Round) (next : Event) (i : ℕ) (b : List ℕ) (puts : Puts next i b) (zero : table_number (model_in a) next ≡ 0)
+-- a write or a strike is entered
+advances : (a : Round) (next : Event) (i : ℕ) (b : List ℕ) → Puts a.s next i b → advanced a next ≡ grown a (record { number = i; block = b })
+advances a next i b (inl q) = ap (advanced a) q
+advances a next i b (inr (inl q)) = ap (advanced a) q
+advances a next i b (inr (inr q)) = ap (advanced a) q.0 ∙ ap (λ (c : List ℕ). grown a (record { number = i; block = c })) (sym q.1)
+
+-- A WRITE UNDONE, or a strike: one that is taken and does not end the round, and then a taking-back
+module _ (a : Round) (next : Event) (i : ℕ) (b : List ℕ) (puts : Puts a.s next i b) (zero : table_number (model_in a) next ≡ 0)
     (few : suc (length a.since) < 2 ^ a.k) where
   abbrev x : Entry
   x = record { number = i; block = b }
 
   turn_put : turn_round a next ≡ longer a x
   turn_put =
-      if_taken_lem (advanced a next) a zero ∙ ⊎_elim (λ q. ap (advanced a) q) (λ q. ap (advanced a) q) puts
+      if_taken_lem (advanced a next) a zero ∙ advances a next i b puts
       ∙ if_else_false (eqb (suc (length a.since)) (2 ^ a.k)) (start_of a.k a.s (put_all a.s a.base (a.since ++ (x ∷ [])))) (longer a x)
       (ne_eqb (suc (length a.since)) (2 ^ a.k) (λ q. omega arith))
 
@@ -140,7 +147,7 @@ lent_sizes : (o : Opening) (es : List Event) (scratch : List ℕ) → Opens o �
 lent_sizes o es scratch O = let t = round_sizes o es O in (λ e. rw (t.0, t.1) e, λ e. rw (t.0, t.1) at e)
 
 -- A WRITE UNDONE in a history
-module _ (o : Opening) (es : List Event) (next : Event) (i : ℕ) (b scratch : List ℕ) (O : Opens o) (puts : Puts next i b)
+module _ (o : Opening) (es : List Event) (next : Event) (i : ℕ) (b scratch : List ℕ) (O : Opens o) (puts : Puts (model_of o es).s next i b)
     (taken : number_on (vault_after o es) next ≡ 0) (few : suc (writes (model_of o es)) < 2 ^ (model_of o es).k)
     (lent : Lent (round_of o es).k (round_of o es).s scratch) where
   abbrev a : Round
@@ -148,6 +155,9 @@ module _ (o : Opening) (es : List Event) (next : Event) (i : ℕ) (b scratch : L
 
   abbrev put : List Event
   put = es ++ (next ∷ [])
+
+  puts_round : Puts a.s next i b
+  puts_round = subst (λ (m : Model). Puts m.s next i b) (model_is o es O) puts
 
   zero_number : table_number (model_in a) next ≡ 0
   zero_number = subst (λ (m : Model). table_number m next ≡ 0) (model_is o es O) (sym (numbers_are o es next O) ∙ taken)
@@ -157,15 +167,15 @@ module _ (o : Opening) (es : List Event) (next : Event) (i : ℕ) (b scratch : L
 
   undone : turn_round (round_of o put) (take_back scratch) ≡ a
   undone =
-      ap (λ (y : Round). turn_round y (take_back scratch)) (round_more o es next) ∙ undone_round a next i b puts zero_number few_round scratch lent
+      ap (λ (y : Round). turn_round y (take_back scratch)) (round_more o es next) ∙ undone_round a next i b puts_round zero_number few_round scratch lent
 
   put_is : round_of o put ≡ longer a (record { number = i; block = b })
-  put_is = round_more o es next ∙ turn_put a next i b puts zero_number few_round
+  put_is = round_more o es next ∙ turn_put a next i b puts_round zero_number few_round
 
   back_zero : table_number (model_in (round_of o put)) (take_back scratch) ≡ 0
   back_zero =
       subst (λ (y : Round). table_number (model_in y) (take_back scratch) ≡ 0) (sym put_is)
-      (then_zero a next i b puts zero_number few_round scratch lent)
+      (then_zero a next i b puts_round zero_number few_round scratch lent)
 
   abbrev Undone : Type 0
   Undone =

@@ -30,6 +30,7 @@ use Rattle.taking_back.specs.TakeBackCall.{take_back_early, take_back_comes, tak
 use Rattle.vault.specs.Event.{Entry}
 use Rattle.vault.specs.Model.{Model, back_judged, cancelled}
 use Rattle.vault.specs.Round.{Round, put_all, before_each, rows_of, records_in, model_in, cut, round_header, level_entries, log_words, represent}
+use Rattle.vault.proofs.Judged.{some_write}
 use Rattle.vault.proofs.Laying.{no_entry, entry_at, number_at}
 use Rattle.vault.proofs.Rounds.{Taken, Good, taken_take, put_append, length_put, before_append, header_fits_lem, buffers_fit_lem, length_entries}
 use Rattle.vault.proofs.RoundDecoding.{level_taken}
@@ -81,7 +82,7 @@ module _ {a : Round} (good : Good a) (some : 0 < length a.since) where
   good_cut = record {
     sizes = good.sizes;
     base_long = good.base_long;
-    base_words = good.base_words;
+    base_fits = good.base_fits;
     taken = taken_take n good.taken;
     few = omega (arith, length_cut, good.few);
   }
@@ -155,15 +156,7 @@ module _ {a : Round} (good : Good a) (some : 0 < length a.since) where
     model_is = model_cut;
   }
 
--- THE TABLE: a taking-back that it takes has a write to take back
-pub some_write : (m : Model) (scratch : List ℕ) → back_judged m scratch ≡ 0 → 0 < length m.written
-some_write m scratch e = go (eqb (length scratch) _) (length m.written) e
-  where
-    go : (z : Bool) (c : ℕ) → ◌≡◌ {A = ℕ} (if_else z (if_else (eqb c 0) 12 0) 2) 0 → 0 < c
-    go true zero q = absurd (omega arith)
-    go true (suc c) q = omega arith
-    go false c q = absurd (omega arith)
-
+-- ITS NUMBER is the table's
 module _ {a : Round} (good : Good a) (scratch : List ℕ) where
   pub back_early : take_back_early (round_header a) (represent a) scratch ≡ back_judged (model_in a) scratch
   unfolding refusal

@@ -28,22 +28,26 @@ use Rattle.two_readings.specs.Agreeing.{all_below, same_word, position_agrees, a
 use Rattle.vault.specs.History.{after}
 use Rattle.vault.specs.Model.{words_fit, words_zero, fed_all}
 use Rattle.vault.specs.Worked.{Holds, examples, blank_examples}
-use Rattle.vault.specs.Round.{round_after, log_words, rows_of}
+use Rattle.vault.specs.Standing.{standing_from}
+use Rattle.vault.specs.Round.{put_all, before_each, round_after, log_words, rows_of}
 use Rattle.vault.specs.WorkedBytes.{byte_examples, stripe_examples, stray_examples, fault_examples, history_examples}
 use Rattle.vault.specs.WorkedBytes.{half_examples, number_examples, answer_examples}
 use Rattle.vault.specs.WorkedBack.{back_examples, back_faults, back_histories}
 use Rattle.vault.specs.WorkedTwo.{two_examples, two_faults, shelf_examples}
+use Rattle.vault.specs.WorkedStrikes.{strike_examples, read_examples, struck_examples, strike_histories, struck_blocks, eight_examples}
 
 all_worked :
     Holds examples × Holds blank_examples × Holds byte_examples × Holds stripe_examples × Holds stray_examples ×
     Holds fault_examples × Holds history_examples × Holds half_examples × Holds number_examples × Holds answer_examples ×
-    Holds back_examples × Holds back_faults × Holds back_histories × Holds two_examples × Holds two_faults × Holds shelf_examples
+    Holds back_examples × Holds back_faults × Holds back_histories × Holds two_examples × Holds two_faults × Holds shelf_examples ×
+    Holds strike_examples × Holds read_examples × Holds struck_examples × Holds strike_histories × Holds struck_blocks ×
+    Holds eight_examples
 unfolding plus minus times power_from power inverse lift slopes interpolate root_of Words.table sum_at difference_at mixed transform scaled reversed turned
     column columns_from row_of rows_from lifted coded coded_rows survivors_from point_at value_at bit_reversed decoded_column agrees consistent_column
     consistent_to decoded_rows every records_fit reduced blocks_from first_empty rebuilt_half little bytes_of number_of erasures_from erasures_rise touched
     flags_from mark_at surviving_at are_records laid levels_over powers_of
-    refusal after words_fit words_zero fed_all pairs_to left shortfall origins_laid round_after log_words rows_of
-    first_filled levels_before last_of find_from all_below same_word position_agrees agrees_if_needed
+    refusal after words_fit words_zero fed_all pairs_to left shortfall origins_laid put_all before_each round_after log_words rows_of
+    first_filled levels_before last_of find_from all_below same_word position_agrees agrees_if_needed standing_from
 all_worked = (
   (is, (is, (is, (is, (is, (is, (is, (is, (is, (is, (is, (is, (is, (is, (is, (is, (is, (is, (is, (is, tt)))))))))))))))))))),
   (is, (is, (is, (is, (is, tt))))),
@@ -61,6 +65,12 @@ all_worked = (
   (is, (is, (is, (is, (is, (is, (is, (is, (is, (is, (is, (is, (is, (is, (is, (is, (is, (is, (is, (is, (is, (is, (is, tt))))))))))))))))))))))),
   (is, (is, (is, (is, (is, (is, (is, (is, (is, tt))))))))),
   (is, (is, (is, (is, (is, (is, (is, (is, (is, (is, (is, (is, (is, (is, (is, (is, (is, tt))))))))))))))))),
+  (is, (is, (is, (is, (is, (is, (is, (is, (is, (is, (is, (is, (is, (is, (is, (is, (is, (is, (is, (is, (is, (is, (is, (is, (is, tt))))))))))))))))))))))))),
+  (is, (is, (is, (is, (is, (is, (is, (is, (is, (is, (is, (is, (is, (is, (is, (is, (is, (is, (is, (is, (is, (is, (is, (is, (is, tt))))))))))))))))))))))))),
+  (is, (is, (is, (is, (is, (is, (is, (is, (is, (is, (is, (is, (is, (is, (is, (is, (is, (is, (is, (is, (is, (is, (is, tt))))))))))))))))))))))),
+  (is, (is, (is, (is, (is, (is, (is, (is, (is, (is, (is, (is, (is, (is, (is, (is, (is, (is, (is, (is, (is, (is, (is, (is, (is, tt))))))))))))))))))))))))),
+  (is, (is, (is, (is, (is, (is, (is, (is, (is, (is, (is, (is, (is, (is, tt)))))))))))))),
+  (is, (is, (is, (is, (is, (is, (is, (is, (is, tt))))))))),
 )
 
 pub worked : Holds examples
@@ -110,3 +120,21 @@ worked_two_faults = all_worked.14
 
 pub worked_shelves : Holds shelf_examples
 worked_shelves = all_worked.15
+
+pub worked_strikes : Holds strike_examples
+worked_strikes = all_worked.16
+
+pub worked_reads : Holds read_examples
+worked_reads = all_worked.17
+
+pub worked_struck : Holds struck_examples
+worked_struck = all_worked.18
+
+pub worked_strike_histories : Holds strike_histories
+worked_strike_histories = all_worked.19
+
+pub worked_struck_blocks : Holds struck_blocks
+worked_struck_blocks = all_worked.20
+
+pub worked_eight : Holds eight_examples
+worked_eight = all_worked.21

@@ -1,22 +1,20 @@
--- THE LOG THAT A WRITE LEAVES, of any log: which level is rebuilt, its length, the words before and after it, that the rebuilt level is by the words of the
--- levels below modulo p alone, and that its words are of the field. Assumes nothing.
+-- THE LOG THAT A WRITE LEAVES, of any log: which level is rebuilt, its length, the words before and after it, and that the rebuilt level is by the words of
+-- the levels below modulo p alone. Assumes nothing.
 use mathlib.Core.Path.{◌≡◌, refl, sym, ap, ap₂, ◌∙◌}
 use mathlib.Core.List.{List, [], ◌∷◌, ◌++◌}
 use Prim.Native.Nat.{ℕ, zero, suc, ◌+◌, ◌*◌, ◌-◌, ◌/◌, ◌%◌, ◌^◌, ◌≤◌, ◌<◌}
 use native.Mathlib.Nat.{zero-add, one-mul, pow-succ', mul-le-mul_right, le_refl}
 use native.Mathlib.Decide.{dec_lt}
 use native.Mathlib.Omega.{arith}
-use lib.Dec.{lit<}
 use lib.ListN.{length, get_or, take, drop, replicate, length-append, length-drop, length-replicate, get_or-append, get_or-replicate}
 use lib.Seq.{get_or-drop, get_or-append_right}
 use lib.Pow.{pow_pos, high, ones_lt}
 use Rattle.field.specs.Power.{power}
-use Rattle.field.specs.Words.{Words}
-use Rattle.field.proofs.WordLists.{words_append, part_inside}
+use Rattle.field.proofs.WordLists.{part_inside}
 use Rattle.code.specs.Rows.{lifted}
 use Rattle.code.specs.Transform.{mixed_halves, reversed}
-use Rattle.code.proofs.Lifting.{length_lifted, two_halves, words_lifted}
-use Rattle.code.proofs.Shapes.{length_scaled, length_two, words_mixed, words_scaled}
+use Rattle.code.proofs.Lifting.{length_lifted, two_halves}
+use Rattle.code.proofs.Shapes.{length_scaled, length_two}
 use Rattle.layout.specs.declared.Header.{Header}
 use Rattle.layout.specs.Header.{prime_of, vault_root, record_count, width, level_at, stripe_size, level_for}
 use Rattle.layout.proofs.Counting.{Carry, Carried, carried, filled_before}
@@ -72,7 +70,7 @@ length_new : (h : Header) (y : ℕ) (b : List ℕ) → length (new_row h y b) �
 length_new h zero b = refl
 length_new h (suc y) b = length_scaled (prime_of h) (power (prime_of h) (vault_root h) (reversed h.k h.c)) b
 
-length_half : (h : Header) (g b : List ℕ) → length b ≡ width h → (y l : ℕ) → length (rebuilt_half h g y b l) ≡ 2 ^ l * width h
+pub length_half : (h : Header) (g b : List ℕ) → length b ≡ width h → (y l : ℕ) → length (rebuilt_half h g y b l) ≡ 2 ^ l * width h
 unfolding rebuilt_half
 length_half h g b e y zero = length_new h y b ∙ e ∙ sym (one-mul (width h))
 length_half h g b e y (suc l) =
@@ -82,16 +80,6 @@ length_half h g b e y (suc l) =
 pub length_rebuilt : (h : Header) (g b : List ℕ) → length b ≡ width h → (l : ℕ) → length (rebuilt h g b l) ≡ stripe_size h l
 length_rebuilt h g b e l =
     length_two (rebuilt_half h g 0 b l) (rebuilt_half h g 1 b l) (length_half h g b e 0 l) (length_half h g b e 1 l) ∙ sym (two_halves l (width h))
-
--- THE REBUILT LEVEL'S WORDS are of the field
-words_half : (h : Header) (g : List ℕ) (y : ℕ) {b : List ℕ} (l : ℕ) → Words 65537 b → Words 65537 (rebuilt_half h g y b l)
-unfolding rebuilt_half
-words_half h g zero zero u = u
-words_half h g (suc y) zero u = words_scaled 65537 (lit< tt) _ _
-words_half h g y (suc l) u = words_lifted 65537 (width h) _ _ _ _ (lit< tt) (λ j t. words_mixed 65537 (lit< tt) _ _ _)
-
-pub words_rebuilt : (h : Header) (g : List ℕ) {b : List ℕ} (l : ℕ) → Words 65537 b → Words 65537 (rebuilt h g b l)
-words_rebuilt h g l u = words_append 65537 (lit< tt) (words_half h g 0 l u) (words_half h g 1 l u)
 
 -- WORDS MODULO p: parts of a log by the residues of its words
 reduced_take : (p n : ℕ) (l : List ℕ) → reduced p (take n l) ≡ take n (reduced p l)
@@ -117,7 +105,7 @@ reduced_by p (suc n) (x ∷ a) [] e f = absurd (omega arith)
 reduced_by p (suc n) (x ∷ a) (y ∷ b) e f = ap₂ ◌∷◌ (f 0 (omega arith)) (reduced_by p n a b (omega arith) (λ q d. f (suc q) (omega arith)))
 
 -- both halves of a level stand below the next one
-half_below : (h : Header) (i l y : ℕ) → i < l → y < 2 → level_at h i + y * (2 ^ i * width h) + 2 ^ i * width h ≤ level_at h l
+pub half_below : (h : Header) (i l y : ℕ) → i < l → y < 2 → level_at h i + y * (2 ^ i * width h) + 2 ^ i * width h ≤ level_at h l
 half_below h i l y d z = omega (arith, level_in h i l d, two_halves i (width h), mul-le-mul_right {m = y} {n = 1} (2 ^ i * width h) (omega arith))
 
 -- a half of a level below level l, by the first words of the log

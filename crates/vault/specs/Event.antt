@@ -16,8 +16,9 @@ pub record Entry : Type 0 where
   pub block : List ℕ
 
 -- an event, with any record number and any block: a write by today's table of refusals; or an earlier one, by a vault that did not know refusal 11 (blank); or
--- a taking-back of the round's last write, with the scratch that is lent for it, of any length
+-- a strike of a record; or a taking-back of the round's last write, with the scratch that is lent for it, of any length
 pub data Event : Type 0 where
   write : (number : ℕ) → (block : List ℕ) → Event
   earlier : (number : ℕ) → (block : List ℕ) → Event
+  strike : (number : ℕ) → Event
   take_back : (scratch : List ℕ) → Event

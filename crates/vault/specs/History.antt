@@ -4,9 +4,9 @@ use Rattle.layout.specs.declared.Header.{Header}
 use Rattle.image.specs.Image.{image_of}
 use Rattle.store.specs.Buffers.{Buffers}
 use Rattle.store.specs.StoreCalls.{open_number, open_answer, open_leaves, write_number, write_answer, write_leaves}
-use Rattle.store.specs.StoreCalls.{earlier_number, earlier_answer, earlier_leaves}
+use Rattle.store.specs.StoreCalls.{earlier_number, earlier_answer, earlier_leaves, strike_number, strike_answer, strike_leaves}
 use Rattle.taking_back.specs.TakeBackCall.{take_back_number, take_back_answer, take_back_leaves}
-use Rattle.vault.specs.Event.{Opening, Event, write, earlier, take_back}
+use Rattle.vault.specs.Event.{Opening, Event, write, earlier, strike, take_back}
 
 -- a vault: its header and its buffers, as the opening or the event before left them
 pub record Vault : Type 0 where
@@ -24,12 +24,14 @@ image_left v = image_of v.held.full v.held.log
 abbrev pub number_on : Vault → Event → ℕ
 number_on v (write i b) = write_number v.header v.held i b
 number_on v (earlier i b) = earlier_number v.header v.held i b
+number_on v (strike i) = strike_number v.header v.held i
 number_on v (take_back scratch) = take_back_number v.header v.held scratch
 
 -- what the call leaves
 abbrev pub step : Vault → Event → Vault
 step v (write i b) = vault (write_answer v.header v.held i b).header (write_leaves v.header v.held i b)
 step v (earlier i b) = vault (earlier_answer v.header v.held i b).header (earlier_leaves v.header v.held i b)
+step v (strike i) = vault (strike_answer v.header v.held i).header (strike_leaves v.header v.held i)
 step v (take_back scratch) = vault (take_back_answer v.header v.held scratch).header (take_back_leaves v.header v.held scratch)
 
 unfoldable pub after : Vault → List Event → Vault

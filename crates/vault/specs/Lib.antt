@@ -5,10 +5,12 @@ pub mod History
 pub mod Model
 pub mod promises
 pub mod Round
+pub mod Standing
 pub mod Worked
 pub mod WorkedBytes
 pub mod WorkedBack
 pub mod WorkedTwo
+pub mod WorkedStrikes
 pub use Rattle.code.specs.Stripe
 pub use Rattle.decoder.specs.Decoding as ColumnDecoding
 pub use Rattle.layout.specs.Header

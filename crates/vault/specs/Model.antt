@@ -1,7 +1,8 @@
 -- The model (docs/FORMAT.md, section 11): n = 2^k records of s words, the writes of this round, and the records that there were before each of them. It is fed
 -- k, s, the opened records and the events, and nothing from the vault: of this crate it imports the events alone. Assumes nothing: these are definitions.
 use Rattle.std.specs.Prelude.{◌≡◌, Bool, true, false, ◌&&◌, List, [], ◌∷◌, ◌++◌, ℕ, suc, ◌+◌, ◌*◌, ◌-◌, ◌^◌, ◌<◌, ltb, leb, eqb, length, get_or, take, drop}
-use Rattle.vault.specs.Event.{Opening, Entry, Event, write, earlier, take_back}
+use Rattle.std.specs.Prelude.{replicate}
+use Rattle.vault.specs.Event.{Opening, Entry, Event, write, earlier, strike, take_back}
 
 -- `written` has the writes of this round, the oldest first; `before` the records as they were before each of them, the newest first: its head is what taking
 -- back the last write would give
@@ -32,16 +33,21 @@ judged x i b otherwise =
       | false ↦ 2
     ]
 
+-- by 4 alone: a strike has a record number, and no block
+abbrev pub strike_judged : Model → (record_number : ℕ) → ℕ
+strike_judged x i = elim (ltb i (2 ^ x.k)) [ true ↦ 0 | false ↦ 4 ]
+
 -- by 2 and 12: the scratch for taking back is twice recovery's, and the round has a write to take back
 abbrev pub back_judged : Model → (scratch : List ℕ) → ℕ
 back_judged x scratch =
     elim (eqb (length scratch) (2 * (2 ^ x.k * suc x.s + 4 * 2 ^ x.k))) [ true ↦ elim (eqb (writes x) 0) [ true ↦ 12 | false ↦ 0 ] | false ↦ 2 ]
 
 -- the number that the table gives to an event, judged from k, s, its record number and its block: a write's by today's table, an earlier write's by the table
--- without 11; a taking-back's from k, s, the count and its scratch
+-- without 11; a strike's from k and its record number; a taking-back's from k, s, the count and its scratch
 abbrev pub table_number : Model → Event → ℕ
 table_number x (write i b) = judged x i b (elim (words_zero b) [ true ↦ 11 | false ↦ 0 ])
 table_number x (earlier i b) = judged x i b 0
+table_number x (strike i) = strike_judged x i
 table_number x (take_back scratch) = back_judged x scratch
 
 -- a block's words in place of record i; the count grows by 1, and at n it becomes 0
@@ -54,7 +60,11 @@ put x i b = record {
   before = elim (eqb (suc (writes x)) (2 ^ x.k)) [ true ↦ [] | false ↦ x.records ∷ x.before ];
 }
 
--- the last write of the round cancelled: the records are those before it
+-- what a strike puts there: 65536 in the place of each data word
+abbrev pub struck : Model → List ℕ
+struck x = replicate x.s 65536
+
+-- the last write of the round cancelled, or the last strike: the records are those before it
 abbrev pub cancelled : Model → Model
 cancelled x = record {
   k = x.k;
@@ -68,6 +78,7 @@ cancelled x = record {
 abbrev pub entered : Model → Event → Model
 entered x (write i b) = put x i b
 entered x (earlier i b) = put x i b
+entered x (strike i) = put x i (struck x)
 entered x (take_back scratch) = cancelled x
 
 -- an event that the table refuses leaves the model as it is

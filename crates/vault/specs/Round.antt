@@ -4,9 +4,9 @@ use Rattle.std.specs.Prelude.{true, false, List, [], ◌∷◌, ◌++◌, ℕ, z
 use Rattle.code.specs.Stripe.{coded_rows}
 use Rattle.layout.specs.declared.Header.{Header}
 use Rattle.layout.specs.Header.{header_of, prime_of, vault_root, width, is_filled, first_of, stripe_size}
-use Rattle.layout.specs.Records.{replaced}
+use Rattle.layout.specs.Records.{struck_data, replaced}
 use Rattle.store.specs.Buffers.{full_stripe, Buffers, buffers}
-use Rattle.vault.specs.Event.{Opening, Entry, Event, write, earlier, take_back}
+use Rattle.vault.specs.Event.{Opening, Entry, Event, write, earlier, strike, take_back}
 use Rattle.vault.specs.Model.{Model, table_number}
 
 pub record Round : Type 0 where
@@ -37,7 +37,8 @@ records_in a = put_all a.s a.base a.since
 abbrev pub model_in : Round → Model
 model_in a = record { k = a.k; s = a.s; records = records_in a; written = a.since; before = before_each a.s a.base a.since }
 
--- WHAT AN EVENT DOES to a round. A write is entered; the n-th one ends the round, and its records start the next. A taking-back cuts the last one off
+-- WHAT AN EVENT DOES to a round. A write is entered, and so is a strike; the n-th one ends the round, and its records start the next. A taking-back cuts the
+-- last one off
 abbrev pub start_of : (k s : ℕ) → (raw : List ℕ) → Round
 start_of k s r = record { k = k; s = s; base = r; since = [] }
 
@@ -54,6 +55,7 @@ cut a = record { k = a.k; s = a.s; base = a.base; since = take (length a.since -
 abbrev pub advanced : Round → Event → Round
 advanced a (write i b) = grown a (record { number = i; block = b })
 advanced a (earlier i b) = grown a (record { number = i; block = b })
+advanced a (strike i) = grown a (record { number = i; block = struck_data a.s })
 advanced a (take_back scratch) = cut a
 
 -- one that the table refuses leaves it as it is

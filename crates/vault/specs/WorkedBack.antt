@@ -87,10 +87,10 @@ back_examples =
     (0 ∷ 2 ∷ 2 ∷ 1 ∷ 10 ∷ 11 ∷ 20 ∷ 21 ∷ 1 ∷ 2 ∷ 40 ∷ 65535 ∷ (full_wide ++ (2 ∷ 1 ∷ 2 ∷ 2 ∷ 1 ∷ 2 ∷ zeros 68)))
     end))))))))))))
 
--- REFUSED: a word of the lowest filled level above 65536, two that code no word, and the number 4, which is none; then a level above that no blocks code to,
--- whatever the full stripe is, and a full stripe with a word above 65536; and lengths, and headers out of range. Where a stripe is at fault the scratch alone
--- is changed. Then which level is the lowest filled one at k = 3, for c from 1 to 7; first blocks that are no records; full stripes with two blocks exchanged,
--- and that no blocks code to; a fault of the lowest level before one of the next; and one more word, or one less, than a length
+-- REFUSED: a word of the lowest filled level above 65536, two that code no word, the number 4, which is none, and 65536 in one of two words; then a level above
+-- that no blocks code to, whatever the full stripe is, and a full stripe with a word above 65536; and lengths, and headers out of range. Where a stripe is at
+-- fault the scratch alone is changed. Then which level is the lowest filled one at k = 3, for c from 1 to 7; first blocks that are no records; full stripes
+-- with two blocks exchanged, and that no blocks code to; a fault of the lowest level before one of the next; and one more word, or one less, than a length
 abbrev pub faulty : (log : List ℕ) → List ℕ
 faulty log = back_of 2 1 (ones 4) full_given log 48
 
@@ -99,7 +99,8 @@ back_faults =
     entry (faulty (2 ∷ 65537 ∷ 2 ∷ 0 ∷ zeros 8)) (8 ∷ 2 ∷ 1 ∷ 1 ∷ (ones 4 ++ (full_given ++ (2 ∷ 65537 ∷ 2 ∷ 0 ∷ zeros 56))))
     (entry (faulty (2 ∷ 3 ∷ 2 ∷ 4 ∷ zeros 8)) (9 ∷ 2 ∷ 1 ∷ 1 ∷ (ones 4 ++ (full_given ++ (2 ∷ 3 ∷ 2 ∷ 4 ∷ zeros 56))))
     (entry (faulty (4 ∷ 3 ∷ 4 ∷ 3 ∷ zeros 8)) (10 ∷ 2 ∷ 1 ∷ 1 ∷ (ones 4 ++ (full_given ++ (4 ∷ 3 ∷ 4 ∷ 3 ∷ zeros 56))))
-    (entry (faulty (2 ∷ 65536 ∷ 2 ∷ 65536 ∷ zeros 8)) (10 ∷ 2 ∷ 1 ∷ 1 ∷ (ones 4 ++ (full_given ++ (2 ∷ 65536 ∷ 2 ∷ 65536 ∷ zeros 56))))
+    (entry (back_in (header_of 2 2 1) (buffers (ones 8) full_wide (2 ∷ 65536 ∷ 5 ∷ 2 ∷ 65536 ∷ 5 ∷ zeros 12)) 56)
+    (10 ∷ 2 ∷ 2 ∷ 1 ∷ (ones 8 ++ (full_wide ++ (2 ∷ 65536 ∷ 5 ∷ 2 ∷ 65536 ∷ 5 ∷ zeros 68))))
     (entry (back_of 2 3 (zeros 4) (replicate 16 70000) (2 ∷ 3 ∷ 8192 ∷ 12288 ∷ 1 ∷ 2 ∷ zeros 6) 48)
     (9 ∷ 2 ∷ 1 ∷ 3 ∷ (zeros 4 ++ (replicate 16 70000 ++ (2 ∷ 3 ∷ 8192 ∷ 12288 ∷ 1 ∷ 2 ∷ zeros 54))))
     (entry (back_of 2 3 (zeros 4) (replicate 16 70000) log_given 48) (8 ∷ 2 ∷ 1 ∷ 3 ∷ (zeros 4 ++ (replicate 16 70000 ++ (log_given ++ zeros 48))))
@@ -110,8 +111,8 @@ back_faults =
     (entry (map (λ (c : ℕ). lowest_of (header_of 3 1 c)) (1 ∷ 2 ∷ 3 ∷ 4 ∷ 5 ∷ 6 ∷ 7 ∷ [])) (0 ∷ 1 ∷ 0 ∷ 2 ∷ 0 ∷ 1 ∷ 0 ∷ [])
     (entry (back_of 2 2 (ones 4) full_given (zeros 4 ++ (4 ∷ 4 ∷ 4 ∷ 2 ∷ 4 ∷ 65284 ∷ 4 ∷ 259 ∷ [])) 48)
     (10 ∷ 2 ∷ 1 ∷ 2 ∷ (ones 4 ++ (full_given ++ (zeros 4 ++ (4 ∷ 4 ∷ 4 ∷ 2 ∷ 4 ∷ 65284 ∷ 4 ∷ 259 ∷ zeros 48)))))
-    (entry (back_of 2 2 (ones 4) full_given (zeros 4 ++ (1 ∷ 0 ∷ 1 ∷ 65535 ∷ 1 ∷ 65280 ∷ 1 ∷ 255 ∷ [])) 48)
-    (10 ∷ 2 ∷ 1 ∷ 2 ∷ (ones 4 ++ (full_given ++ (zeros 4 ++ (1 ∷ 0 ∷ 1 ∷ 65535 ∷ 1 ∷ 65280 ∷ 1 ∷ 255 ∷ zeros 48)))))
+    (entry (back_in (header_of 2 2 2) (buffers (ones 8) full_wide (zeros 6 ++ (1 ∷ 0 ∷ 6 ∷ 1 ∷ 65535 ∷ 4 ∷ 1 ∷ 65280 ∷ 65286 ∷ 1 ∷ 255 ∷ 261 ∷ []))) 56)
+    (10 ∷ 2 ∷ 2 ∷ 2 ∷ (ones 8 ++ (full_wide ++ (zeros 6 ++ (1 ∷ 0 ∷ 6 ∷ 1 ∷ 65535 ∷ 4 ∷ 1 ∷ 65280 ∷ 65286 ∷ 1 ∷ 255 ∷ 261 ∷ zeros 56)))))
     (entry (back_of 2 1 (ones 4) exchanged (0 ∷ 1 ∷ 0 ∷ 1 ∷ zeros 8) 48) (10 ∷ 2 ∷ 1 ∷ 1 ∷ (ones 4 ++ (exchanged ++ (0 ∷ 1 ∷ 0 ∷ 1 ∷ zeros 56))))
     (entry (back_of 2 1 (ones 4) (7 ∷ drop 1 full_given) (0 ∷ 1 ∷ 0 ∷ 1 ∷ zeros 8) 48)
     (9 ∷ 2 ∷ 1 ∷ 1 ∷ (ones 4 ++ (7 ∷ (drop 1 full_given ++ (0 ∷ 1 ∷ 0 ∷ 1 ∷ zeros 56)))))

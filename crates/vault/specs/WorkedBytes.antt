@@ -10,7 +10,7 @@ use Rattle.layout.specs.declared.Header.{Header}
 use Rattle.layout.specs.Header.{header_of, raw_size, full_size, log_size, out_size, scratch_size, image_size, level_for}
 use Rattle.layout.specs.declared.refusal.Refusal.{Refusal}
 use Rattle.layout.specs.declared.refusal.Refusal.TheVariants.{HeaderRange, Length, ErasureList, RecordNumber, DataWord, NoStripe}
-use Rattle.layout.specs.declared.refusal.Refusal.TheVariants.{TooFew, OutOfField, Inconsistent, NotRecords, Blank, RoundStart, ReadingsDiffer}
+use Rattle.layout.specs.declared.refusal.Refusal.TheVariants.{TooFew, OutOfField, Inconsistent, NotRecords, Blank, RoundStart, ReadingsDiffer, Struck}
 use Rattle.layout.specs.Refusals.{number_of, answer_number, read_part}
 use Rattle.store.specs.Buffers.{buffers}
 use Rattle.store.specs.StoreCalls.{open_answer, opened_as, written_as, read_number, read_gives}
@@ -313,8 +313,8 @@ answer_examples =
     entry
     (map number_of
     (HeaderRange ∷ Length ∷ ErasureList ∷ RecordNumber ∷ DataWord ∷ NoStripe ∷ TooFew ∷ OutOfField ∷ Inconsistent ∷ NotRecords ∷ Blank ∷ RoundStart ∷
-    ReadingsDiffer ∷ []))
-    (1 ∷ 2 ∷ 3 ∷ 4 ∷ 5 ∷ 6 ∷ 7 ∷ 8 ∷ 9 ∷ 10 ∷ 11 ∷ 12 ∷ 13 ∷ [])
+    ReadingsDiffer ∷ Struck ∷ []))
+    (1 ∷ 2 ∷ 3 ∷ 4 ∷ 5 ∷ 6 ∷ 7 ∷ 8 ∷ 9 ∷ 10 ∷ 11 ∷ 12 ∷ 13 ∷ 14 ∷ [])
     (entry (answer_number {A = ℕ} (Ok 5) ∷ answer_number {A = ℕ} (Err NoStripe) ∷ []) (0 ∷ 6 ∷ [])
     (entry ((opened_as (Ok (header_of 2 1 0))).number ∷ header_words (opened_as (Ok (header_of 2 1 0))).header) (0 ∷ 2 ∷ 1 ∷ 0 ∷ [])
     (entry ((opened_as (Err DataWord)).number ∷ header_words (opened_as (Err DataWord)).header) (5 ∷ 0 ∷ 0 ∷ 0 ∷ [])

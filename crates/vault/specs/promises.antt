@@ -16,6 +16,7 @@ pub mod TwoReadings
 pub mod Answers
 pub mod Explaining
 pub mod Blanks
+pub mod Strikes
 pub mod Boundary
 pub mod Openings
 pub mod All

@@ -1,4 +1,4 @@
-// The calls of the vault (docs/FORMAT.md, section 9), by value: headers are given and come back, and nothing is kept between two calls. They are all eleven,
+// The calls of the vault (docs/FORMAT.md, section 9), by value: headers are given and come back, and nothing is kept between two calls. They are all twelve,
 // and place_of_two, which says where the part stands that shelf_of_two gives. No call has a precondition. Each contract says, for every input, what the call
 // answers (`result`), and what is left of each buffer that it may change: `x.old` is the buffer x as it was lent, `x.new` as it is left, `x.now` one that does
 // not change, and «x» a parameter whose name is a word of the language. An answer is read as the number of the table of refusals and what goes with it: by
@@ -9,6 +9,7 @@ ghost use Rattle.power_table.specs.PowersCall.{powers_number, powers_leaves};
 ghost use Rattle.store.specs.Buffers.{buffers};
 ghost use Rattle.layout.specs.Refusals.{answer_number, read_part};
 ghost use Rattle.store.specs.StoreCalls.{opened_as, open_answer, open_leaves, written_as, write_answer, write_leaves, read_number, read_gives};
+ghost use Rattle.store.specs.StoreCalls.{strike_answer, strike_leaves};
 ghost use Rattle.taking_back.specs.TakeBackCall.{take_back_answer, take_back_leaves, take_back_scratch};
 ghost use Rattle.image.specs.ImageCall.{image_number, image_leaves};
 ghost use Rattle.stripe_decoding.specs.StripeCall.{decode_number, decode_leaves, decode_scratch};
@@ -54,8 +55,24 @@ pub fn write(
     store::writing::write(header, raw, full, log, record, block)
 }
 
-// Takes back the last write of the round, and gives the header afterwards. Tests 1, 2 (raw, full, log, scratch), 12, and 8 to 10 of each stripe that it
-// decodes.
+// Strikes a record, struck or not: a write of 65536 in each of its data words. Gives the header afterwards. Tests 1, 2 (raw, full, log), 4.
+pub fn strike(
+    header: Header,
+    raw: &mut [u32],
+    full: &mut [u32],
+    log: &mut [u32],
+    record: u32,
+) -> Result<Header, Refusal>
+    ensures value { written_as header result ≡ strike_answer header (buffers raw.old full.old log.old) «record» }
+    ensures raw_after { raw.new ≡ (strike_leaves header (buffers raw.old full.old log.old) «record»).raw }
+    ensures full_after { full.new ≡ (strike_leaves header (buffers raw.old full.old log.old) «record»).full }
+    ensures log_after { log.new ≡ (strike_leaves header (buffers raw.old full.old log.old) «record»).log }
+{
+    store::striking::strike(header, raw, full, log, record)
+}
+
+// Takes back the last write of the round, which may be a strike, and gives the header afterwards. Tests 1, 2 (raw, full, log, scratch), 12, and 8 to 10 of
+// each stripe that it decodes.
 pub fn take_back(
     header: Header,
     raw: &mut [u32],
@@ -71,7 +88,7 @@ pub fn take_back(
     taking_back::taking::take_back(header, raw, full, log, scratch)
 }
 
-// A record, a part of the raw buffer. Tests 1, 2 (raw), 4.
+// A record, a part of the raw buffer. Tests 1, 2 (raw), 4, 14.
 pub fn read<'a>(header: Header, raw: &'a [u32], record: u32) -> Result<&'a [u32], Refusal>
     ensures value { answer_number result ≡ read_number header raw.now «record» }
     ensures part { read_part result ≡ read_gives header raw.now «record» }

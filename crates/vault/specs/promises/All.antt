@@ -17,6 +17,7 @@ use Rattle.vault.specs.promises.TwoReadings.{TwoReadings}
 use Rattle.vault.specs.promises.Answers.{Answers}
 use Rattle.vault.specs.promises.Explaining.{Explaining}
 use Rattle.vault.specs.promises.Blanks.{Blanks}
+use Rattle.vault.specs.promises.Strikes.{Strikes}
 use Rattle.vault.specs.promises.Boundary.{Boundary}
 use Rattle.vault.specs.promises.Openings.{Openings}
 use Rattle.vault.specs.Worked.{Holds, examples, blank_examples}
@@ -24,6 +25,7 @@ use Rattle.vault.specs.WorkedBytes.{byte_examples, stripe_examples, stray_exampl
 use Rattle.vault.specs.WorkedBytes.{history_examples, half_examples, number_examples, answer_examples}
 use Rattle.vault.specs.WorkedBack.{back_examples, back_faults, back_histories}
 use Rattle.vault.specs.WorkedTwo.{two_examples, two_faults, shelf_examples}
+use Rattle.vault.specs.WorkedStrikes.{strike_examples, read_examples, struck_examples, strike_histories, struck_blocks, eight_examples}
 
 -- the three demands, what else is promised, and the worked examples
 pub record Promises : Type 1 where
@@ -43,6 +45,7 @@ pub record Promises : Type 1 where
   pub answers : Answers
   pub explaining : Explaining
   pub blanks : Blanks
+  pub strikes : Strikes
   pub boundary : Boundary
   pub openings : Openings
   pub worked : Holds examples
@@ -61,3 +64,9 @@ pub record Promises : Type 1 where
   pub worked_two : Holds two_examples
   pub worked_two_faults : Holds two_faults
   pub worked_shelves : Holds shelf_examples
+  pub worked_strikes : Holds strike_examples
+  pub worked_reads : Holds read_examples
+  pub worked_struck : Holds struck_examples
+  pub worked_strike_histories : Holds strike_histories
+  pub worked_struck_blocks : Holds struck_blocks
+  pub worked_eight : Holds eight_examples

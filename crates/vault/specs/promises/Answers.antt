@@ -7,19 +7,19 @@ use Rattle.layout.specs.declared.refusal.Refusal.{Refusal}
 use Rattle.layout.specs.Header.{header_of}
 use Rattle.layout.specs.Refusals.{number_of, answer_number, read_part}
 use Rattle.store.specs.Buffers.{buffers}
-use Rattle.store.specs.StoreCalls.{opened_as, open_number, open_answer, written_as, write_answer, write_leaves}
+use Rattle.store.specs.StoreCalls.{opened_as, open_number, open_answer, written_as, write_answer, write_leaves, strike_answer, strike_leaves}
 use Rattle.recovery.specs.Verdicts.{verdict_of}
 use Rattle.recovery.specs.RecoveryCall.{unnamed, at_fault}
 use Rattle.two_readings.specs.ShelfOfTwoCall.{place_given}
 use Rattle.taking_back.specs.TakeBackCall.{take_back_answer, take_back_leaves}
-use Rattle.vault.specs.Event.{write, take_back}
+use Rattle.vault.specs.Event.{write, strike, take_back}
 use Rattle.vault.specs.History.{Vault, number_on, step}
 
 -- a number: 0, or that of the refusal
 abbrev pub NumberRead : Type 1
 NumberRead = (T : Type 0) (given : T) (refusal : Refusal) → (answer_number (Ok given) ≡ 0) × (answer_number {A = T} (Err refusal) ≡ number_of refusal)
 
--- of an opening the header, 0, 0, 0 where it is refused; of a write, and of a taking-back, the header afterwards, and the one before where it is refused
+-- of an opening the header, 0, 0, 0 where it is refused; of a write, a strike and a taking-back the header afterwards, and the one before where it is refused
 abbrev pub OpeningRead : Type 0
 OpeningRead =
     (h : Header) (refusal : Refusal) →
@@ -59,7 +59,7 @@ HeaderHas = (k s c : ℕ) → ((header_of k s c).k ≡ k) × ((header_of k s c).
 abbrev pub BuffersHave : Type 0
 BuffersHave = (raw full log : List ℕ) → ((buffers raw full log).raw ≡ raw) × ((buffers raw full log).full ≡ full) × ((buffers raw full log).log ≡ log)
 
--- THE CALLS `open`, `write` AND `take_back` answer the number and leave what promises and histories speak of
+-- THE CALLS `open`, `write`, `strike` AND `take_back` answer the number and leave what promises and histories speak of
 abbrev pub OpenAnswers : Type 0
 OpenAnswers = (k s : ℕ) (raw full log : List ℕ) → (open_answer k s raw full log).number ≡ open_number k s raw full log
 
@@ -68,6 +68,12 @@ WriteAnswers =
     (v : Vault) (i : ℕ) (b : List ℕ) →
     ((write_answer v.header v.held i b).number ≡ number_on v (write i b)) ×
     ((write_answer v.header v.held i b).header ≡ (step v (write i b)).header) × (write_leaves v.header v.held i b ≡ (step v (write i b)).held)
+
+abbrev pub StrikeAnswers : Type 0
+StrikeAnswers =
+    (v : Vault) (i : ℕ) →
+    ((strike_answer v.header v.held i).number ≡ number_on v (strike i)) ×
+    ((strike_answer v.header v.held i).header ≡ (step v (strike i)).header) × (strike_leaves v.header v.held i ≡ (step v (strike i)).held)
 
 abbrev pub BackAnswers : Type 0
 BackAnswers =
@@ -88,4 +94,5 @@ pub record Answers : Type 1 where
   pub buffers_have : BuffersHave
   pub open_answers : OpenAnswers
   pub write_answers : WriteAnswers
+  pub strike_answers : StrikeAnswers
   pub back_answers : BackAnswers

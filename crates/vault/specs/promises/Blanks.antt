@@ -1,10 +1,11 @@
 -- BLANK BLOCKS: what refusal 11 (blank) turns away, and that it changes nothing else. Signs and letters: Demands. Assumes nothing.
-use Rattle.std.specs.Prelude.{◌≡◌, true, ◌↔◌, List, [], ◌∷◌, ◌++◌, ℕ, ◌^◌, ◌≤◌, ◌<◌, length, get_or, replicate}
+use Rattle.std.specs.Prelude.{◌≡◌, true, ◌↔◌, List, [], ◌∷◌, ◌++◌, ℕ, ◌^◌, ◌<◌, length, replicate}
 use Rattle.layout.specs.Header.{header_of, header_fits, raw_size, full_size, log_size}
 use Rattle.layout.specs.Records.{record_in}
 use Rattle.vault.specs.Event.{Opening, Event, write, earlier}
 use Rattle.vault.specs.Model.{table_number, model_of}
 use Rattle.vault.specs.History.{Vault, number_on, step, Opens, vault_after}
+use Rattle.vault.specs.promises.Table.{HoldsRecord, record_word}
 
 -- A BLOCK IS BLANK, and so are records, if the words are all 0
 abbrev pub Blank : (block : List ℕ) → Type 0
@@ -24,8 +25,8 @@ ElseAsEarlier =
 abbrev pub FiveNotBlank : Type 0
 FiveNotBlank = (v : Vault) (i : ℕ) (b : List ℕ) → number_on v (earlier i b) ≡ 5 → Blank b → ⊥
 
--- OPENING. One whose k and s are in range, and whose buffers have their lengths, is taken if and only if no word of its records is above 65535; and so zero
--- records are taken
+-- OPENING. One whose k and s are in range, and whose buffers have their lengths, is taken if and only if each of its records holds data words or is struck; and
+-- so zero records are taken
 pub record Fitting (o : Opening) : Type 0 where
   pub header : header_fits (header_of o.k o.s 0) ≡ true
   pub raw_long : length o.raw ≡ raw_size (header_of o.k o.s 0)
@@ -33,7 +34,9 @@ pub record Fitting (o : Opening) : Type 0 where
   pub log_long : length o.log ≡ log_size (header_of o.k o.s 0)
 
 abbrev pub OpensIff : Type 0
-OpensIff = (o : Opening) → Fitting o → Opens o ↔ ((q : ℕ) → get_or o.raw q 0 ≤ 65535)
+OpensIff =
+    (o : Opening) → Fitting o →
+    Opens o ↔ ((i : ℕ) → i < 2 ^ o.k → HoldsRecord o.s (record_word (header_of o.k o.s 0) o.raw i))
 
 abbrev pub ZerosOpen : Type 0
 ZerosOpen = (o : Opening) → Fitting o → Blank o.raw → Opens o

@@ -1,8 +1,8 @@
 -- WHAT THE VAULT PROMISES: the three demands, as lines that can be shown. The rooms beside this file have the words that these lines use, and what else is
 -- promised: Decoding has Readable, Codes, HoldRecords, Decodes and Fails; Losses has Survives, SameRemains and Recovers; then Histories, Explaining, Blanks,
--- Boundary and Openings. What these say by marks, lengths and numbers is said by bytes and by the rows of the table of refusals in Erasures, Table, Numbers,
--- Leaving, Recovering, Coding, Writing, TakingBack and TwoReadings; Answers has what is read off an answer of the code. All has the record of everything, whose
--- one proof is `proved` of proofs/Proved. Assumes nothing.
+-- Strikes, Boundary and Openings. What these say by marks, lengths and numbers is said by bytes and by the rows of the table of refusals in Erasures, Table,
+-- Numbers, Leaving, Recovering, Coding, Writing, TakingBack and TwoReadings; Answers has what is read off an answer of the code. All has the record of
+-- everything, whose one proof is `proved` of proofs/Proved. Assumes nothing.
 --
 -- SIGNS. First `f a`, h.k and ^ bind; then *, / and %; then + and -; then ∷ and ++; then ≡, ≤, <; then ×, ⊎, ↔; then →; and `let` what follows it
 --   (`→` groups from the right, the others from the left)
@@ -51,15 +51,19 @@
 --
 -- FROM THIS CRATE
 --   Event      Opening, Event: what a history is made of. An event is `write i b` or `earlier i b`: the block b for record i, written by today's table of
---              refusals, or by an earlier vault, whose table had no 11; or `take_back scratch`: the last write of the round taken back, with the scratch lent
---              for it. What is said of all events es is said of all kinds, in any order and number. A write's entry has a `number` and a `block`
+--              refusals, or by an earlier vault, whose table had no 11; or `strike i`: record i struck; or `take_back scratch`: the last write or strike of the
+--              round taken back, with the scratch lent for it. What is said of all events es is said of all kinds, in any order and number. A write's entry has
+--              a `number` and a `block`
 --   History    Opens o: the call takes the opening, that is, gives 0. vault_after o es: header and buffers as the calls leave them; header_after,
 --              image_after: its header and its image. number_on v next: the number that the call gives to an event; to an earlier write, the call as it was.
 --              step v next: header and buffers as that call leaves them
 --   Model      model_of o es: what the model (record book) says, from k, s, the opened records and the events alone. writes: its count. table_number: the
---              table's number: a write's by today's table, an earlier one's by the table without 11, a taking-back's by the count and its scratch.
+--              table's number: a write's by today's table, an earlier one's by the table without 11, a strike's by its record number, a taking-back's by
+--              the count and its scratch.
 --              written_at x t: the entry of write t of the round. LastWrite x i t: write t is the last of the round to record i. NoWrite x i: the round has
---              none to it. A write that is taken back is none of the round's
+--              none to it. A strike is a write here, and one that is taken back is none of the round's
+--   Standing   standing o es: the writes and strikes of the whole history that the table takes, without those taken back, the newest first. LastTo ws i next:
+--              of these events `next` is the newest to record i. NoneTo ws i: none is to it
 --   Boundary   read_start, read_count: what the boundary for C hands out of a reading; shelf_of: of a stripe that is named, or no_shelf where none is
 --   Worked     Holds: that each entry of a table of examples is so
 --   Round      round_of o es: the round that a history ends in: the records when the full stripe was last built, `base`, and the writes since, `since`, the
@@ -76,9 +80,9 @@
 --   code       coded p w k l t0 column: the words that a column of blocks' words codes to, X then Y. coded_rows p w k l t0 width blocks: those of blocks of
 --              `width` words, column by column
 --   decoder    survivors l ms: the positions of stripe l that are not erased
---   store      open_answer, open_leaves: what the call `open` answers, a number and a header, and what it leaves. read_number, read_gives: the number that the
---              call `read` gives, and the part. blocks_of h raw: raw records as blocks, in number order. full_stripe h raw: the full stripe of raw records.
---              buffers raw full log: these three buffers
+--   store      open_answer, open_leaves: what the call `open` answers, a number and a header, and what it leaves. strike_answer, strike_leaves: those of the
+--              call `strike`. read_number, read_gives: the number that the call `read` gives, and the part. blocks_of h raw: raw records as blocks, in number
+--              order. full_stripe h raw: the full stripe of raw records. buffers raw full log: these three buffers
 --   taking_back   stripe_held h full log l: the words of a stripe, the full one's or those of the log from the level's place on. decode_held: what they
 --              decode to, none erased. take_back_answer, take_back_leaves, take_back_scratch: what the call answers, and what it leaves in its buffers
 --              and in the scratch

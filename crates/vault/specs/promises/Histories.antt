@@ -1,7 +1,7 @@
 -- HISTORIES: the model beside the round that a history ends in, and the raw copy and the image that it leaves. Signs and letters: Demands. Assumes nothing.
-use Rattle.std.specs.Prelude.{◌≡◌, ◌⊎◌, List, [], ◌∷◌, ◌++◌, ℕ, suc, ◌+◌, ◌*◌, ◌-◌, ◌^◌, ◌≤◌, ◌<◌, length, get_or, take}
+use Rattle.std.specs.Prelude.{◌≡◌, ◌⊎◌, List, [], ◌∷◌, ◌++◌, ℕ, suc, ◌+◌, ◌*◌, ◌-◌, ◌^◌, ◌≤◌, ◌<◌, length, get_or, take, replicate}
 use Rattle.layout.specs.Header.{image_size}
-use Rattle.vault.specs.Event.{Opening, Event, write, earlier, take_back}
+use Rattle.vault.specs.Event.{Opening, Event, write, earlier, strike, take_back}
 use Rattle.vault.specs.Model.{writes, table_number, model_of}
 use Rattle.vault.specs.History.{Opens, vault_after, header_after, image_after}
 use Rattle.vault.specs.Round.{put_all, model_in, round_of}
@@ -43,18 +43,18 @@ BeforeIs =
     (count ≡ length round.since) × (length (model_of o es).before ≡ count) ×
     ((back : ℕ) → back < count → get_or (model_of o es).before back [] ≡ put_all (model_of o es).s round.base (take (count - suc back) round.since))
 
--- AN EVENT THAT THE TABLE REFUSES leaves the model as it is. A write that it takes puts its block's words in the place of record i, and nothing else; the count
--- grows by 1, and at n it is 0
+-- AN EVENT THAT THE TABLE REFUSES leaves the model as it is. A write or a strike that it takes puts its block's words in the place of record i, and nothing
+-- else; the count grows by 1, and at n it is 0
 abbrev pub ModelKept : Type 0
 ModelKept = (o : Opening) (es : List Event) (next : Event) → (table_number (model_of o es) next ≡ 0 → ⊥) → model_of o (es ++ (next ∷ [])) ≡ model_of o es
 
--- `Puts`: the event is a write or an earlier write of b to record i
-abbrev pub Puts : Event → (record_number : ℕ) → (block : List ℕ) → Type 0
-Puts next i b = (next ≡ write i b) ⊎ (next ≡ earlier i b)
+-- `Puts`: the event is a write or an earlier write of b to record i; or a strike of it, and b is 65536 in the place of each of its s data words
+abbrev pub Puts : (s : ℕ) → Event → (record_number : ℕ) → (block : List ℕ) → Type 0
+Puts s next i b = (next ≡ write i b) ⊎ (next ≡ earlier i b) ⊎ ((next ≡ strike i) × (b ≡ replicate s 65536))
 
 abbrev pub ModelPuts : Type 0
 ModelPuts =
-    (o : Opening) (es : List Event) (next : Event) (i : ℕ) (b : List ℕ) → Opens o → Puts next i b → table_number (model_of o es) next ≡ 0 →
+    (o : Opening) (es : List Event) (next : Event) (i : ℕ) (b : List ℕ) → Opens o → Puts (model_of o es).s next i b → table_number (model_of o es) next ≡ 0 →
     let before = model_of o es in
     let after = model_of o (es ++ (next ∷ [])) in
     ((j : ℕ) → j < before.s → get_or after.records (i * before.s + j) 0 ≡ get_or b j 0) ×

@@ -1,7 +1,7 @@
--- WHAT EVERY CALL LEAVES, by its number: with 1 to 6 and 11 to 13 everything as it was, with 7 to 10 zeros but for counts, with 0 what is promised. Of `write`
--- and `take_back` it is refused_stays of Demands, and with 0 the rooms Writing and TakingBack, which also has the scratch. Signs and letters: Demands. Assumes
--- nothing.
-use Rattle.std.specs.Prelude.{◌≡◌, ◌⊎◌, List, [], ℕ, suc, ◌+◌, ◌*◌, ◌-◌, ◌/◌, ◌%◌, ◌^◌, ◌≤◌, ◌<◌, length, get_or, replicate}
+-- WHAT EVERY CALL LEAVES, by its number: with 1 to 6 and 11 to 14 everything as it was, with 7 to 10 zeros but for counts, with 0 what is promised. Of `write`,
+-- `strike` and `take_back` it is refused_stays of Demands, and with 0 the rooms Writing and TakingBack, which also has the scratch. Signs and letters: Demands.
+-- Assumes nothing.
+use Rattle.std.specs.Prelude.{◌≡◌, ◌⊎◌, ◌↔◌, List, [], ℕ, suc, ◌+◌, ◌*◌, ◌-◌, ◌/◌, ◌%◌, ◌^◌, ◌≤◌, ◌<◌, length, get_or, replicate}
 use Rattle.layout.specs.declared.Header.{Header}
 use Rattle.layout.specs.Header.{header_of}
 use Rattle.store.specs.Buffers.{buffers, full_stripe}
@@ -17,7 +17,7 @@ use Rattle.vault.specs.Event.{Opening, Event}
 use Rattle.vault.specs.Model.{model_of}
 use Rattle.vault.specs.History.{Opens, vault_after, header_after, image_after}
 use Rattle.layout.specs.Records.{record_in}
-use Rattle.vault.specs.promises.Table.{ImageLength}
+use Rattle.vault.specs.promises.Table.{ImageLength, IsStruck}
 
 -- OPENING: a header of zeros where it is refused; else k, s and 0, the raw records as they are, their full stripe, and a log of zeros
 abbrev pub OpenRefused : Type 0
@@ -40,13 +40,15 @@ ReadTaken =
     (h : Header) (raw : List ℕ) (i : ℕ) → read_number h raw i ≡ 0 →
     (length (read_gives h raw i) ≡ h.s) × ((j : ℕ) → j < h.s → get_or (read_gives h raw i) j 0 ≡ get_or raw (i * h.s + j) 0)
 
--- after any history it is the model's
+-- after any history the number is 14 if and only if the model's record is struck, and else 0, and the part is the model's record
 abbrev pub ReadsModel : Type 0
 ReadsModel =
     (o : Opening) (es : List Event) (i : ℕ) → Opens o → i < 2 ^ (model_of o es).k →
     let h = header_after o es in
     let raw = (vault_after o es).held.raw in
-    (read_number h raw i ≡ 0) × (read_gives h raw i ≡ record_in (model_of o es).s (model_of o es).records i)
+    let kept = record_in (model_of o es).s (model_of o es).records i in
+    let is_struck = IsStruck (model_of o es).s (λ q. get_or kept q 0) in
+    ((read_number h raw i ≡ 14) ↔ is_struck) × ((is_struck → ⊥) → (read_number h raw i ≡ 0) × (read_gives h raw i ≡ kept))
 
 -- THE IMAGE: as it was where it is refused; else the words of the full stripe and then those of the log, each 4 bytes, low byte first
 abbrev pub byte_of : (word byte : ℕ) → ℕ

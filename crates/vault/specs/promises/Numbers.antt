@@ -16,11 +16,11 @@ use Rattle.explanation.specs.ExplainCall.{explain_early, explain_answer}
 use Rattle.two_readings.specs.RecoverTwoCall.{recover_two_early, recover_two_answer}
 use Rattle.two_readings.specs.ShelfOfTwoCall.{shelf_of_two_number}
 use Rattle.power_table.specs.PowersCall.{powers_number}
-use Rattle.vault.specs.Event.{Event, write, earlier, take_back}
+use Rattle.vault.specs.Event.{Event, write, earlier, strike, take_back}
 use Rattle.vault.specs.Model.{Model, writes, table_number}
 use Rattle.vault.specs.History.{Vault, number_on}
 use Rattle.vault.specs.promises.Table.{RawLength, FullLength, LogLength, BlockLength, ImageLength, OutLength, ScratchLength, CountsLength, OriginsLength}
-use Rattle.vault.specs.promises.Table.{BackLength, RoundBegins, Differ}
+use Rattle.vault.specs.promises.Table.{BackLength, RoundBegins, Differ, NoRecordData, StruckRecord}
 use Rattle.vault.specs.promises.Table.{OutOfRange, IllFormed, NoSuchRecord, NoDataWord, NoStripe, TooFew, Stray, Inconsistent, NotRecords, AllZero}
 use Rattle.vault.specs.promises.Table.{InRange, IsStripe, Rows, none, row, EachRow, NoRow, EachNumber}
 use Rattle.vault.specs.promises.Decoding.{Fails, Asked}
@@ -35,7 +35,7 @@ OpenNumbers =
     EachNumber (open_answer k s raw full log).number
     (row 1 (OutOfRange h)
     (row 2 (RawLength h raw × FullLength h full × LogLength h log → ⊥)
-    (row 5 (NoDataWord raw) none)))
+    (row 5 (NoRecordData h raw) none)))
 
 -- THE CALL `write`, and the same as it was before 11 was in the table; v is its header and its buffers
 abbrev pub WriteRows : Vault → (record_number : ℕ) → (block : List ℕ) → (more : Rows) → Rows
@@ -52,6 +52,17 @@ WriteNumbers = (v : Vault) (i : ℕ) (b : List ℕ) → EachNumber (number_on v 
 abbrev pub EarlierNumbers : Type 0
 EarlierNumbers = (v : Vault) (i : ℕ) (b : List ℕ) → EachNumber (number_on v (earlier i b)) (WriteRows v i b none)
 
+-- THE CALL `strike`
+abbrev pub StrikeRows : Vault → (record_number : ℕ) → Rows
+StrikeRows v i =
+    let h = v.header in
+    row 1 (OutOfRange h)
+    (row 2 (RawLength h v.held.raw × FullLength h v.held.full × LogLength h v.held.log → ⊥)
+    (row 4 (NoSuchRecord h i) none))
+
+abbrev pub StrikeNumbers : Type 0
+StrikeNumbers = (v : Vault) (i : ℕ) → EachNumber (number_on v (strike i)) (StrikeRows v i)
+
 -- and what the model says of an event, from its own k and s, the record number and the block
 abbrev pub TableRows : Model → (record_number : ℕ) → (block : List ℕ) → (more : Rows) → Rows
 TableRows x i b more = row 2 (length b ≡ x.s → ⊥) (row 4 (2 ^ x.k ≤ i) (row 5 (NoDataWord b) more))
@@ -62,10 +73,14 @@ TableNumbers = (x : Model) (i : ℕ) (b : List ℕ) → EachNumber (table_number
 abbrev pub EarlierTable : Type 0
 EarlierTable = (x : Model) (i : ℕ) (b : List ℕ) → EachNumber (table_number x (earlier i b)) (TableRows x i b none)
 
+-- of a strike, from k and the record number
+abbrev pub StrikeTable : Type 0
+StrikeTable = (x : Model) (i : ℕ) → EachNumber (table_number x (strike i)) (row 4 (2 ^ x.k ≤ i) none)
+
 -- and from nothing else: two models that agree in k and s agree in it
 abbrev pub SameTable : Type 0
 SameTable =
-    (x x' : Model) (next : Event) (i : ℕ) (b : List ℕ) → Puts next i b → x.k ≡ x'.k → x.s ≡ x'.s → table_number x next ≡ table_number x' next
+    (x x' : Model) (next : Event) (i : ℕ) (b : List ℕ) → Puts x.s next i b → x.k ≡ x'.k → x.s ≡ x'.s → table_number x next ≡ table_number x' next
 
 -- of a taking-back, from the scratch and whether the round has a write. Of any event, two models that agree in the count too agree in it
 abbrev pub BackTable : Type 0
@@ -95,7 +110,8 @@ ReadNumbers =
     EachNumber (read_number h raw i)
     (row 1 (OutOfRange h)
     (row 2 (RawLength h raw → ⊥)
-    (row 4 (NoSuchRecord h i) none)))
+    (row 4 (NoSuchRecord h i)
+    (row 14 (StruckRecord h raw i) none))))
 
 -- THE CALL `image`
 abbrev pub ImageNumbers : Type 0
@@ -197,8 +213,10 @@ pub record Numbers : Type 0 where
   pub open_numbers : OpenNumbers
   pub write_numbers : WriteNumbers
   pub earlier_numbers : EarlierNumbers
+  pub strike_numbers : StrikeNumbers
   pub table_numbers : TableNumbers
   pub earlier_table : EarlierTable
+  pub strike_table : StrikeTable
   pub same_table : SameTable
   pub back_table : BackTable
   pub same_counted : SameCounted

@@ -3,7 +3,7 @@
 use Rattle.std.specs.Prelude.{◌≡◌, List, [], ◌∷◌, ◌++◌, ℕ, suc, ◌*◌, ◌-◌, ◌^◌, ◌<◌, length, get_or, take, replicate}
 use Rattle.layout.specs.Header.{header_of}
 use Rattle.layout.specs.Records.{record_in}
-use Rattle.vault.specs.Event.{Opening, Event, write, earlier}
+use Rattle.vault.specs.Event.{Opening, Event, write, earlier, strike}
 use Rattle.vault.specs.Model.{writes, written_at, table_number, LastWrite, NoWrite, model_of}
 use Rattle.vault.specs.History.{number_on, Opens, vault_after, header_after}
 use Rattle.vault.specs.Round.{put_all, round_of}
@@ -49,6 +49,12 @@ KeptAsOpened =
     (number_on (vault_after o es) next ≡ 0) × (table_number (model_of o es) next ≡ 0) ×
     (record_in o.s (model_of o (es ++ (next ∷ []))).records i ≡ replicate o.s 0)
 
+-- StrikeTaken of Strikes
+abbrev pub StruckAsOpened : Type 0
+StruckAsOpened =
+    (o : Opening) (es : List Event) (i : ℕ) → Opens o → i < 2 ^ o.k →
+    (number_on (vault_after o es) (strike i) ≡ 0) × (record_in o.s (model_of o (es ++ (strike i ∷ []))).records i ≡ replicate o.s 65536)
+
 -- ALL OF THIS ROOM
 pub record Openings : Type 0 where
   pub header_as_opened : HeaderAsOpened
@@ -58,3 +64,4 @@ pub record Openings : Type 0 where
   pub start_as_opened : StartAsOpened
   pub refused_as_opened : RefusedAsOpened
   pub kept_as_opened : KeptAsOpened
+  pub struck_as_opened : StruckAsOpened

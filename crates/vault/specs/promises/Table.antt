@@ -62,10 +62,24 @@ IllFormed h e = WellFormed h e → ⊥
 abbrev pub NoSuchRecord : Header → (number : ℕ) → Type 0
 NoSuchRecord h i = 2 ^ h.k ≤ i
 
--- 5, data word: a word of a block, or of opened records, is above 65535
+-- 5, data word: a word of a block is above 65535
 pub record NoDataWord (words : List ℕ) : Type 0 where
   pub place : ℕ
   pub over : 65535 < get_or words place 0
+
+-- THE DATA OF A RECORD, word by word, which `word` says: its s words are data words, 0 to 65535; or it is struck, and each of them is 65536
+abbrev pub IsStruck : (s : ℕ) → (word : ℕ → ℕ) → Type 0
+IsStruck s word = (q : ℕ) → q < s → word q ≡ 65536
+
+abbrev pub HoldsRecord : (s : ℕ) → (word : ℕ → ℕ) → Type 0
+HoldsRecord s word = ((q : ℕ) → q < s → word q ≤ 65535) ⊎ IsStruck s word
+
+-- 5 of an opening: a record does not hold such data
+abbrev pub record_word : Header → (raw : List ℕ) → (record_number q : ℕ) → ℕ
+record_word h raw i q = get_or raw (i * h.s + q) 0
+
+abbrev pub NoRecordData : Header → (raw : List ℕ) → Type 0
+NoRecordData h raw = (i : ℕ) × (i < 2 ^ h.k) × (HoldsRecord h.s (record_word h raw i) → ⊥)
 
 -- 6, no stripe: it is not k, nor the number of a level whose bit of c is 1
 abbrev pub IsStripe : Header → (stripe : ℕ) → Type 0
@@ -95,11 +109,13 @@ pub record Stray (h : Header) (m e : List ℕ) (l : ℕ) : Type 0 where
 abbrev pub Inconsistent : Header → (image erasures : List ℕ) → (stripe : ℕ) → Type 0
 Inconsistent h m e l = (bs : List ℕ) → Codes h m e l bs → ⊥
 
--- 10, not records: of the blocks that do, block j has a number n or more, or on the full stripe one that is not its place, or a data word 65536
+-- 10, not records: of the blocks that do, block j has a number n or more, or on the full stripe one that is not its place, or does not hold a record's data
+abbrev pub block_word : Header → (blocks : List ℕ) → (j q : ℕ) → ℕ
+block_word h bs j q = get_or bs (j * suc h.s + suc q) 0
+
 abbrev pub NoRecord : Header → (stripe : ℕ) → (blocks : List ℕ) → (j : ℕ) → Type 0
 NoRecord h l bs j =
-    (2 ^ h.k ≤ get_or bs (j * suc h.s) 0) ⊎ ((l ≡ h.k) × (get_or bs (j * suc h.s) 0 ≡ j → ⊥)) ⊎
-    ((q : ℕ) × (q < h.s) × (get_or bs (j * suc h.s + suc q) 0 ≡ 65536))
+    (2 ^ h.k ≤ get_or bs (j * suc h.s) 0) ⊎ ((l ≡ h.k) × (get_or bs (j * suc h.s) 0 ≡ j → ⊥)) ⊎ (HoldsRecord h.s (block_word h bs j) → ⊥)
 
 pub record NotRecords (h : Header) (m e : List ℕ) (l : ℕ) : Type 0 where
   pub blocks : List ℕ
@@ -127,6 +143,10 @@ pub record Differ (h : Header) (m e m' e' : List ℕ) : Type 0 where
   pub untouched : Untouched h e stripe position
   pub untouched' : Untouched h e' stripe position
   pub other : let byte = 4 * (stripe_place h stripe + (position * suc h.s + column)) in four_bytes m byte ≡ four_bytes m' byte → ⊥
+
+-- 14, struck: the record that is read is struck
+abbrev pub StruckRecord : Header → (raw : List ℕ) → (record_number : ℕ) → Type 0
+StruckRecord h raw i = IsStruck h.s (record_word h raw i)
 
 -- ROWS OF THE TABLE, those that a call tests: each with its number and the statement that it applies
 pub data Rows : Type 1 where

@@ -25,22 +25,24 @@ BackAfter =
     (row 2 (BackLength (header_after o es) scratch → ⊥)
     (row 12 (writes (model_of o es) ≡ 0) none))
 
--- ONE WRITE UNDONE: after any history and one write or earlier write more that is taken and does not end the round, it gives back the header and every buffer
--- of before, word for word, and the model; the scratch is zeros
+-- ONE WRITE UNDONE: after any history and one write, earlier write or strike more that is taken and does not end the round, it gives back the header and every
+-- buffer of before, word for word, and the model; the scratch is zeros
 abbrev pub BackUndoes : Type 0
 BackUndoes =
-    (o : Opening) (es : List Event) (next : Event) (i : ℕ) (b scratch : List ℕ) → Opens o → Puts next i b → number_on (vault_after o es) next ≡ 0 →
+    (o : Opening) (es : List Event) (next : Event) (i : ℕ) (b scratch : List ℕ) → Opens o → Puts (model_of o es).s next i b →
+    number_on (vault_after o es) next ≡ 0 →
     suc (writes (model_of o es)) < 2 ^ (model_of o es).k → BackLength (header_after o es) scratch →
     let v = vault_after o (es ++ (next ∷ [])) in
     (number_on v (take_back scratch) ≡ 0) × (step v (take_back scratch) ≡ vault_after o es) ×
     (model_of o (es ++ (next ∷ take_back scratch ∷ [])) ≡ model_of o es) × (take_back_scratch v.header v.held scratch ≡ replicate (length scratch) 0)
 
--- AGAIN AND AGAIN: some events after a history, each a write or an earlier write that is taken and does not end the round. As many takings-back give back
--- header, buffers and model
+-- AGAIN AND AGAIN: some events after a history, each a write, an earlier write or a strike that is taken and does not end the round. As many takings-back give
+-- back header, buffers and model
 abbrev pub AllPut : Opening → (es more : List Event) → Type 0
 AllPut o es [] = Unit {0}
 AllPut o es (next ∷ more) =
-    ((i : ℕ) × (b : List ℕ) × Puts next i b) × (number_on (vault_after o es) next ≡ 0) × (suc (writes (model_of o es)) < 2 ^ (model_of o es).k) ×
+    ((i : ℕ) × (b : List ℕ) × Puts (model_of o es).s next i b) × (number_on (vault_after o es) next ≡ 0) ×
+    (suc (writes (model_of o es)) < 2 ^ (model_of o es).k) ×
     AllPut o (es ++ (next ∷ [])) more
 
 abbrev pub BackAgain : Type 0
