@@ -30,21 +30,25 @@ extern "C" {
 
 /* The number of a call: the table of docs/FORMAT.md, section 10. */
 enum vault_number {
-    VAULT_TAKEN = 0,           /* no test applies */
-    VAULT_HEADER = 1,          /* plate: k, s or c out of its range */
-    VAULT_LENGTH = 2,          /* length: a buffer, block or image is not exactly its length */
-    VAULT_GAP_LIST = 3,        /* gap list: not whole pairs, or a rule of gap lists broken */
-    VAULT_RECORD = 4,          /* record: the record number is n or more */
-    VAULT_DATA_WORD = 5,       /* data word: a word of the block or of the opened records is above 65535 */
-    VAULT_SHELF = 6,           /* shelf: the shelf number is above k, or that level is not filled */
-    VAULT_TOO_FEW = 7,         /* too few: fewer than half of the shelf's positions survive */
-    VAULT_STRAY = 8,           /* stray: a surviving word is above 65536 */
-    VAULT_DISCORD = 9,         /* discord: no list of blocks codes to all surviving words */
-    VAULT_NO_SHEET = 10,       /* no sheet: the one list that does holds no records */
-    VAULT_BLANK = 11,          /* blank: each data word of the block of a write is 0 */
-    VAULT_ROUND_START = 12,    /* round start: a write is to be taken back, and *c is 0 */
-    VAULT_READINGS_DIFFER = 13 /* readings differ: a position of a needed shelf is whole in both of two readings, with another word in each */
+    VAULT_TAKEN = 0,            /* no test applies */
+    VAULT_HEADER = 1,           /* plate: k, s or c out of its range */
+    VAULT_LENGTH = 2,           /* length: a buffer, block or image is not exactly its length */
+    VAULT_GAP_LIST = 3,         /* gap list: not whole pairs, or a rule of gap lists broken */
+    VAULT_RECORD = 4,           /* record: the record number is n or more */
+    VAULT_DATA_WORD = 5,        /* data word: a word of the block, or of an opened record that is not struck, is above 65535 */
+    VAULT_SHELF = 6,            /* shelf: the shelf number is above k, or that level is not filled */
+    VAULT_TOO_FEW = 7,          /* too few: fewer than half of the shelf's positions survive */
+    VAULT_STRAY = 8,            /* stray: a surviving word is above 65536 */
+    VAULT_DISCORD = 9,          /* discord: no list of blocks codes to all surviving words */
+    VAULT_NO_SHEET = 10,        /* no sheet: the one list that does holds no records */
+    VAULT_BLANK = 11,           /* blank: each data word of the block of a write is 0 */
+    VAULT_ROUND_START = 12,     /* round start: a write is to be taken back, and *c is 0 */
+    VAULT_READINGS_DIFFER = 13, /* readings differ: a position of a needed shelf is whole in both of two readings, with another word in each */
+    VAULT_STRUCK = 14           /* struck: each word of the record that is read is exactly 65536 */
 };
+
+/* What stands in the place of each data word of a struck record, in raw, in blocks and in what recovery gives. */
+#define VAULT_STRUCK_WORD UINT32_C(65536)
 
 /* What vault_recover, vault_recover_two and vault_explain leave in *shelf where they name none. */
 #define VAULT_NO_SHELF UINT32_C(0xffffffff)
@@ -66,9 +70,10 @@ enum vault_number {
  * Opening: builds the full shelf of the raw records and zeroes the log. The plate is then k, s, 0.
  *
  * Lengths: raw VAULT_RAW_WORDS, full VAULT_FULL_WORDS, log VAULT_LOG_WORDS.
- * Tests: 1 (k and s), 2 (raw, full, log), 5 (a word of raw).
+ * Tests: 1 (k and s), 2 (raw, full, log), 5 (a record of raw: its words are neither all at most 65535 nor all exactly 65536).
  * After 0: full holds the coded records, log zeros. After any other number: full and log are as they were.
- * raw never changes: it is the raw copy that later calls take. Records of zeros are taken like any others: VAULT_BLANK is in writing alone.
+ * raw never changes: it is the raw copy that later calls take. Records of zeros are taken like any others (VAULT_BLANK is in writing alone), and so are struck
+ * ones, each word of which is VAULT_STRUCK_WORD.
  */
 uint32_t vault_open(uint32_t k, uint32_t s,
                     const uint32_t *raw, size_t raw_len,
@@ -98,7 +103,24 @@ uint32_t vault_write(uint32_t k, uint32_t s, uint32_t *c,
                      const uint32_t *block, size_t block_len);
 
 /*
- * Taking back: undoes the last write of the round, again and again back to its start. The write that ends a round cannot be taken back: *c is 0 after it.
+ * Striking: a record has no data from then on, and reads as struck, until it is written again. It is a write of VAULT_STRUCK_WORD in the place of each data
+ * word, and counts as one; vault_write turns such a block away (5). A record that is struck already is taken like any other. The words of before stay where
+ * they are coded, on the full shelf or in the log, until the round ends.
+ *
+ * Lengths: raw VAULT_RAW_WORDS, full VAULT_FULL_WORDS, log VAULT_LOG_WORDS.
+ * Tests: 1 (k, s and *c), 2 (raw, full, log), 4.
+ * After 0: the record in raw is struck, and full, log and *c are as vault_write leaves them after a write of that block.
+ * After any other number: raw, full, log and *c are as they were.
+ */
+uint32_t vault_strike(uint32_t k, uint32_t s, uint32_t *c,
+                      uint32_t *raw, size_t raw_len,
+                      uint32_t *full, size_t full_len,
+                      uint32_t *log, size_t log_len,
+                      uint32_t record);
+
+/*
+ * Taking back: undoes the last write of the round, which may be a strike, again and again back to its start. The write that ends a round cannot be taken back:
+ * *c is 0 after it.
  *
  * The lowest filled level is decoded; its last block is the write, and names the record. The record gets its write before that in the round, the newest that
  * there is, else what the full shelf has of it. It is sought in the lowest filled level, in the filled levels above, and on the full shelf, each decoded when
@@ -107,7 +129,7 @@ uint32_t vault_write(uint32_t k, uint32_t s, uint32_t *c,
  * Lengths: raw VAULT_RAW_WORDS, full VAULT_FULL_WORDS, log VAULT_LOG_WORDS, scratch VAULT_TAKE_BACK_WORDS.
  * Tests: 1 (k, s and *c), 2 (raw, full, log, scratch), 12 (*c), then 8, 9, 10 on each shelf in the order in which they are decoded.
  * After 0: the record in raw is as before the write, the lowest filled level is zeros, the levels below it hold its other writes, the rest of the log is as it
- * was, *c is one less, and scratch zeros. After an opening and writes, *c, raw, full and log are what they were before the write.
+ * was, *c is one less, and scratch zeros. After an opening, writes and strikes, *c, raw, full and log are what they were before the write.
  * After 1, 2 and 12: raw, log, scratch and *c are as they were. After 8 to 10: raw, log and *c are as they were, and scratch is zeros.
  */
 uint32_t vault_take_back(uint32_t k, uint32_t s, uint32_t *c,
@@ -120,7 +142,7 @@ uint32_t vault_take_back(uint32_t k, uint32_t s, uint32_t *c,
  * Reading: where a record stands in the raw records.
  *
  * Lengths: raw VAULT_RAW_WORDS.
- * Tests: 1 (k, s and c), 2 (raw), 4.
+ * Tests: 1 (k, s and c), 2 (raw), 4, 14 (each word of the record is VAULT_STRUCK_WORD).
  * After 0: the record is the words raw[*start] to raw[*start + *count - 1]; *start is record * s, *count is s.
  * After any other number: *start and *count are 0.
  */
@@ -133,7 +155,7 @@ uint32_t vault_read(uint32_t k, uint32_t s, uint32_t c,
  * Shelf decoding: the blocks of one shelf of an image, of which the bytes that the gap list covers are lost.
  *
  * shelf is a level, 0 to k - 1, that is filled (its bit of c is 1), or k for the full shelf. A level l has 2^l blocks, the full shelf n; each block is s + 1
- * words, the record's number and its data. A position is lost if a gap touches one of its bytes.
+ * words, the record's number and its data, of a struck record VAULT_STRUCK_WORD in the place of each. A position is lost if a gap touches one of its bytes.
  * The gap list is pairs of offset and length in bytes of the image, each number 4 bytes, low byte first. Each length is at least 1, each pair ends inside the
  * image, and each offset is greater than offset + length of the pair before it. A list of 0 bytes is good.
  *
@@ -155,7 +177,7 @@ uint32_t vault_decode(uint32_t k, uint32_t s, uint32_t c,
  *
  * Lengths: image VAULT_IMAGE_BYTES, out VAULT_RAW_WORDS, scratch VAULT_SCRATCH_WORDS; gaps of any length (3 if it is not whole pairs).
  * Tests: 1 (k, s and c), 2 (image, out, scratch), 3, then 7, 8, 9, 10 on each shelf in the order in which they are decoded.
- * After 0: out holds the records, record i from word i * s on, scratch zeros, and *shelf is VAULT_NO_SHELF.
+ * After 0: out holds the records, record i from word i * s on (of a struck one each word is VAULT_STRUCK_WORD), scratch zeros, and *shelf is VAULT_NO_SHELF.
  * After 1 to 3: out and scratch are as they were, and *shelf is VAULT_NO_SHELF.
  * After 7 to 10: out and scratch are zeros, and *shelf is the first shelf at fault: a level, or k for the full shelf.
  */

@@ -27,7 +27,7 @@ pub const VAULT_LENGTH: u32 = 2;
 pub const VAULT_GAP_LIST: u32 = 3;
 /// Record: the record number is n or more.
 pub const VAULT_RECORD: u32 = 4;
-/// Data word: a word of the block or of the opened records is above 65535.
+/// Data word: a word of the block, or of an opened record that is not struck, is above 65535.
 pub const VAULT_DATA_WORD: u32 = 5;
 /// Shelf: the shelf number is above k, or that level is not filled.
 pub const VAULT_SHELF: u32 = 6;
@@ -45,6 +45,11 @@ pub const VAULT_BLANK: u32 = 11;
 pub const VAULT_ROUND_START: u32 = 12;
 /// Readings differ: a position of a needed shelf is whole in both of two readings, with another word in each.
 pub const VAULT_READINGS_DIFFER: u32 = 13;
+/// Struck: each word of the record that is read is exactly 65536.
+pub const VAULT_STRUCK: u32 = 14;
+
+/// What stands in the place of each data word of a struck record, in `raw`, in blocks and in what recovery gives.
+pub const VAULT_STRUCK_WORD: u32 = 65536;
 
 /// What [`vault_recover`], [`vault_recover_two`] and [`vault_explain`] leave in `*shelf` where they name none.
 pub const VAULT_NO_SHELF: u32 = 0xffff_ffff;
@@ -54,8 +59,9 @@ pub const VAULT_NO_SHELF: u32 = 0xffff_ffff;
 extern "C" {
     /// Opening: builds the full shelf of the raw records and zeroes the log. The plate is then k, s, 0.
     ///
-    /// Tests 1 (k and s), 2 (`raw`, `full`, `log`) and 5 (a word of `raw`). After 0, `full` holds the coded records and `log` zeros; after any other number
-    /// both are as they were. Records of zeros are taken like any others: [`VAULT_BLANK`] is in writing alone.
+    /// Tests 1 (k and s), 2 (`raw`, `full`, `log`) and 5 (a record of `raw`: its words are neither all at most 65535 nor all exactly 65536). After 0, `full`
+    /// holds the coded records and `log` zeros; after any other number both are as they were. Records of zeros are taken like any others ([`VAULT_BLANK`] is in
+    /// writing alone), and so are struck ones, each word of which is [`VAULT_STRUCK_WORD`].
     ///
     /// # Safety
     ///
@@ -90,7 +96,26 @@ extern "C" {
         block: *const u32, block_len: usize,
     ) -> u32;
 
-    /// Taking back: undoes the last write of the round, again and again back to its start.
+    /// Striking: a record has no data from then on, and reads as struck, until it is written again. It is a write of [`VAULT_STRUCK_WORD`] in the place of each
+    /// data word, and counts as one; [`vault_write`] turns such a block away (5). A record that is struck already is taken like any other. The words of before
+    /// stay where they are coded, on the full shelf or in the log, until the round ends.
+    ///
+    /// Tests 1 (k, s and `*c`), 2 (`raw`, `full`, `log`) and 4. After 0, the record in `raw` is struck, and `full`, `log` and `*c` are as [`vault_write`]
+    /// leaves them after a write of that block; after any other number all of these are as they were.
+    ///
+    /// # Safety
+    ///
+    /// `c` is valid for reads and writes of one number; `raw`, `full` and `log` are valid for reads and writes of as many words as their counts say; none of
+    /// the four overlaps anything that the call is lent.
+    pub fn vault_strike(
+        k: u32, s: u32, c: *mut u32,
+        raw: *mut u32, raw_len: usize,
+        full: *mut u32, full_len: usize,
+        log: *mut u32, log_len: usize,
+        record: u32,
+    ) -> u32;
+
+    /// Taking back: undoes the last write of the round, or the last strike, again and again back to its start.
     ///
     /// Tests 1 (k, s and `*c`), 2 (`raw`, `full`, `log`, `scratch` of 2n(s + 1) + 8n words) and 12 (`*c`), then 8 to 10 on each shelf in the order in which
     /// they are decoded: the lowest filled level, and others until the record's write before is found. After 0, the record in `raw` is as before the write,
@@ -111,7 +136,8 @@ extern "C" {
 
     /// Reading: where a record stands in the raw records.
     ///
-    /// Tests 1 (k, s and c), 2 (`raw`) and 4. After 0, `*start` is record * s and `*count` is s; after any other number both are 0.
+    /// Tests 1 (k, s and c), 2 (`raw`), 4 and 14 (each word of the record is [`VAULT_STRUCK_WORD`]). After 0, `*start` is record * s and `*count` is s; after
+    /// any other number both are 0.
     ///
     /// # Safety
     ///

@@ -41,7 +41,7 @@ fn in_rust(parameter: &str) -> String {
 fn functions_are_the_header_s() {
     let header = functions(HEADER, "\nuint32_t vault_", ");", in_rust);
     let declared = functions(DECLARED, "pub fn vault_", ") -> u32;", str::to_owned);
-    assert_eq!(header.len(), 11);
+    assert_eq!(header.len(), 12);
     assert_eq!(header, declared);
 }
 
@@ -69,6 +69,6 @@ fn constants_are_the_header_s() {
         [')', ' '],
     ));
     let declared = constants(DECLARED, "pub const VAULT_", ": u32 = ", [';', ' ']);
-    assert_eq!(header.len(), 15);
+    assert_eq!(header.len(), 17);
     assert_eq!(header, declared);
 }

@@ -8,6 +8,7 @@ ghost use Rattle.vault.specs.Header.{header_of};
 ghost use Rattle.vault.specs.PowersCall.{powers_number, powers_leaves};
 ghost use Rattle.vault.specs.Buffers.{buffers};
 ghost use Rattle.vault.specs.StoreCalls.{open_number, open_leaves, write_number, write_answer, write_leaves, read_number};
+ghost use Rattle.vault.specs.StoreCalls.{strike_number, strike_answer, strike_leaves};
 ghost use Rattle.vault.specs.TakeBackCall.{take_back_number, take_back_answer, take_back_leaves, take_back_scratch};
 ghost use Rattle.vault.specs.StripeCall.{decode_number, decode_leaves, decode_scratch};
 ghost use Rattle.vault.specs.Verdicts.{verdict_of};
@@ -79,6 +80,33 @@ pub extern "C" fn vault_write(
     match calls::write(header, raw, full, log, record, block) {
         Ok(next) => {
             *c = next.c;
+            0
+        }
+        Err(refusal) => refusal.number(),
+    }
+}
+
+// *c becomes the header's c after the strike; it stays where the strike is refused.
+#[unsafe(no_mangle)]
+pub extern "C" fn vault_strike(
+    k: u32,
+    s: u32,
+    c: &mut u32,
+    raw: &mut [u32],
+    full: &mut [u32],
+    log: &mut [u32],
+    record: u32,
+) -> u32
+    ensures value { result ≡ strike_number (header_of k s c.old) (buffers raw.old full.old log.old) «record» }
+    ensures c_after { c.new ≡ (strike_answer (header_of k s c.old) (buffers raw.old full.old log.old) «record»).header.c }
+    ensures raw_after { raw.new ≡ (strike_leaves (header_of k s c.old) (buffers raw.old full.old log.old) «record»).raw }
+    ensures full_after { full.new ≡ (strike_leaves (header_of k s c.old) (buffers raw.old full.old log.old) «record»).full }
+    ensures log_after { log.new ≡ (strike_leaves (header_of k s c.old) (buffers raw.old full.old log.old) «record»).log }
+{
+    let header = Header { k, s, c: *c };
+    match calls::strike(header, raw, full, log, record) {
+        Ok(after) => {
+            *c = after.c;
             0
         }
         Err(refusal) => refusal.number(),
