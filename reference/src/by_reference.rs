@@ -3,7 +3,8 @@ use crate::calls::{Answer, Call};
 use crate::header::Header;
 use crate::lent::Lender;
 use crate::two_readings::{self, Place, Reading};
-use crate::{explanation, image, opening, powers, reading, recovery, taking_back, writing};
+use crate::{explanation, image, opening, powers, reading, recovery};
+use crate::{striking, taking_back, writing};
 
 /// Makes a call. The header that it gives is the lender's afterwards, unless it is refused.
 pub fn call(lender: &mut Lender, call: Call) -> Answer {
@@ -16,13 +17,13 @@ pub fn call(lender: &mut Lender, call: Call) -> Answer {
         list: lender.list2.part(),
     };
     let (counts, out) = (lender.counts.part_mut(), lender.out.part_mut());
-    let scratch = lender.scratch.part_mut();
-    let double = lender.double_scratch.part_mut();
+    let (scratch, double) = (lender.scratch.part_mut(), lender.double_scratch.part_mut());
     let answer = match call {
         Call::Open => with_header(opening::open(header.k, header.s, raw, full, log)),
         Call::Write { record } => {
             with_header(writing::write(header, raw, full, log, record, block))
         }
+        Call::Strike { record } => with_header(striking::strike(header, raw, full, log, record)),
         Call::TakeBack => with_header(taking_back::take_back(header, raw, full, log, double)),
         Call::Read { record } => with_part(raw, reading::read(header, raw, record)),
         Call::Image => Answer::of(image::image(header, full, log, image)),

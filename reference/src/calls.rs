@@ -11,6 +11,7 @@ use crate::two_readings::Place;
 pub enum Call {
     Open,
     Write { record: u32 },
+    Strike { record: u32 },
     TakeBack,
     Read { record: u32 },
     Image,
@@ -51,13 +52,14 @@ pub struct Row {
 
 impl Call {
     /// How many calls there are.
-    pub const COUNT: usize = 11;
+    pub const COUNT: usize = 12;
 
     /// Each call once, given this record and this stripe.
     pub fn all(record: u32, stripe: u32) -> [Call; Call::COUNT] {
         [
             Call::Open,
             Call::Write { record },
+            Call::Strike { record },
             Call::TakeBack,
             Call::Read { record },
             Call::Image,
@@ -92,9 +94,10 @@ impl Call {
             Call::Open => row("open", 5, 0, &[0, 1, 2, 5], &[(Reads, RAW), (Stores, FULL), (Stores, LOG)], none),
             Call::Write { record } => row("write", 6, record, &[0, 1, 2, 4, 5, 11],
                 &[(Changes, RAW), (Changes, FULL), (Changes, LOG), (Reads, BLOCK)], none),
+            Call::Strike { record } => row("strike", 18, record, &[0, 1, 2, 4], &[(Changes, RAW), (Changes, FULL), (Changes, LOG)], none),
             Call::TakeBack => row("take_back", 14, 0, &[0, 1, 2, 12, 8, 9, 10],
                 &[(Changes, RAW), (Reads, FULL), (Changes, LOG), (Stores, DOUBLE_SCRATCH)], none),
-            Call::Read { record } => row("read", 7, record, &[0, 1, 2, 4], &[(Reads, RAW)], none),
+            Call::Read { record } => row("read", 7, record, &[0, 1, 2, 4, 14], &[(Reads, RAW)], none),
             Call::Image => row("image", 8, 0, &[0, 1, 2], &[(Reads, FULL), (Reads, LOG), (Stores, IMAGE)], none),
             Call::Decode { stripe } => row("decode", 9, stripe, &[0, 1, 2, 3, 6, 7, 8, 9, 10],
                 &[(Reads, IMAGE), (Reads, LIST), (Stores, OUT), (Stores, SCRATCH)], Header::blocks_len),
@@ -130,7 +133,7 @@ impl Call {
 #[derive(Clone, Copy, Debug, Default, PartialEq)]
 pub struct Answer {
     pub number: u32,
-    /// The header that opening, writing and taking back give.
+    /// The header that opening, writing, striking and taking back give.
     pub header: Option<Header>,
     /// The stripe at fault, where a call names one.
     pub stripe: Option<u32>,

@@ -1,6 +1,7 @@
 //! Opening: the full stripe built from raw records.
 use crate::field::P;
 use crate::header::Header;
+use crate::record::are_a_record;
 use crate::refusal::{number, test, Refusal};
 use crate::stripe::code;
 
@@ -19,7 +20,8 @@ pub fn open(k: u32, s: u32, raw: &[u32], full: &mut [u32], log: &mut [u32]) -> (
 fn tests(header: Header, raw: &[u32], full: &[u32], log: &[u32]) -> Result<(), Refusal> {
     header.test()?;
     lengths(header, raw, full, log)?;
-    test(are_data(raw), Refusal::DataWord)
+    let mut records = raw.chunks(header.data());
+    test(records.all(are_a_record), Refusal::DataWord)
 }
 
 /// The test of the three buffers' lengths.
@@ -28,11 +30,6 @@ pub fn lengths(header: Header, raw: &[u32], full: &[u32], log: &[u32]) -> Result
         && full.len() == header.full_len()
         && log.len() == header.log_len();
     test(fit, Refusal::Length)
-}
-
-/// Whether all words are data words.
-pub fn are_data(words: &[u32]) -> bool {
-    words.iter().all(|&x| x <= 65535)
 }
 
 /// The full stripe codes the raw records in number order, as if record i were write i. Raw words count modulo p.
@@ -52,6 +49,41 @@ pub fn build(header: Header, raw: &[u32], full: &mut [u32]) {
 #[cfg(test)]
 mod tests {
     use super::*;
+
+    /// The number of an opening of k = 1.
+    fn opened(s: u32, raw: &[u32]) -> u32 {
+        let header = Header { k: 1, s, c: 0 };
+        let (mut full, mut log) = (vec![9; header.full_len()], vec![9; header.log_len()]);
+        let (number, given) = open(1, s, raw, &mut full, &mut log);
+        let taken = number == 0;
+        assert_eq!(given, if taken { header } else { Header::default() });
+        assert_eq!(log[0], if taken { 0 } else { 9 });
+        number
+    }
+
+    #[test]
+    fn each_record_is_data_words_or_struck() {
+        for (s, raw) in [
+            (2, &[65536, 65536, 0, 0][..]),
+            (2, &[65535, 0, 65536, 65536]),
+            (2, &[65536; 4]),
+            (1, &[65536, 7]),
+            (1, &[7, 65536]),
+        ] {
+            assert_eq!(opened(s, raw), 0, "{raw:?}");
+        }
+        for (s, raw) in [
+            (2, &[65536, 0, 0, 0][..]),
+            (2, &[0, 0, 7, 65536]),
+            (2, &[0, 65536, 65536, 0]),
+            (2, &[65536, 65536, 65536, 65537]),
+            (2, &[131_073, 131_073, 0, 0]),
+            (1, &[7, 131_073]),
+            (1, &[65537, 7]),
+        ] {
+            assert_eq!(opened(s, raw), 5, "{raw:?}");
+        }
+    }
 
     #[test]
     fn zero_records_are_taken() {

@@ -3,6 +3,7 @@ use crate::decode::decode;
 use crate::erasures::{erased, gaps, Gap};
 use crate::header::Header;
 use crate::image::words;
+use crate::record::are_a_record;
 use crate::refusal::{number, test, Refusal};
 
 /// Decodes one stripe: a level, or k for the full stripe. Gives the number.
@@ -135,7 +136,7 @@ pub(crate) fn records(
         let number = block[0] as usize;
         number < header.records()
             && (stripe != header.k || number == place)
-            && block[1..].iter().all(|&x| x <= 65535)
+            && are_a_record(&block[1..])
     };
     let all = blocks.chunks(width).enumerate().all(is_record);
     test(all, Refusal::NotARecord)?;

@@ -15,6 +15,7 @@ pub enum Refusal {
     Blank,
     RoundStart,
     ReadingsDiffer,
+    Struck,
 }
 
 /// What holds, or the refusal. Calls make their tests in rising number, but for 12, which comes before 8 to 10, and 13, which comes right after 3.

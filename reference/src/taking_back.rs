@@ -122,6 +122,8 @@ mod tests {
     use super::*;
     use crate::field::P;
     use crate::opening::{build, open};
+    use crate::record::STRUCK;
+    use crate::striking::strike;
     use crate::writing::earlier_write;
     use random::Random;
 
@@ -166,10 +168,19 @@ mod tests {
             self.header = header;
         }
 
+        fn strike(&mut self, record: u32) {
+            let Buffers { raw, full, log, .. } = self;
+            let (number, header) = strike(self.header, raw, full, log, record);
+            assert_eq!(number, 0);
+            self.header = header;
+        }
+
+        /// A write, or a strike.
         fn any_write(&mut self, random: &mut Random) {
             let record = random.index(self.header.records()) as u32;
             let block = match random.below(4) {
                 0 => vec![0; self.header.data()],
+                1 => return self.strike(record),
                 _ => data(random, self.header.data()),
             };
             self.write(record, &block);
@@ -359,13 +370,15 @@ mod tests {
             buffers.code(stripe, blocks);
             buffers
         };
-        coded(0, &[5, 9]).restores(5, 105);
-        for block in [[8, 9], [65536, 9], [5, 65536]] {
+        for word in [9, 65535, 65536] {
+            coded(0, &[5, word]).restores(5, 105);
+        }
+        for block in [[8, 9], [65536, 9], [8, 65536]] {
             coded(0, &block).refused(10);
         }
         coded(1, &[4, 1, 7, 2]).restores(5, 105);
-        for (blocks, number) in [([4, 1, 8, 2], 10), ([4, 65536, 6, 2], 10)] {
-            coded(1, &blocks).refused(number);
+        for blocks in [[4, 1, 8, 2], [65536, 65536, 6, 2]] {
+            coded(1, &blocks).refused(10);
             let mut two = coded(1, &blocks);
             two.stripe(2)[0] = 65537;
             two.refused(10);
@@ -378,6 +391,56 @@ mod tests {
         coded(3, &full).restores(5, 9);
         full.swap(0, 2);
         coded(3, &full).refused(10);
+    }
+
+    /// A write to a struck record, and then a strike: what each replaced is there again, on a level that is split too.
+    #[test]
+    fn strikes_and_what_they_replaced() {
+        for s in [1, 2] {
+            let mut buffers = Buffers::zeros(Header { k: 2, s, c: 0 });
+            let Buffers { raw, full, log, .. } = &mut buffers;
+            raw[..s as usize].fill(STRUCK);
+            assert_eq!(open(2, s, raw, full, log).0, 0);
+            let mut before = Vec::new();
+            for (record, struck) in [(0, true), (0, false), (3, true)] {
+                before.push(buffers.clone());
+                if struck {
+                    buffers.strike(record);
+                } else {
+                    buffers.write(record, &vec![7; s as usize]);
+                }
+            }
+            for expected in before.iter().rev() {
+                assert_eq!((buffers.take_back(), &buffers), (0, expected));
+            }
+        }
+    }
+
+    /// 65536 in some data words of a block is refused 10, on each stripe that is decoded, and in all of them it is not.
+    #[test]
+    fn blocks_that_are_struck_in_some_words() {
+        let header = Header { k: 1, s: 3, c: 1 };
+        let mut good = Buffers::zeros(header);
+        let full = [0, 5, 6, 7, 1, 8, 9, 10];
+        good.code(0, &[1, 2, 3, 4]);
+        good.code(1, &full);
+        assert_eq!(good.clone().take_back(), 0);
+        for struck in 1..8 {
+            let number = if struck == 7 { 0 } else { 10 };
+            for (stripe, block) in [(0, 0), (1, 0), (1, 4)] {
+                let mut blocks = if stripe == 0 {
+                    vec![1, 2, 3, 4]
+                } else {
+                    full.to_vec()
+                };
+                for at in (0..3).filter(|at| struck >> at & 1 == 1) {
+                    blocks[block + 1 + at] = u64::from(STRUCK);
+                }
+                let mut buffers = good.clone();
+                buffers.code(stripe, &blocks);
+                assert_eq!(buffers.take_back(), number);
+            }
+        }
     }
 
     /// The raw copy is not read, and the rest of it stays as it is, whatever its words.

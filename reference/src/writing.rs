@@ -1,7 +1,8 @@
 //! Writing: the raw record replaced, and the first empty level, or at the end of a round the full stripe, built anew.
 use crate::field::{mul, pow, root, P};
 use crate::header::Header;
-use crate::opening::{are_data, build, lengths};
+use crate::opening::{build, lengths};
+use crate::record::are_data;
 use crate::refusal::{number, test, Refusal};
 use crate::stripe::{column, mix, rev, rows};
 
@@ -35,7 +36,7 @@ pub fn earlier_write(
 }
 
 /// The number, and the header afterwards: as it was, after a refusal.
-fn answer(header: Header, stored: Result<Header, Refusal>) -> (u32, Header) {
+pub(crate) fn answer(header: Header, stored: Result<Header, Refusal>) -> (u32, Header) {
     (number(&stored), stored.unwrap_or(header))
 }
 
@@ -55,8 +56,8 @@ fn tests(
     test(are_data(block), Refusal::DataWord)
 }
 
-/// Stores a block that passed its tests, and gives the header afterwards.
-fn store(
+/// Stores a block that passed its tests, or one that strikes, and gives the header afterwards.
+pub(crate) fn store(
     header: Header,
     raw: &mut [u32],
     full: &mut [u32],

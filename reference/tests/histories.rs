@@ -1,12 +1,14 @@
-//! Recovery after any history of writes, earlier writes and takings-back gives the records of the model (docs/FORMAT.md), whatever half of each stripe is
-//! lost, and from two readings, of which one has half of each stripe; and the explanation is the true one, whatever is lost.
+//! Recovery after any history of writes, earlier writes, strikes and takings-back gives the records of the model (docs/FORMAT.md), whatever half of each stripe
+//! is lost, and from two readings, of which one has half of each stripe; and the explanation is the true one, whatever is lost.
 use random::Random;
 use reference::explanation::explain;
 use reference::header::Header;
 use reference::image::image;
 use reference::opening::open;
 use reference::reading::read;
+use reference::record::STRUCK;
 use reference::recovery::{decode_stripe, recover};
+use reference::striking::strike;
 use reference::taking_back::take_back;
 use reference::two_readings::{recover_two, shelf_of_two, Place, Reading};
 use reference::writing::{earlier_write, write};
@@ -146,6 +148,15 @@ fn data(random: &mut Random, count: usize) -> Vec<u32> {
     (0..count).map(|_| random.below(65536) as u32).collect()
 }
 
+/// Records to open, of which some are struck.
+fn records(random: &mut Random, k: u32, s: u32) -> Vec<u32> {
+    let record = |random: &mut Random| match random.below(4) {
+        0 => vec![STRUCK; s as usize],
+        _ => data(random, s as usize),
+    };
+    (0..1 << k).flat_map(|_| record(random)).collect()
+}
+
 impl History {
     /// An opening of these records.
     fn open(k: u32, s: u32, raw: Vec<u32>) -> History {
@@ -176,6 +187,18 @@ impl History {
             assert_eq!(after, (&before.0, &before.1, &before.2));
             return;
         }
+        self.put(record, block, answer);
+    }
+
+    /// A strike of a record that there is.
+    fn strike(&mut self, record: u32) {
+        let (raw, full, log) = (&mut self.raw, &mut self.full, &mut self.log);
+        let answer = strike(self.header, raw, full, log, record);
+        self.put(record, &vec![STRUCK; self.header.data()], answer);
+    }
+
+    /// The model takes a write or a strike that the vault gave this answer to.
+    fn put(&mut self, record: u32, block: &[u32], answer: (u32, Header)) {
         self.before.push(self.book.clone());
         let start = record as usize * block.len();
         self.book[start..start + block.len()].copy_from_slice(block);
@@ -190,7 +213,16 @@ impl History {
             self.blocks.clear();
             self.before.clear();
         }
-        assert_eq!(read(self.header, &self.raw, record), (0, block));
+        self.reads();
+    }
+
+    /// Each record of the model is read, unless it is struck.
+    fn reads(&self) {
+        for (record, data) in (0..).zip(self.book.chunks(self.header.data())) {
+            let struck = data.iter().all(|&x| x == STRUCK);
+            let expected = if struck { (14, &[][..]) } else { (0, data) };
+            assert_eq!(read(self.header, &self.raw, record), expected);
+        }
     }
 
     /// A taking-back with a scratch of so many words more than it has to have: 2 if they are any, 12 at a round's start.
@@ -217,9 +249,10 @@ impl History {
         }
         assert!(scratch.iter().all(|&x| x == 0));
         assert_eq!(self.raw, self.book);
+        self.reads();
     }
 
-    /// A taking-back, one that is refused, or a write.
+    /// A taking-back, one that is refused, a write, or a strike.
     fn any_event(&mut self, random: &mut Random) {
         match random.below(16) {
             0..4 => self.take_back(0),
@@ -228,11 +261,12 @@ impl History {
         }
     }
 
-    /// A write or an earlier write of a block that is blank or not, to any record.
+    /// A strike, or a write or an earlier write of a block that is blank or not, to any record.
     fn any_write(&mut self, random: &mut Random) {
         let record = random.below(self.header.records() as u64) as u32;
         let block = match random.below(4) {
             0 => vec![0; self.header.data()],
+            1 => return self.strike(record),
             _ => data(random, self.header.data()),
         };
         self.write(random.below(2) == 0, record, &block);
@@ -292,8 +326,8 @@ impl History {
 
 /// Opens, and inspects after each `every`th event.
 fn run(random: &mut Random, k: u32, s: u32, events: usize, every: usize) {
-    let count = (s as usize) << k;
-    let mut history = History::open(k, s, data(random, count));
+    let raw = records(random, k, s);
+    let mut history = History::open(k, s, raw);
     for i in 0..=events {
         if i % every == 0 {
             history.inspect(random);
@@ -307,8 +341,8 @@ fn run(random: &mut Random, k: u32, s: u32, events: usize, every: usize) {
 fn rounds_are_taken_back() {
     let mut random = Random::new(9);
     for (k, s) in [(1, 1), (2, 3), (3, 1), (4, 2)] {
-        let count = (s as usize) << k;
-        let mut history = History::open(k, s, data(&mut random, count));
+        let raw = records(&mut random, k, s);
+        let mut history = History::open(k, s, raw);
         for _ in 0..3 {
             let start = (history.full.clone(), history.book.clone());
             while history.before.len() + 1 < 1 << k {
@@ -342,8 +376,8 @@ fn small_vaults() {
 fn two_readings() {
     let mut random = Random::new(10);
     for (k, s) in [(1, 1), (1, 3), (2, 1), (3, 2), (4, 1), (5, 2)] {
-        let count = (s as usize) << k;
-        let mut history = History::open(k, s, data(&mut random, count));
+        let raw = records(&mut random, k, s);
+        let mut history = History::open(k, s, raw);
         for _ in 0..6 << k {
             history.read_twice(&mut random);
             history.any_event(&mut random);
@@ -362,6 +396,23 @@ fn blank_blocks_alone() {
             history.write(true, 0, &vec![0; s as usize]);
             assert!(history.log.iter().all(|&x| x == 0));
         }
+    }
+}
+
+/// All records are opened struck, and struck again, and each round has one write.
+#[test]
+fn struck_records_alone() {
+    let mut random = Random::new(16);
+    for (k, s) in [(1, 1), (2, 2), (3, 1)] {
+        let mut history = History::open(k, s, vec![STRUCK; (s as usize) << k]);
+        for turn in 0..3 << k {
+            history.inspect(&mut random);
+            match turn % (1 << k) {
+                1 => history.write(false, 0, &vec![1; s as usize]),
+                other => history.strike(other),
+            }
+        }
+        history.inspect(&mut random);
     }
 }
 

@@ -9,7 +9,8 @@ use reference::two_readings::Place;
 use std::ptr;
 use vault_sys::{
     vault_decode, vault_explain, vault_image, vault_open, vault_powers, vault_read, vault_recover,
-    vault_recover_two, vault_shelf_of_two, vault_take_back, vault_write, VAULT_NO_SHELF,
+    vault_recover_two, vault_shelf_of_two, vault_strike, vault_take_back, vault_write,
+    VAULT_NO_SHELF,
 };
 
 /// A slice's pointer; of an empty one the null pointer, as C has it.
@@ -41,6 +42,7 @@ pub fn call(lender: &mut Lender, call: Call) -> Answer {
     match call {
         Call::Open => open(lender),
         Call::Write { record } => write(lender, record),
+        Call::Strike { record } => strike(lender, record),
         Call::TakeBack => take_back(lender),
         Call::Read { record } => read(lender, record),
         Call::Image => image(lender),
@@ -93,6 +95,27 @@ fn write(lender: &mut Lender, record: u32) -> Answer {
             first_mut(log), log.len(),
             record,
             first(block), block.len(),
+        )
+    };
+    Answer {
+        header: Some(lender.header),
+        ..Answer::of(number)
+    }
+}
+
+fn strike(lender: &mut Lender, record: u32) -> Answer {
+    let Header { k, s, c } = &mut lender.header;
+    let raw = lender.raw.part_mut();
+    let (full, log) = (lender.full.part_mut(), lender.log.part_mut());
+    // SAFETY: as said at the head of this file.
+    #[rustfmt::skip]
+    let number = unsafe {
+        vault_strike(
+            *k, *s, c,
+            first_mut(raw), raw.len(),
+            first_mut(full), full.len(),
+            first_mut(log), log.len(),
+            record,
         )
     };
     Answer {

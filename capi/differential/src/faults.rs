@@ -1,8 +1,11 @@
 //! What a call can be refused for before a stripe is decoded: each fault, and several at once.
 use crate::erasures::Broken;
 use crate::session::{Run, Session};
+use random::Random;
 use reference::calls::Call;
+use reference::header::Header;
 use reference::lent::{Buffer, Bytes, Lender, Lent, LIST, LIST2};
+use reference::record::STRUCK;
 
 #[derive(Clone, Debug)]
 pub enum Fault {
@@ -21,6 +24,8 @@ pub enum Fault {
     Blank,
     /// A bit of the second image is another, at some place of its full stripe.
     Differ(usize),
+    /// Words of the raw copy, from a place on.
+    Raw(usize, Vec<u32>),
 }
 
 impl Fault {
@@ -50,6 +55,10 @@ impl Fault {
                     *x ^= 1 << (bit % 8);
                 }
             }
+            Fault::Raw(first, words) => {
+                let part = lender.raw.part_mut().iter_mut().skip(*first);
+                part.zip(words).for_each(|(x, word)| *x = *word);
+            }
             Fault::Given(_) => {}
         }
     }
@@ -78,6 +87,12 @@ pub fn faulty(session: &mut Session, call: Call, faults: &[Fault]) -> Run<u32> {
         }
     })?;
     Ok(answer.number)
+}
+
+/// The record that a reading is given is struck, in a vault of so many data words.
+pub fn struck(call: Call, words: usize) -> Fault {
+    let first = call.row().given as usize * words;
+    Fault::Raw(first, vec![STRUCK; words])
 }
 
 /// Headers out of range, for a vault of n records.
@@ -125,6 +140,14 @@ fn any(session: &mut Session, call: Call) -> Fault {
         faults.push(Fault::Erasures(list, broken.list(random, size)));
         faults.push(Fault::Erasures(list, broken.list(random, size)));
     }
+    faults.extend(of_later_tests(random, header, call));
+    random.one(&faults).clone()
+}
+
+/// The faults for which a call may give a number from 4 on.
+fn of_later_tests(random: &mut Random, header: Header, call: Call) -> Vec<Fault> {
+    let (n, k) = (header.records() as u32, header.k);
+    let mut faults = Vec::new();
     if call.gives(4) {
         let record = *random.one(&[n, n + 1, 65536, 1 << 31, u32::MAX]);
         faults.push(Fault::Given(record));
@@ -142,12 +165,15 @@ fn any(session: &mut Session, call: Call) -> Fault {
     if call.gives(13) {
         faults.push(Fault::Differ(random.index(1 << 20)));
     }
+    if call.gives(14) {
+        faults.push(struck(call, header.data()));
+    }
     if call.gives(6) {
         let level = random.below(u64::from(k)) as u32;
         let stripe = *random.one(&[level, k + 1, k + 2, u32::MAX]);
         faults.push(Fault::Given(stripe));
     }
-    random.one(&faults).clone()
+    faults
 }
 
 /// Makes a call with one fault, or with several.

@@ -4,7 +4,8 @@ use crate::origins::origins;
 use crate::writes::{block, earlier_block};
 use random::Random;
 use reference::header::Header;
-use reference::{explanation, image, opening, recovery, taking_back, writing};
+use reference::record::{is_struck, STRUCK};
+use reference::{explanation, image, opening, recovery, striking, taking_back, writing};
 use std::path::PathBuf;
 use std::{env, fs, process};
 use vault_library as library;
@@ -42,23 +43,23 @@ impl Drop for Folder {
 struct History {
     k: u32,
     s: u32,
-    /// Record numbers and their blocks.
+    /// Record numbers and their blocks; that of a struck record is a strike.
     writes: Vec<(u32, Vec<u32>)>,
     /// How many of the last of them are taken back.
     taken_back: usize,
 }
 
-/// Makes histories by both, that of reference/ as an earlier vault wrote it; has each store its image and an erasure list, and the other recover from these
-/// files and explain it. Gives how many files were read.
+/// Makes histories with strikes by both, that of reference/ as an earlier vault wrote it; has each store its image and an erasure list, and the other
+/// recover from these files and explain it. Gives how many files were read.
 pub fn exchange(seed: u64, small: bool) -> Result<usize, String> {
     let folder = Folder::new(seed)?;
     let mut random = Random::new(seed ^ 0xf11e);
     let mut count = 0;
     for k in 1..=if small { 3 } else { 8 } {
         for s in [1, 3] {
-            let history = History::drawn(&mut random, k, s, block);
+            let history = History::drawn(&mut random, k, s, written_or_struck);
             history.by_library(&folder, &mut random)?;
-            let history = History::drawn(&mut random, k, s, earlier_block);
+            let history = History::drawn(&mut random, k, s, earlier_or_struck);
             history.by_reference(&folder, &mut random)?;
             count += 4;
         }
@@ -68,6 +69,22 @@ pub fn exchange(seed: u64, small: bool) -> Result<usize, String> {
 
 /// How a block of so many words is drawn.
 type Drawn = fn(&mut Random, usize) -> Vec<u32>;
+
+fn written_or_struck(random: &mut Random, count: usize) -> Vec<u32> {
+    or_struck(random, count, block)
+}
+
+fn earlier_or_struck(random: &mut Random, count: usize) -> Vec<u32> {
+    or_struck(random, count, earlier_block)
+}
+
+/// A block that is drawn so, or that of a strike.
+fn or_struck(random: &mut Random, count: usize, drawn: Drawn) -> Vec<u32> {
+    match random.below(4) {
+        0 => vec![STRUCK; count],
+        _ => drawn(random, count),
+    }
+}
 
 impl History {
     /// Writes of blocks that are drawn so.
@@ -148,7 +165,11 @@ impl History {
         let zeros = vec![0; library::sizes::raw(self.k, self.s)];
         let mut vault = library::Vault::open(self.k, self.s, zeros)?;
         for (record, block) in &self.writes {
-            vault.write(*record, block)?;
+            if is_struck(block) {
+                vault.strike(*record)?;
+            } else {
+                vault.write(*record, block)?;
+            }
         }
         for _ in 0..self.taken_back {
             vault.take_back()?;
@@ -196,21 +217,7 @@ impl History {
     /// The reference's image, and a list beside it, read by the library.
     fn by_reference(&self, folder: &Folder, random: &mut Random) -> Result<(), String> {
         let (k, s) = (self.k, self.s);
-        let opened = Header { k, s, c: 0 };
-        let mut raw = vec![0; opened.raw_len()];
-        let mut full = vec![0; opened.full_len()];
-        let mut log = vec![0; opened.log_len()];
-        let (_, mut header) = opening::open(k, s, &raw, &mut full, &mut log);
-        for (record, block) in &self.writes {
-            (_, header) =
-                writing::earlier_write(header, &mut raw, &mut full, &mut log, *record, block);
-        }
-        let mut scratch = vec![1; header.double_scratch_len()];
-        for _ in 0..self.taken_back {
-            (_, header) = taking_back::take_back(header, &mut raw, &full, &mut log, &mut scratch);
-        }
-        let mut image = vec![0; header.image_len()];
-        image::image(header, &full, &log, &mut image);
+        let (header, raw, image) = self.reference_vault();
         let marks = Loss::HalfAndEmpty.marks(random, header);
         folder.store(&image, &erasures::list(random, header, &marks))?;
 
@@ -225,6 +232,31 @@ impl History {
             return Err(format!("library, from the reference's files at {header:?}"));
         }
         self.explained_by_library(header, &image, &list, &marks)
+    }
+
+    /// The header, the raw copy and the image that the reference has afterwards.
+    fn reference_vault(&self) -> (Header, Vec<u32>, Vec<u8>) {
+        let (k, s) = (self.k, self.s);
+        let opened = Header { k, s, c: 0 };
+        let mut raw = vec![0; opened.raw_len()];
+        let mut full = vec![0; opened.full_len()];
+        let mut log = vec![0; opened.log_len()];
+        let (_, mut header) = opening::open(k, s, &raw, &mut full, &mut log);
+        for (record, block) in &self.writes {
+            let (raw, full, log) = (&mut raw, &mut full, &mut log);
+            (_, header) = if is_struck(block) {
+                striking::strike(header, raw, full, log, *record)
+            } else {
+                writing::earlier_write(header, raw, full, log, *record, block)
+            };
+        }
+        let mut scratch = vec![1; header.double_scratch_len()];
+        for _ in 0..self.taken_back {
+            (_, header) = taking_back::take_back(header, &mut raw, &full, &mut log, &mut scratch);
+        }
+        let mut image = vec![0; header.image_len()];
+        image::image(header, &full, &log, &mut image);
+        (header, raw, image)
     }
 
     fn explained_by_library(

@@ -30,11 +30,15 @@ fn fixed(small: bool) -> Vec<Scenario> {
         list.push(scenario(Kind::Alone, 10, 128));
         list.push(scenario(Kind::Alone, 10, 1));
         list.push(scenario(Kind::Alone, 6, 3));
+        list.push(scenario(Kind::Strikes, 2, 16));
     } else {
         list.push(scenario(Kind::Losses, 10, 3));
         list.push(scenario(Kind::Rounds, 10, 128));
         list.push(scenario(Kind::Rounds, 10, 1));
         list.push(scenario(Kind::Losses, 9, 128));
+        list.push(scenario(Kind::Strikes, 10, 128));
+        list.push(scenario(Kind::Strikes, 7, 16));
+        list.push(scenario(Kind::Strikes, 5, 128));
     }
     let most = if small { 3 } else { 10 };
     for k in (1..=most).rev() {
@@ -42,6 +46,7 @@ fn fixed(small: bool) -> Vec<Scenario> {
             Kind::Losses,
             Kind::TakingBack,
             Kind::TwoReadings,
+            Kind::Strikes,
             Kind::Refusals,
             Kind::Rounds,
             Kind::Blocks,
@@ -73,11 +78,12 @@ fn drawn(random: &mut Random, small: bool) -> Scenario {
         _ if k <= 4 => 1 + random.below(128),
         _ => 1,
     };
-    let kind = match random.below(14) {
+    let kind = match random.below(15) {
         0..6 => Kind::History,
         6 | 7 => Kind::Foreign,
         8 | 9 => Kind::Blocks,
         10 | 11 => Kind::TwoReadings,
+        12 => Kind::Strikes,
         _ => Kind::TakingBack,
     };
     Scenario {

@@ -5,7 +5,7 @@ use std::fmt::{self, Display, Formatter};
 const CALLS: usize = Call::COUNT;
 
 /// The numbers of the table of refusals, from 0.
-const NUMBERS: usize = 14;
+const NUMBERS: usize = 15;
 
 /// The calls, each with any numbers, in the order of the counts.
 fn calls() -> [Call; CALLS] {
@@ -24,11 +24,17 @@ pub struct Tally {
     full: [[u64; CALLS]; 11],
     /// For each k, what was met of blank blocks, in the order of `BLANK`.
     blank: [[u64; BLANK.len()]; 11],
+    /// For each k, what was met of struck records, in the order of `STRUCK`.
+    struck: [[u64; STRUCK.len()]; 11],
 }
 
 /// What is met of blank blocks: writes that were refused 11, earlier writes that were taken, and recoveries of which a record is zeros that a write of the
 /// round left, as only an earlier one can.
 const BLANK: [&str; 3] = ["refused", "earlier", "recover"];
+
+/// What is met of struck records: readings that were refused 14, and recoveries of which a record is struck by a strike of the round, or comes so from the full
+/// stripe.
+const STRUCK: [&str; 3] = ["read", "strike", "full"];
 
 impl Tally {
     pub fn calls(&self) -> u64 {
@@ -44,6 +50,9 @@ impl Tally {
         }
         if number == 11 {
             self.blank[k as usize][0] += 1;
+        }
+        if number == 14 {
+            self.struck[k as usize][0] += 1;
         }
         match answer.stripe {
             Some(stripe) if stripe == k => self.full[number][call] += 1,
@@ -62,6 +71,11 @@ impl Tally {
         self.blank[k as usize][2] += 1;
     }
 
+    /// Counts a recovery that gave a struck record, from a level or from the full stripe.
+    pub fn count_struck(&mut self, k: u32, full: bool) {
+        self.struck[k as usize][if full { 2 } else { 1 }] += 1;
+    }
+
     pub fn add(&mut self, other: &Tally) {
         fn add<const N: usize, const M: usize>(to: &mut [[u64; N]; M], from: &[[u64; N]; M]) {
             for (x, y) in to.iter_mut().flatten().zip(from.iter().flatten()) {
@@ -73,10 +87,11 @@ impl Tally {
         add(&mut self.levels, &other.levels);
         add(&mut self.full, &other.full);
         add(&mut self.blank, &other.blank);
+        add(&mut self.struck, &other.struck);
     }
 
-    /// What did not occur: each number of each call, each call taken and each of `BLANK` at each k up to `most`, and each fault of recovery and of its
-    /// explanation on a level and on the full stripe.
+    /// What did not occur: each number of each call, each call taken and each of `BLANK` and of `STRUCK` at each k up to `most`, and each fault of recovery and
+    /// of its explanation on a level and on the full stripe.
     pub fn missing(&self, most: usize) -> Vec<String> {
         let mut missing = Vec::new();
         for call in calls() {
@@ -84,7 +99,10 @@ impl Tally {
             missing.extend(self.sizes_missing(call, most));
             missing.extend(self.places_missing(call));
         }
-        missing.extend((1..=most).flat_map(|k| self.blanks_missing(k)));
+        for k in 1..=most {
+            missing.extend(never_met("blank blocks", k, &BLANK, &self.blank[k]));
+            missing.extend(never_met("struck records", k, &STRUCK, &self.struck[k]));
+        }
         missing
     }
 
@@ -99,11 +117,6 @@ impl Tally {
         sizes.map(move |k| format!("{} was never taken at k = {k}", call.name()))
     }
 
-    fn blanks_missing(&self, k: usize) -> impl Iterator<Item = String> + '_ {
-        let blanks = BLANK.iter().zip(&self.blank[k]).filter(|x| *x.1 == 0);
-        blanks.map(move |x| format!("of blank blocks none was met at k = {k}: {}", x.0))
-    }
-
     /// Of calls that decode (7) and are given no stripe (6): they name the stripe at fault.
     fn places_missing(&self, call: Call) -> impl Iterator<Item = String> + '_ {
         let numbers = (7..=10).filter(move |_| call.gives(7) && !call.gives(6));
@@ -113,6 +126,17 @@ impl Tally {
         let name = call.name();
         missing.map(move |(number, place)| format!("{name} never gave {number} on {}", place.1))
     }
+}
+
+/// Which of these were never counted at this k.
+fn never_met<'a>(
+    of: &'a str,
+    k: usize,
+    names: &'a [&str],
+    counts: &'a [u64],
+) -> impl Iterator<Item = String> + 'a {
+    let never = names.iter().zip(counts).filter(|x| *x.1 == 0);
+    never.map(move |x| format!("of {of} none was met at k = {k}: {}", x.0))
 }
 
 impl Display for Tally {
@@ -131,7 +155,8 @@ impl Display for Tally {
             writeln!(f)?;
         }
         by_k(f, "taken, k", &names, &self.taken)?;
-        by_k(f, "blank, k", &BLANK, &self.blank)
+        by_k(f, "blank, k", &BLANK, &self.blank)?;
+        by_k(f, "struck, k", &STRUCK, &self.struck)
     }
 }
 

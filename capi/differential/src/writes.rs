@@ -1,10 +1,11 @@
-//! The writes of a history (docs/FORMAT.md, section 11): those of today, which are taken or refused for a blank block, and those of an earlier vault, which
-//! took it.
+//! The writes of a history (docs/FORMAT.md, section 11): those of today, which are taken or refused for a blank block, those of an earlier vault, which took
+//! it, and strikes.
 use crate::session::{Run, Session};
 use random::Random;
 use reference::by_reference;
 use reference::calls::Call;
 use reference::header::Header;
+use reference::record::STRUCK;
 
 /// Data words, often the least or the greatest.
 pub fn data(random: &mut Random, count: usize) -> Vec<u32> {
@@ -14,6 +15,36 @@ pub fn data(random: &mut Random, count: usize) -> Vec<u32> {
         _ => random.below(65536) as u32,
     };
     (0..count).map(&mut word).collect()
+}
+
+/// The data of a record: data words, or one time in eight those of a struck one.
+pub fn record_data(random: &mut Random, count: usize) -> Vec<u32> {
+    match random.below(8) {
+        0 => vec![STRUCK; count],
+        _ => data(random, count),
+    }
+}
+
+/// The records of an opening, of which none, some or all are struck.
+pub fn records(random: &mut Random, header: Header) -> Vec<u32> {
+    let mut raw = data(random, header.raw_len());
+    let struck = *random.one(&[0, 1, 3, 8]);
+    for record in raw.chunks_mut(header.data()) {
+        if random.below(8) < struck {
+            record.fill(STRUCK);
+        }
+    }
+    raw
+}
+
+/// Makes some data words 65536, and others not, as in no record; of one word none is left.
+pub fn strike_some<T: From<u32>>(random: &mut Random, data: &mut [T]) {
+    let count = random.index(data.len());
+    let struck = random.some(data.len(), count.max(1).min(data.len() - 1));
+    for (at, word) in data.iter_mut().enumerate() {
+        let other = random.below(65536) as u32;
+        *word = T::from(if struck.contains(&at) { STRUCK } else { other });
+    }
 }
 
 /// Whether number 11 applies to a block of data words.
@@ -91,15 +122,43 @@ pub fn earlier_write(session: &mut Session, block: &[u32]) -> Run<u32> {
     Ok(record)
 }
 
-/// The next write of a history, of today or an earlier one; at times a blank block is refused before it. Gives the record.
+/// A strike, of a record that may be struck: it is taken, and the record is not read then. Gives the record.
+pub fn strike(session: &mut Session) -> Run<u32> {
+    let header = session.header();
+    let record = record(&mut session.random, header);
+    let answer = session.call(Call::Strike { record })?;
+    session.expect(answer.number == 0, "a strike was refused")?;
+    let answer = session.call(Call::Read { record })?;
+    session.expect(answer.number == 14, "a struck record was read")?;
+    Ok(record)
+}
+
+/// A write of the words that a strike leaves: it is refused, and changes nothing.
+pub fn struck_write(session: &mut Session) -> Run<()> {
+    let header = session.header();
+    let record = record(&mut session.random, header);
+    session.set(|lender| lender.block.set(&vec![STRUCK; header.data()]));
+    let before = session.lent().clone();
+    let answer = session.call(Call::Write { record })?;
+    let holds = answer.number == 5 && *session.lent() == before;
+    session.expect(holds, "a write of a struck record was not refused")
+}
+
+/// The next write of a history, of today or an earlier one, or a strike; at times a blank block is refused before it, or the words of a strike are. Gives the
+/// record.
 pub fn next_write(session: &mut Session) -> Run<u32> {
-    if session.random.below(12) == 0 {
-        blank_write(session)?;
+    match session.random.below(24) {
+        0 | 1 => blank_write(session)?,
+        2 => struck_write(session)?,
+        _ => {}
     }
-    if session.random.below(4) > 0 {
-        return write(session);
+    match session.random.below(8) {
+        0 => strike(session),
+        1 | 2 => {
+            let words = session.header().data();
+            let block = earlier_block(&mut session.random, words);
+            earlier_write(session, &block)
+        }
+        _ => write(session),
     }
-    let words = session.header().data();
-    let block = earlier_block(&mut session.random, words);
-    earlier_write(session, &block)
 }

@@ -109,6 +109,7 @@ pub enum Change {
 pub enum Call {
     Open,
     Write { record: u32 },
+    Strike { record: u32 },
     Read { record: u32 },
     Image,
     Decode { stripe: u32 },
@@ -164,6 +165,7 @@ impl TryFrom<(u8, [u32; 3])> for Command {
             15 => Command::Call(Call::RecoverTwo),
             16 => Command::Call(Call::ShelfOfTwo { stripe: a }),
             17 => Command::Change(Change::Exchange),
+            18 => Command::Call(Call::Strike { record: a }),
             _ => return Err(Unknown),
         })
     }

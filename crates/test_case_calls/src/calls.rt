@@ -66,6 +66,22 @@ impl<P: Print> Test<'_, P> {
         output::words(self.out, " log", self.state.log.part());
     }
 
+    pub(crate) fn strike(&mut self, record: u32) {
+        let state = &mut self.state;
+        let before = state.header;
+        let struck = calls::strike(
+            before,
+            state.raw.part_mut(),
+            state.full.part_mut(),
+            state.log.part_mut(),
+            record,
+        );
+        self.header("strike", struck, before);
+        output::words(self.out, " raw", self.state.raw.part());
+        output::words(self.out, " full", self.state.full.part());
+        output::words(self.out, " log", self.state.log.part());
+    }
+
     // So many words are lent to it for its scratch, which hold what no scratch does afterwards.
     pub(crate) fn take_back(&mut self, count: usize) {
         let state = &mut self.state;

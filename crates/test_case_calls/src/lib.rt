@@ -21,6 +21,7 @@ impl<P: Print> Test<'_, P> {
         match call {
             Call::Open => self.open(),
             Call::Write { record } => self.write(record),
+            Call::Strike { record } => self.strike(record),
             Call::Read { record } => self.read(record),
             Call::Image => self.image(),
             Call::Decode { stripe } => self.decode(stripe),

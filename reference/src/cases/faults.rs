@@ -56,7 +56,7 @@ pub fn add(script: &mut Script, call: &Accepted) {
 
 /// Tests are made in rising number, but 13 comes right after 3, and those of a stripe come last.
 fn turn(number: &u32) -> usize {
-    let order = [1, 2, 3, 13, 4, 5, 6, 11, 12, 7, 8, 9, 10];
+    let order = [1, 2, 3, 13, 4, 5, 6, 11, 12, 14, 7, 8, 9, 10];
     let found = order.iter().position(|other| other == number);
     found.expect("a number of the table")
 }

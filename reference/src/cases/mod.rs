@@ -8,6 +8,8 @@ mod listings;
 mod losses;
 mod openings;
 mod recoveries;
+mod strikes;
+mod struck;
 mod tables;
 mod taking_back;
 mod two_readings;
@@ -192,6 +194,8 @@ fn script() -> Script {
     listings::add_blanks(&mut script);
     taking_back::add(&mut script);
     two_readings::add(&mut script);
+    strikes::add(&mut script);
+    struck::add(&mut script);
     script
 }
 

@@ -151,7 +151,7 @@ pub fn recode(script: &mut Script, stripe: u32, blocks: &[u64]) {
     script.push(Command::Load(Bytes::Image, at, bytes.collect()));
 }
 
-/// Blocks that are no records on each stripe, alone, with losses, and with an altered word besides.
+/// Blocks that are no records on each stripe, alone, with losses, and with an altered word besides. Where records have one word, 65536 in it is a strike.
 fn no_records(script: &mut Script, k: u32, s: u32, writes: usize) {
     let header = open_and_write(script, k, s, writes);
     let (n, width) = (header.records() as u64, header.width());

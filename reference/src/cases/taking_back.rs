@@ -19,7 +19,7 @@ fn gives(script: &mut Script, number: u32) {
 }
 
 /// A write of this block.
-fn write(script: &mut Script, record: u32, block: &[u32]) {
+pub fn write(script: &mut Script, record: u32, block: &[u32]) {
     for (at, &word) in (0..).zip(block) {
         script.push(Command::Put(Words::Block, at, word));
     }
@@ -27,7 +27,7 @@ fn write(script: &mut Script, record: u32, block: &[u32]) {
 }
 
 /// An opening of these records, over garbage.
-fn open(script: &mut Script, k: u32, s: u32, records: &[u32]) {
+pub fn open(script: &mut Script, k: u32, s: u32, records: &[u32]) {
     script.begin(Header { k, s, c: 0 });
     for (at, &word) in (0..).zip(records) {
         script.push(Command::Put(Words::Raw, at, word));
@@ -67,7 +67,7 @@ fn of_the_document(script: &mut Script) {
 }
 
 /// Recovers and explains the image of the vault as it is, with nothing lost and with half of each stripe lost: what is recovered is the raw copy.
-fn read_back(script: &mut Script, cover: Cover) {
+pub fn read_back(script: &mut Script, cover: Cover) {
     let header = script.machine.header();
     let half = lose_each(script, |_, size| size);
     for (lost, garbage) in [(nothing(header), Garbage::None), (half, Garbage::Positions)] {
@@ -80,7 +80,7 @@ fn read_back(script: &mut Script, cover: Cover) {
 }
 
 /// Taking back in a history: it is taken, but for one at a round's start.
-fn of_a_history(script: &mut Script) {
+pub fn of_a_history(script: &mut Script) {
     let start = script.machine.header().c == 0;
     gives(script, if start { 12 } else { 0 });
 }
@@ -322,10 +322,10 @@ fn spoilt(script: &mut Script) {
                 vault.spoil(&mut script.random, stripe, in_field);
                 taken_back_from(script, &vault, number(refusal));
             }
-            for blocks in no_records(script, s, stripe, &stripes[stripe as usize]) {
+            for (blocks, refusal) in no_records(script, s, stripe, &stripes[stripe as usize]) {
                 let mut vault = good.clone();
                 vault.code(stripe, &blocks);
-                taken_back_from(script, &vault, number(10));
+                taken_back_from(script, &vault, number(refusal));
                 vault.spoil(&mut script.random, stripe, true);
                 taken_back_from(script, &vault, number(9));
             }
@@ -333,18 +333,21 @@ fn spoilt(script: &mut Script) {
     }
 }
 
-/// The blocks of a stripe with a number or a word that no record has; on the full stripe a number that is not in its place, too.
-fn no_records(script: &mut Script, s: u32, stripe: u32, good: &[u64]) -> Vec<Vec<u64>> {
+/// The blocks of a stripe with a number that no record has, or with 65536 in one data word, which is a strike where that is the only one; on the full stripe
+/// with a number that is not in its place, too. Each with its number.
+fn no_records(script: &mut Script, s: u32, stripe: u32, good: &[u64]) -> Vec<(Vec<u64>, u32)> {
     let at = script.random.index(1 << stripe) * (1 + s as usize);
     let column = 1 + script.random.index(s as usize);
-    let mut changes = vec![(at, 8), (at, 65535), (at, 65536), (at + column, 65536)];
+    let struck = if s == 1 { 0 } else { 10 };
+    let mut changes = vec![(at, 8, 10), (at, 65535, 10), (at, 65536, 10)];
+    changes.push((at + column, 65536, struck));
     if stripe == 3 {
-        changes.push((at, (good[at] + 1) % 8));
+        changes.push((at, (good[at] + 1) % 8, 10));
     }
-    let changed = |(at, word): (usize, u64)| {
+    let changed = |(at, word, number): (usize, u64, u32)| {
         let mut blocks = good.to_vec();
         blocks[at] = word;
-        blocks
+        (blocks, number)
     };
     changes.into_iter().map(changed).collect()
 }
@@ -359,7 +362,7 @@ fn two_stripes(script: &mut Script) {
                 for (stripe, number) in [lower, upper].into_iter().zip(numbers) {
                     if number == 10 {
                         let blocks = no_records(script, 1, stripe, &stripes[stripe as usize]);
-                        vault.code(stripe, &blocks[0]);
+                        vault.code(stripe, &blocks[0].0);
                     } else {
                         vault.spoil(&mut script.random, stripe, number == 9);
                     }

@@ -248,7 +248,7 @@ fn twice(script: &mut Script, lost: &[bool]) {
 const COVERS: [Cover; 4] = [Cover::Whole, Cover::Part, Cover::Touch, Cover::Single];
 
 /// The vault as it is, read twice in each of these ways.
-fn all(script: &mut Script, turn: usize) {
+pub fn all(script: &mut Script, turn: usize) {
     let lost = losses(script);
     read(script, &lost, COVERS[turn % 4], Garbage::Positions);
     recovers(script);
@@ -356,7 +356,7 @@ fn no_records(script: &mut Script) {
 }
 
 /// Recovery with the code of other blocks on a stripe of the first image gives this number, and with the readings exchanged none.
-fn no_record(script: &mut Script, lost: &Lost, stripe: u32, blocks: &[u64], number: u32) {
+pub fn no_record(script: &mut Script, lost: &Lost, stripe: u32, blocks: &[u64], number: u32) {
     read(script, lost, Cover::Touch, Garbage::None);
     recode(script, stripe, blocks);
     gives(script, number);

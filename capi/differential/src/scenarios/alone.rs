@@ -5,16 +5,18 @@ use crate::erasures::{self, Loss, Marks};
 use crate::guarded::{guarded, lend_output};
 use crate::origins::origins;
 use crate::session::{Run, Session};
-use crate::writes::{block, data};
+use crate::writes::{block, records, strike_some};
 use reference::by_reference;
 use reference::calls::Call;
+use reference::header::Header;
 use reference::lent::Lender;
+use reference::record::{are_a_record, STRUCK};
 
 /// Writes a round but for its last write, loses half of each stripe, recovers and explains, and takes back some writes: by the library alone, but for the
 /// earlier writes.
 pub fn alone(session: &mut Session) -> Run<()> {
     let mut lender = guarded(session.header(), 0);
-    let mut book = data(&mut session.random, lender.raw.part().len());
+    let mut book = records(&mut session.random, lender.header);
     lender.raw.set(&book);
     taken(session, &mut lender, Call::Open)?;
     let mut written = Vec::new();
@@ -33,10 +35,9 @@ pub fn alone(session: &mut Session) -> Run<()> {
     read_back(session, &mut lender, &book)?;
     read_twice(session, &mut lender, &book)?;
     explained(session, &mut lender, &marks, &written)?;
-    before
-        .iter()
-        .rev()
-        .try_for_each(|before| taken_back(session, &mut lender, before))
+    let mut before = before.iter().rev();
+    before.try_for_each(|before| taken_back(session, &mut lender, before))?;
+    struck_blocks(session, &mut lender)
 }
 
 /// How many writes are taken back: the last of them alone on its level, and one from a level that is split.
@@ -99,8 +100,42 @@ fn explained(session: &Session, lender: &mut Lender, marks: &Marks, written: &[u
     session.expect(holds, "the library alone did not explain the recovery")
 }
 
-/// A write of the library's that is taken, or of a blank block one of reference/, as an earlier vault made it: so is the round's last. At times the library is
-/// given a blank block before, and refuses it. Gives the record, which the book has then.
+/// The full stripe of raw words of which a record is struck in all words, and then another in some, as no opening takes it. A write that ends the round codes
+/// them.
+fn struck_blocks(session: &mut Session, lender: &mut Lender) -> Run<()> {
+    let Header { k, .. } = lender.header;
+    for all in [true, false] {
+        let random = &mut session.random;
+        let mut words = vec![STRUCK; lender.header.data()];
+        if !all {
+            strike_some(random, &mut words);
+        }
+        let number = if are_a_record(&words) { 0 } else { 10 };
+        let record = 1 + random.index(lender.header.records() - 1);
+        lender.header.c = (1 << k) - 1;
+        lender.raw.part_mut()[record * words.len()..][..words.len()].copy_from_slice(&words);
+        lender.block.set(&block(random, words.len()));
+        taken(session, lender, Call::Write { record: 0 })?;
+        taken(session, lender, Call::Image)?;
+        let image = lender.image.part().to_vec();
+        lender.image2.set(&image);
+        for call in [
+            Call::Decode { stripe: k },
+            Call::Recover,
+            Call::Explain,
+            Call::RecoverTwo,
+        ] {
+            lend_output(lender, call);
+            let answer = by_library::call(lender, call);
+            let what = "the library alone gave another number for a struck block";
+            session.expect(answer.number == number, what)?;
+        }
+    }
+    Ok(())
+}
+
+/// A write of the library's that is taken, or a strike, or of a blank block a write of reference/, as an earlier vault made it: so is the round's last. At
+/// times the library is given a blank block before, and refuses it. Gives the record, which the book has then.
 fn write(session: &mut Session, lender: &mut Lender, book: &mut [u32]) -> Run<u32> {
     let (random, header) = (&mut session.random, lender.header);
     let record = random.below(header.records() as u64) as u32;
@@ -115,6 +150,11 @@ fn write(session: &mut Session, lender: &mut Lender, book: &mut [u32]) -> Run<u3
     if last || random.below(16) == 0 {
         lender.block.set(&blank);
         numbers.push((by_reference::earlier_write(lender, record).number, 0));
+    } else if random.below(16) == 0 {
+        lender.block.set(&vec![STRUCK; header.data()]);
+        numbers.push((by_library::call(lender, write).number, 5));
+        numbers.push((by_library::call(lender, Call::Strike { record }).number, 0));
+        numbers.push((by_library::call(lender, Call::Read { record }).number, 14));
     } else {
         lender.block.set(&block(random, header.data()));
         numbers.push((by_library::call(lender, write).number, 0));

@@ -3,7 +3,7 @@ use super::damage::{alter_survivor, lose};
 use super::steps::{decode_all, recover_allowed};
 use crate::erasures::{self, Loss};
 use crate::session::{Run, Session};
-use crate::writes::data;
+use crate::writes::{record_data, strike_some};
 use random::Random;
 use reference::calls::Call;
 use reference::field::P;
@@ -41,7 +41,7 @@ pub fn lend_image(session: &mut Session) {
     });
 }
 
-/// Blocks of a stripe: records, or with a number or a word that no record has.
+/// Blocks of a stripe: records, or with a number or with data words that no record has.
 fn any_blocks(random: &mut Random, header: Header, stripe: u32) -> Vec<u64> {
     let (n, count, width) = (header.records() as u64, 1 << stripe, header.width());
     let mut blocks = Vec::new();
@@ -52,14 +52,16 @@ fn any_blocks(random: &mut Random, header: Header, stripe: u32) -> Vec<u64> {
             random.below(n)
         };
         blocks.push(number);
-        blocks.extend(data(random, header.data()).iter().map(|&x| u64::from(x)));
+        let data = record_data(random, header.data());
+        blocks.extend(data.into_iter().map(u64::from));
     }
     let row = width * random.index(count);
-    match random.below(8) {
+    match random.below(9) {
         0 => blocks[row] = random.below(P),
         1 => blocks[row] = n,
         2 => blocks[row + 1 + random.index(header.data())] = 65536,
         3 => blocks[row] = 65536,
+        4 => strike_some(random, &mut blocks[row + 1..row + width]),
         _ => {}
     }
     blocks

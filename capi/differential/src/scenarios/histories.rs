@@ -1,4 +1,4 @@
-//! Histories: writes of several rounds, alone or mixed with everything else, takings-back among it.
+//! Histories: writes and strikes of several rounds, alone or mixed with everything else, takings-back among it.
 use super::refusals::any_refusal;
 use super::steps::{inspect, open, read, recover_after};
 use super::taking_back::take_back;

@@ -7,6 +7,7 @@ mod histories;
 mod losses;
 mod refusals;
 mod steps;
+mod strikes;
 mod taking_back;
 mod two_readings;
 
@@ -21,9 +22,9 @@ pub enum Kind {
     Refusals,
     /// A round but for its last write, then each kind of loss.
     Losses,
-    /// Writes of several rounds and nothing else.
+    /// Writes and strikes of several rounds and nothing else.
     Rounds,
-    /// Writes of several rounds, takings-back, readings, images, losses and refusals, mixed.
+    /// Writes and strikes of several rounds, takings-back, readings, images, losses and refusals, mixed.
     History,
     /// Buffers that no opening made.
     Foreign,
@@ -33,6 +34,8 @@ pub enum Kind {
     TakingBack,
     /// Two readings of what a history left, of blocks that no history wrote, and of any bytes.
     TwoReadings,
+    /// Strikes of a record again and again, and words that are 65536 in all of a record or in some, raw and in blocks.
+    Strikes,
     /// Recovery at sizes where the reference is too slow: the library alone, against the records written.
     Alone,
 }
@@ -60,6 +63,7 @@ impl Scenario {
             Kind::Blocks => blocks::blocks(&mut session)?,
             Kind::TakingBack => taking_back::taking_back(&mut session)?,
             Kind::TwoReadings => two_readings::two_readings(&mut session)?,
+            Kind::Strikes => strikes::strikes(&mut session)?,
             Kind::Alone => alone::alone(&mut session)?,
         }
         Ok(session.tally)

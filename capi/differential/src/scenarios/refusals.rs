@@ -3,12 +3,13 @@ use super::steps::open;
 use crate::erasures::Broken;
 use crate::faults::{self, Fault};
 use crate::session::{Run, Session};
-use crate::writes::{block, data, next_write};
+use crate::writes::{block, data, next_write, strike_some};
 use random::Random;
 use reference::calls::Call;
 use reference::header::Header;
 use reference::lent::OUT;
 use reference::powers::ENTRIES;
+use reference::record::STRUCK;
 
 /// A call at random, with faults at random.
 pub fn any_refusal(session: &mut Session) -> Run<()> {
@@ -35,6 +36,7 @@ pub fn refusals(session: &mut Session) -> Run<()> {
             (11, Fault::Blank),
             (12, Fault::C(0)),
             (13, Fault::Differ(bit)),
+            (14, faults::struck(call, header.data())),
         ] {
             if call.gives(other.0) {
                 each_number(session, call, Some(&other))?;
@@ -101,18 +103,34 @@ fn faults_for(session: &mut Session, call: Call, number: u32) -> Vec<Fault> {
         4 => [n, n + 1, 2 * n, 65536, 1 << 31, u32::MAX]
             .map(Fault::Given)
             .to_vec(),
-        5 => [65536, 65537, 131_072, 1 << 31, u32::MAX]
-            .map(|word| Fault::DataWord(session.random.index(1 << 20), word))
-            .to_vec(),
+        5 => data_words(&mut session.random, header, call),
         6 => no_stripes(header),
         11 => vec![Fault::Blank],
         12 => vec![Fault::C(0)],
+        14 => vec![faults::struck(call, header.data())],
         // Any bit of a word.
         13 => (0..32)
             .map(|bit| Fault::Differ(32 * session.random.index(1 << 15) + bit))
             .collect(),
         _ => Vec::new(),
     }
+}
+
+/// Words above 65535. In an opening 65536 in all words of a record is none of these faults, but in some of them it is.
+fn data_words(random: &mut Random, header: Header, call: Call) -> Vec<Fault> {
+    let words = [65537, 131_072, 131_073, 1 << 31, u32::MAX];
+    let mut faults = words
+        .map(|word| Fault::DataWord(random.index(1 << 20), word))
+        .to_vec();
+    if call != Call::Open {
+        faults.push(Fault::DataWord(random.index(1 << 20), STRUCK));
+    } else if header.data() > 1 {
+        let first = random.index(header.records()) * header.data();
+        let mut words = vec![0; header.data()];
+        strike_some(random, &mut words);
+        faults.push(Fault::Raw(first, words));
+    }
+    faults
 }
 
 /// Three lists of each kind, for each list that the call is lent.

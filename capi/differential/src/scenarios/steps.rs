@@ -2,16 +2,17 @@
 use super::damage::{alter, alter_survivor, lose};
 use crate::erasures::{self, Loss};
 use crate::session::{Run, Session};
-use crate::writes::{data, is_blank};
+use crate::writes::{is_blank, records};
 use reference::calls::{Answer, Call};
 use reference::lent::Lender;
+use reference::record::is_struck;
 
-/// An opening that is taken, at times of zero records.
+/// An opening that is taken, of records some of which may be struck; at times of zero records.
 pub fn open(session: &mut Session) -> Run<()> {
-    let words = session.header().raw_len();
+    let header = session.header();
     let raw = match session.random.below(8) {
-        0 => vec![0; words],
-        _ => data(&mut session.random, words),
+        0 => vec![0; header.raw_len()],
+        _ => records(&mut session.random, header),
     };
     session.set(|lender| {
         lender.raw.set(&raw);
@@ -62,6 +63,11 @@ pub fn recover_after(session: &mut Session, loss: Loss) -> Run<bool> {
     if has_blank_write(session.lent()) {
         session.tally.count_recovered(header.k);
     }
+    for full in [false, true] {
+        if has_struck(session.lent(), full) {
+            session.tally.count_struck(header.k, full);
+        }
+    }
     Ok(true)
 }
 
@@ -70,6 +76,13 @@ pub fn has_blank_write(lender: &Lender) -> bool {
     let records = lender.raw.part().chunks(lender.header.data());
     let mut origins = lender.out.part().chunks(2).zip(records);
     origins.any(|(origin, record)| origin[0] < lender.header.k && is_blank(record))
+}
+
+/// Whether a struck record comes from a level, or from the full stripe: by its origin.
+pub fn has_struck(lender: &Lender, full: bool) -> bool {
+    let records = lender.raw.part().chunks(lender.header.data());
+    let mut origins = lender.out.part().chunks(2).zip(records);
+    origins.any(|(origin, record)| is_struck(record) && (origin[0] == lender.header.k) == full)
 }
 
 /// A stripe, mostly one that is filled.

@@ -5,7 +5,7 @@ use crate::erasures::Loss;
 use crate::faults;
 use crate::origins::origins;
 use crate::session::{Run, Session};
-use crate::writes::{data, next_write};
+use crate::writes::{next_write, record_data, strike_some};
 use random::Random;
 use reference::calls::Call;
 use reference::header::Header;
@@ -37,9 +37,9 @@ pub fn take_back(session: &mut Session) -> Run<()> {
     )
 }
 
-/// The writes of a round: of each the record, and the raw copy and the log before it.
+/// The writes of a round, strikes among them: of each the record, and the raw copy and the log before it.
 #[derive(Default)]
-struct Round {
+pub struct Round {
     written: Vec<u32>,
     before: Vec<(Vec<u32>, Vec<u32>)>,
 }
@@ -51,8 +51,17 @@ fn raw_and_log(session: &Session) -> (Vec<u32>, Vec<u32>) {
 
 impl Round {
     fn write(&mut self, session: &mut Session) -> Run<()> {
+        self.event(session, next_write)
+    }
+
+    /// An event that gives the record that it puts something into.
+    pub fn event(
+        &mut self,
+        session: &mut Session,
+        event: impl Fn(&mut Session) -> Run<u32>,
+    ) -> Run<()> {
         self.before.push(raw_and_log(session));
-        self.written.push(next_write(session)?);
+        self.written.push(event(session)?);
         if session.header().c == 0 {
             *self = Round::default();
         }
@@ -60,7 +69,7 @@ impl Round {
     }
 
     /// Takes back the last write, if there is one: the vault is as it was before it. Both leave the full stripe as it is.
-    fn take_back(&mut self, session: &mut Session) -> Run<()> {
+    pub fn take_back(&mut self, session: &mut Session) -> Run<()> {
         take_back(session)?;
         self.written.pop();
         let same = match self.before.pop() {
@@ -75,7 +84,7 @@ impl Round {
     }
 
     /// The image after a loss: the raw copy is recovered, and the origins are the writes that are left.
-    fn recovered(&self, session: &mut Session) -> Run<()> {
+    pub fn recovered(&self, session: &mut Session) -> Run<()> {
         let loss = *session.random.one(&Loss::ALL);
         if session.is_allowed() && recover_after(session, loss)? {
             let expected = origins(session.header(), &self.written);
@@ -166,7 +175,7 @@ impl Made {
     fn new(random: &mut Random, header: Header) -> Made {
         let few = 1 + random.below(header.records() as u64);
         let mut block = |number| {
-            let words = data(random, header.data());
+            let words = record_data(random, header.data());
             let words = words.into_iter().map(u64::from);
             [number].into_iter().chain(words).collect()
         };
@@ -274,12 +283,11 @@ impl Made {
 /// Makes a block of a stripe one that is no record; on the full stripe a number that is not its place is enough.
 fn no_record(random: &mut Random, header: Header, stripe: u32, block: &mut [u64]) {
     let n = header.records() as u64;
-    let at = 1 + random.index(header.data());
-    match random.below(4) {
+    match random.below(if header.data() > 1 { 5 } else { 3 }) {
         0 | 1 if stripe == header.k => block[0] = (block[0] + 1 + random.below(n - 1)) % n,
         0 => block[0] = n,
         1 => block[0] = n + random.below(65537 - n),
         2 => block[0] = 65536,
-        _ => block[at] = 65536,
+        _ => strike_some(random, &mut block[1..]),
     }
 }

@@ -32,6 +32,14 @@ fn made(both: &mut Both, call: Call) -> Answer {
     both.call(call).unwrap_or_else(|text| panic!("{text}"))
 }
 
+/// Makes a call, which changes nothing where it is refused. Gives its number.
+fn unless_taken(both: &mut Both, call: Call) -> u32 {
+    let before = both.clone();
+    let number = made(both, call).number;
+    assert!(number == 0 || both.lent() == before.lent());
+    number
+}
+
 impl Vault {
     /// An opening, which both accept.
     pub fn open(k: u32, s: u32, raw: Vec<u32>) -> Vault {
@@ -39,6 +47,14 @@ impl Vault {
         both.set(|lender| lender.raw.set(&raw));
         assert_eq!(made(&mut both, Call::Open).number, 0);
         Vault { both }
+    }
+
+    /// An opening, which both accept or refuse. Gives its number, with the buffers afterwards as section 10 has them.
+    pub fn any_opening(k: u32, s: u32, raw: &[u32]) -> u32 {
+        let mut both = Both::new(ReferenceHeader { k, s, c: 0 }, GUARD);
+        both.set(|lender| lender.raw.set(raw));
+        both.soil(Call::Open, BEFORE);
+        unless_taken(&mut both, Call::Open)
     }
 
     /// An opening of zero records.
@@ -55,6 +71,25 @@ impl Vault {
     pub fn any_write(&mut self, record: u32, block: &[u32]) -> u32 {
         self.both.set(|lender| lender.block.set(block));
         made(&mut self.both, Call::Write { record }).number
+    }
+
+    /// A strike, which both accept or refuse. Gives its number, with the buffers afterwards as section 10 has them.
+    pub fn strike(&mut self, record: u32) -> u32 {
+        unless_taken(&mut self.both, Call::Strike { record })
+    }
+
+    /// A reading, which both accept or refuse. Gives its number; the part is the record, or empty.
+    pub fn read(&self, record: u32) -> u32 {
+        let mut both = self.both.clone();
+        let answer = made(&mut both, Call::Read { record });
+        let words = self.both.lent().header.data();
+        let part = match answer.number {
+            0 => (record as usize * words, words),
+            _ => (0, 0),
+        };
+        assert_eq!(answer.part, Some(part));
+        assert!(both.lent() == self.both.lent());
+        answer.number
     }
 
     /// An earlier write, which the library no longer makes: both have what it leaves by reference/. Gives its number.
@@ -85,6 +120,11 @@ impl Vault {
     pub fn set_word(&mut self, buffer: Words, at: usize, word: u32) {
         let set = |lender: &mut Lender| lender.words_mut(buffer).part_mut()[at] = word;
         self.both.set(set);
+    }
+
+    /// Lends so many words of the raw copy.
+    pub fn lend_raw(&mut self, count: usize) {
+        self.both.set(|lender| lender.raw.resize(count, 0));
     }
 
     /// Puts another k into the header of both.

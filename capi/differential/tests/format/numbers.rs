@@ -87,6 +87,7 @@ fn all_calls(k: u32, s: u32, lengths: [usize; 12]) -> Result<(), Refusal> {
     let block = vec![1; block];
     calls::write(&mut header, &mut raw, &mut full, &mut log, 0, &block)?;
     calls::take_back(&mut header, &mut raw, &full, &mut log, &mut words(double))?;
+    calls::strike(&mut header, &mut raw, &mut full, &mut log, 0)?;
     calls::image(header, &full, &log, &mut image)?;
     calls::powers(&mut words(powers))?;
     calls::decode(header, &image, &[], k, &mut words(blocks), &mut scratch)?;

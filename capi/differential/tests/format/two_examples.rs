@@ -35,7 +35,7 @@ fn afterwards(lines: &[String]) -> BTreeMap<u32, [&str; 2]> {
             assert_eq!(all.insert(number, [out, row[4]]), None);
         }
     }
-    assert!(all.keys().copied().eq(0..=13));
+    assert!(all.keys().copied().eq(0..=14));
     all
 }
 
