@@ -186,6 +186,28 @@ fn print_sizes(effort: Effort) -> [Row; SIZES.len()] {
     rows
 }
 
+/// The line of striking: a round of strikes beside one of writes to the same records.
+fn print_striking(effort: Effort) {
+    let (k, s) = SIZES[0];
+    let job = Job::new(k, s);
+    let [mut striking, mut writing] = [(); 2].map(|()| Vault::new(&job));
+    striking.open(By::Library);
+    writing.open(By::Library);
+    let times = interleaved(
+        effort,
+        vec![
+            Box::new(|| striking.strike(&job)),
+            Box::new(|| writing.round(By::Library, &job)),
+        ],
+    );
+    let [strike, write] = [times[0], times[1]].map(|time| time.part(1 << k));
+    let ratio = ratio(strike, write);
+    println!(
+        "k = {k}, s = {s}: a strike {}, {ratio} times a write",
+        both(strike)
+    );
+}
+
 /// The table of explaining and recovery from the same image; gives their ratio at each size.
 fn print_explaining(effort: Effort) -> [f64; EXPLAINED.len()] {
     println!(
@@ -451,6 +473,7 @@ fn main() -> ExitCode {
     println!("processor's time, median (best) of runs in turn; a write is the mean over a round; recovery at c = n - 1, half of every stripe lost at");
     println!("random; intact: a recovery with nothing lost; reference/ runs once\n");
     let rows = print_sizes(effort);
+    print_striking(effort);
     println!("\nexplaining beside recovery, both by the library, from the same image with the same positions lost\n");
     let explaining = print_explaining(effort);
     println!("\ntaking back the last of c writes beside decoding the same stripes in the image, both by the library, nothing lost\n");

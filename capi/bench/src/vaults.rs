@@ -1,4 +1,5 @@
-//! The same vault in four implementations, and the jobs that are timed: opening, a round of writes, recovery; and explaining, by the library alone.
+//! The same vault in four implementations, and the jobs that are timed: opening, a round of writes, recovery; and explaining and a round of strikes, by the
+//! library alone.
 use crate::{plain, tuned};
 use random::Random;
 use reference::{opening, recovery, writing};
@@ -199,6 +200,14 @@ impl Vault {
     /// Makes all writes of a round.
     pub fn round(&mut self, by: By, job: &Job) {
         self.write(by, &job.writes);
+    }
+
+    /// Strikes the records that these writes are to, one after the other, by the library.
+    pub fn strike(&mut self, job: &Job) {
+        let (raw, full, log) = (&mut self.raw, &mut self.full, &mut self.log);
+        for (record, _) in &job.writes {
+            assert!(calls::strike(&mut self.header, raw, full, log, *record).is_ok());
+        }
     }
 
     /// Recovers from the job's image, which has c = n - 1.

@@ -4,7 +4,7 @@ use crate::failure::Failure;
 use crate::files;
 use std::ffi::{OsStr, OsString};
 use std::fmt::{Display, Write};
-use vault_library::{sizes, Fault, Header, Reading};
+use vault_library::{sizes, Fault, Header, Reading, Record};
 
 /// The arguments K, S and C.
 pub fn header(arguments: &mut Arguments) -> Result<Header, Failure> {
@@ -136,7 +136,15 @@ pub fn add_line(text: &mut String, of: impl Display, words: impl IntoIterator<It
     text.push('\n');
 }
 
-/// The records that words are, in order. Where S is 0, recovery was refused and there are no words.
-pub fn records(header: Header, words: &[u32]) -> impl Iterator<Item = &[u32]> {
-    words.chunks(header.s.max(1) as usize)
+/// What stands in the place of a struck record's words.
+pub const STRUCK: &str = "struck";
+
+/// Adds the line of a record: its number, and its words, or that it is struck.
+pub fn add_record(text: &mut String, number: impl Display, record: Record) {
+    match record {
+        Record::Words(words) => add_line(text, number, words.iter().copied()),
+        Record::Struck => {
+            let _ = writeln!(text, "{number} {STRUCK}");
+        }
+    }
 }

@@ -1,5 +1,5 @@
 //! The library's calls over slices. Each tests everything it is given, in the order of the table of refusals, and is proved to leave what the
-//! specification says: after refusals 1 to 6 and 11 to 13 all buffers are as they were, after 7 to 10 output and scratch are zeros, but for the counts of
+//! specification says: after refusals 1 to 6 and 11 to 14 all buffers are as they were, after 7 to 10 output and scratch are zeros, but for the counts of
 //! [`explain`], and the buffers of a vault as they were.
 //!
 //! What `vault_sys` asks of a caller holds of every call here: a pointer and its count are those of one slice, which is aligned and valid, and what a call
@@ -7,10 +7,11 @@
 use crate::{Fault, Header, Part, Reading, Refusal, Which};
 use vault_sys::{
     vault_decode, vault_explain, vault_image, vault_open, vault_powers, vault_read, vault_recover,
-    vault_recover_two, vault_shelf_of_two, vault_take_back, vault_write, VAULT_NO_SHELF,
+    vault_recover_two, vault_shelf_of_two, vault_strike, vault_take_back, vault_write,
+    VAULT_NO_SHELF,
 };
 
-/// Builds the full stripe of raw records, which may be zeros, and zeroes the log. Gives the header.
+/// Builds the full stripe of raw records, which may be zeros or struck, and zeroes the log. Gives the header.
 pub fn open(
     k: u32,
     s: u32,
@@ -56,7 +57,30 @@ pub fn write(
     Refusal::test(number)
 }
 
-/// Takes back the last write of the round: the record is as before it, and so are the header and the log. Where the round has none, it is refused
+/// Strikes a record: writes [`STRUCK_WORD`](crate::STRUCK_WORD) in the place of each of its data words, which no [`write()`] does. It counts as a write, and
+/// takes a record that is struck already like any other.
+pub fn strike(
+    header: &mut Header,
+    raw: &mut [u32],
+    full: &mut [u32],
+    log: &mut [u32],
+    record: u32,
+) -> Result<(), Refusal> {
+    // SAFETY: as said at the head of this file; c is borrowed with the header.
+    #[rustfmt::skip]
+    let number = unsafe {
+        vault_strike(
+            header.k, header.s, &mut header.c,
+            raw.as_mut_ptr(), raw.len(),
+            full.as_mut_ptr(), full.len(),
+            log.as_mut_ptr(), log.len(),
+            record,
+        )
+    };
+    Refusal::test(number)
+}
+
+/// Takes back the last write or strike of the round: the record is as before it, and so are the header and the log. Where the round has none, it is refused
 /// ([`Refusal::RoundStart`]), also after the write that ended a round.
 pub fn take_back(
     header: &mut Header,
@@ -79,7 +103,7 @@ pub fn take_back(
     Refusal::test(number)
 }
 
-/// A record, as a part of the raw buffer.
+/// A record, as a part of the raw buffer. A struck one is refused ([`Refusal::Struck`]), as the table has it; [`Vault::read`](crate::Vault::read) answers it.
 pub fn read(header: Header, raw: &[u32], record: u32) -> Result<&[u32], Refusal> {
     let Header { k, s, c } = header;
     let (mut start, mut count) = (0, 0);
@@ -121,7 +145,7 @@ pub fn decode(
     Refusal::test(number)
 }
 
-/// All records, from the surviving positions of the full stripe and the filled levels.
+/// All records, from the surviving positions of the full stripe and the filled levels. [`Records`](crate::Records) tells which are struck.
 pub fn recover(
     header: Header,
     image: &[u8],

@@ -2,16 +2,16 @@
 //!
 //! The library tests all that it is given, lengths too, and is proved to answer as the specification says; nothing is tested
 //! twice here. [`calls`] has the library's calls over slices that the caller owns, [`Vault`] a vault that owns its buffers,
-//! [`Explanation`] what recovery finds in an image.
+//! [`Explanation`] what recovery finds in an image, [`Record`] what a record holds: words, or none, if it is struck.
 //!
 //! ```
-//! use vault_library::{calls, erasures, sizes, stripes, Explanation, Origin, Reading, Vault, Which};
+//! use vault_library::{calls, erasures, sizes, stripes, Explanation, Origin, Reading, Record, Vault, Which};
 //!
 //! // Four records of one word, the second written twice.
 //! let mut vault = Vault::open(2, 1, vec![0; sizes::raw(2, 1)])?;
 //! vault.write(1, &[7])?;
 //! vault.write(1, &[8])?;
-//! assert_eq!(vault.read(1)?, [8]);
+//! assert_eq!(vault.read(1)?, Record::Words(&[8]));
 //!
 //! // Half of the full stripe is lost.
 //! let header = vault.header();
@@ -38,7 +38,12 @@
 //! // Write 1 is taken back, and record 1 is what it was before.
 //! vault.take_back()?;
 //! assert_eq!(vault.header().c, 1);
-//! assert_eq!(vault.read(1)?, [7]);
+//! assert_eq!(vault.read(1)?, Record::Words(&[7]));
+//!
+//! // Record 1 is struck, which is a write of the round, too.
+//! vault.strike(1)?;
+//! assert_eq!(vault.header().c, 2);
+//! assert_eq!(vault.read(1)?, Record::Struck);
 //! # Ok::<(), Box<dyn std::error::Error>>(())
 //! ```
 pub mod calls;
@@ -46,6 +51,7 @@ pub mod erasures;
 mod explanation;
 mod header;
 mod readings;
+mod records;
 mod refusal;
 pub mod sizes;
 pub mod stripes;
@@ -54,5 +60,6 @@ mod vault;
 pub use explanation::{Count, Explanation, Origin};
 pub use header::Header;
 pub use readings::{Part, Reading, Which};
+pub use records::{Record, Records, STRUCK_WORD};
 pub use refusal::{Fault, Refusal};
 pub use vault::Vault;

@@ -18,10 +18,11 @@ pub enum Refusal {
     Blank = vault_sys::VAULT_BLANK,
     RoundStart = vault_sys::VAULT_ROUND_START,
     ReadingsDiffer = vault_sys::VAULT_READINGS_DIFFER,
+    Struck = vault_sys::VAULT_STRUCK,
 }
 
 /// Each refusal, by rising number from 1, with the table's name and what it means.
-const TABLE: [(Refusal, &str, &str); 13] = [
+const TABLE: [(Refusal, &str, &str); 14] = [
     (
         Refusal::Header,
         "plate",
@@ -87,6 +88,11 @@ const TABLE: [(Refusal, &str, &str); 13] = [
         Refusal::ReadingsDiffer,
         "readings differ",
         "a position that is whole in both readings has another word in each",
+    ),
+    (
+        Refusal::Struck,
+        "struck",
+        "the record is struck, and has no words until it is written again",
     ),
 ];
 

@@ -1,7 +1,7 @@
 //! Blank blocks: writing refuses them (11) and changes nothing; openings take records of zeros, and so do all calls on what an earlier vault left, one that did
 //! not know 11.
 use vault_library::{
-    calls, erasures, sizes, stripes, Explanation, Fault, Header, Origin, Refusal, Vault,
+    calls, erasures, sizes, stripes, Explanation, Fault, Header, Origin, Record, Refusal, Vault,
 };
 
 /// A vault of 4 records of 3 words, after as many writes as are said.
@@ -41,7 +41,8 @@ fn one_word_that_is_not_0_is_enough() {
                 let mut block = vec![0; s];
                 block[place] = word;
                 assert_eq!(vault.write(1, &block), Ok(()));
-                assert_eq!((vault.header().c, vault.read(1)), (1, Ok(&block[..])));
+                assert_eq!(vault.header().c, 1);
+                assert_eq!(vault.read(1), Ok(Record::Words(&block)));
             }
         }
         let mut vault = Vault::open(2, s as u32, vec![7; 4 * s]).unwrap();
@@ -75,10 +76,10 @@ fn other_refusals_come_first() {
 fn zero_records_are_opened_and_read() {
     let mut vault = Vault::open(2, 3, vec![0; 12]).unwrap();
     for record in 0..4 {
-        assert_eq!(vault.read(record), Ok(&[0; 3][..]));
+        assert_eq!(vault.read(record), Ok(Record::Words(&[0; 3])));
     }
     vault.write(2, &[0, 0, 1]).unwrap();
-    assert_eq!(vault.read(1), Ok(&[0; 3][..]));
+    assert_eq!(vault.read(1), Ok(Record::Words(&[0; 3])));
     let records = recovered(vault.header(), &vault.image().unwrap(), &[]);
     assert_eq!(records, Ok(vec![0, 0, 0, 0, 0, 0, 0, 0, 1, 0, 0, 0]));
 }
@@ -166,7 +167,8 @@ impl Earlier {
     fn buffers(&self) -> Buffers {
         let Header { k, s, c } = self.0.header();
         let s = s - 1;
-        let all = (0..1 << k).flat_map(|record| self.0.read(record).unwrap());
+        let words = |record| self.0.read(record).unwrap().words().unwrap();
+        let all = (0..1 << k).flat_map(words);
         let image = self.0.image().unwrap();
         let words = stripes::words(&image, 0..image.len()).collect::<Vec<u32>>();
         let mut full = without_last(&words, s as usize + 2);

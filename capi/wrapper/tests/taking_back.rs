@@ -1,5 +1,5 @@
 //! Taking back: the vault is as before the last write of the round, each word; the tables of docs/FORMAT.md; what is refused, and what it leaves.
-use vault_library::{calls, sizes, Header, Refusal, Vault};
+use vault_library::{calls, sizes, Header, Record, Refusal, Vault};
 
 /// The buffers of a vault, as C's callers lend them, and a scratch.
 #[derive(Clone, Debug, PartialEq)]
@@ -188,5 +188,5 @@ fn a_round_that_has_ended() {
     vault.write(1, &[7]).unwrap();
     assert_eq!(vault.take_back(), Ok(()));
     assert!(vault == ended);
-    assert_eq!(vault.read(0), Ok(&[6][..]));
+    assert_eq!(vault.read(0), Ok(Record::Words(&[6])));
 }

@@ -246,8 +246,8 @@ fn written(random: &mut Random) -> (Vault, Vec<u32>) {
         let block: Vec<u32> = (0..s).map(|_| 1 + random.below(65535) as u32).collect();
         vault.write(random.below(1 << k) as u32, &block).unwrap();
     }
-    let records = (0..1 << k).flat_map(|record| vault.read(record).unwrap().to_vec());
-    let records = records.collect();
+    let words = |record| vault.read(record).unwrap().words().unwrap();
+    let records = (0..1 << k).flat_map(words).copied().collect();
     (vault, records)
 }
 

@@ -1,5 +1,5 @@
 //! The worked examples of docs/FORMAT.md, P1 to P12, through the library's calls: k = 2, s = 1.
-use vault_library::{calls, erasures, sizes, stripes, Fault, Header, Refusal, Vault};
+use vault_library::{calls, erasures, sizes, stripes, Fault, Header, Record, Refusal, Vault};
 
 /// The data words of a stripe in an image.
 fn column(image: &[u8], stripe: u32) -> Vec<u32> {
@@ -75,7 +75,7 @@ fn p6_a_newer_write_covers_an_older_one() {
     let vault = written([0; 4], &[1, 2]);
     let records = recovered(vault.header(), &vault.image().unwrap(), &[]);
     assert_eq!(records, Ok(vec![2, 0, 0, 0]));
-    assert_eq!(vault.read(0), Ok(&[2][..]));
+    assert_eq!(vault.read(0), Ok(Record::Words(&[2])));
     assert_eq!(vault.read(4), Err(Refusal::Record));
 }
 

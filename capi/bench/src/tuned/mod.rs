@@ -59,6 +59,17 @@ fn all_data(words: &[u32]) -> bool {
     words.iter().fold(0, |all, &x| all | x) <= 65535
 }
 
+/// Whether words are those of a record: data words, or the word of a struck one in each place.
+fn is_record(words: impl Iterator<Item = u32> + Clone) -> bool {
+    words.clone().all(|x| x <= 65535) || words.clone().all(|x| x == 65536)
+}
+
+/// The same of all records of s words.
+fn all_records(words: &[u32], s: usize) -> bool {
+    let mut records = words.chunks_exact(s);
+    records.all(|record| is_record(record.iter().copied()))
+}
+
 pub fn open(k: u32, s: u32, raw: &[u32], full: &mut [u32], log: &mut [u32]) -> u32 {
     let header = Header { k, s, c: 0 };
     if !header.fits() {
@@ -67,10 +78,11 @@ pub fn open(k: u32, s: u32, raw: &[u32], full: &mut [u32], log: &mut [u32]) -> u
     if !lengths_fit(header, raw, full, log) {
         return 2;
     }
-    if !all_data(raw) {
+    let struck = !all_data(raw);
+    if struck && !all_records(raw, s as usize) {
         return 5;
     }
-    store::build(header, raw, full, false);
+    store::build(header, raw, full, struck);
     log.fill(0);
     0
 }

@@ -4,7 +4,7 @@ use super::small::Small;
 use super::store::signed;
 use super::tables::{Tables, TABLES};
 use super::weights::Weights;
-use super::Header;
+use super::{all_records, is_record, Header};
 
 /// Sets a mark, 1, for each position of an image that is erased; whether the erasure list is good.
 fn mark(marks: &mut [u8], erasures: &[u8], size: usize, width: usize) -> bool {
@@ -141,10 +141,11 @@ impl<const N: usize> Recovery<'_, N> {
     /// The full stripe: of records of up to three words all columns at once, otherwise in two ranges.
     fn full(&mut self, stripe: &Stripe, out: &mut [u32], scratch: &mut [i32]) -> u32 {
         let (s, width) = (self.header.s as usize, self.header.width());
-        let mut number = self.weigh(stripe, scratch);
+        let number = self.weigh(stripe, scratch);
         if number != 0 {
             return number;
         }
+        let (mut in_place, mut all_data) = (true, true);
         let half = if s <= 3 || stripe.level <= 2 {
             width
         } else {
@@ -157,16 +158,20 @@ impl<const N: usize> Recovery<'_, N> {
                 // A word out of the field counts before, also in columns that are not decoded yet.
                 return if stripe.in_field() { refused } else { 8 };
             }
-            let laid = match s {
+            let (placed, data) = match s {
                 1 => lay_full::<1>(out, s, rows, (from, cols)),
                 3 => lay_full::<3>(out, s, rows, (from, cols)),
                 _ => lay_full::<0>(out, s, rows, (from, cols)),
             };
-            if !laid {
-                number = 10;
-            }
+            in_place &= placed;
+            all_data &= data;
         }
-        number
+        // All columns of a record say whether it is struck.
+        if in_place && (all_data || all_records(out, s)) {
+            0
+        } else {
+            10
+        }
     }
 
     /// A level, whose blocks are laid over the records; where one is no record, that is seen afterwards, and the output is cleared then.
@@ -207,16 +212,18 @@ fn lay_level<const S: usize>(out: &mut [u32], s: usize, rows: &[i32]) -> bool {
             *to = x as u32;
         }
     }
-    beyond <= 65535
+    let mut rows = rows.chunks_exact(s + 1);
+    beyond <= 65535 || rows.all(|row| is_record(row[1..].iter().map(|&x| x as u32)))
 }
 
-/// Stores a range of columns of the records; whether numbers are in their places and data words are such. S is as above, where the range is all columns.
+/// Stores a range of columns of the records; whether numbers are in their places, and whether data words are such. S is as above, where the range is all
+/// columns.
 fn lay_full<const S: usize>(
     out: &mut [u32],
     s: usize,
     rows: &[i32],
     columns: (usize, usize),
-) -> bool {
+) -> (bool, bool) {
     let (from, cols) = if S == 0 { columns } else { (0, S + 1) };
     let s = if S == 0 { s } else { S };
     let skip = usize::from(from == 0);
@@ -232,7 +239,7 @@ fn lay_full<const S: usize>(
             *to = x as u32;
         }
     }
-    misplaced == 0 && beyond <= 65535
+    (misplaced == 0, beyond <= 65535)
 }
 
 /// Decodes all stripes that are needed: the number, and the stripe at fault.

@@ -2,7 +2,7 @@
 //! is then work that gives the right answer in every case, not only in those that are timed.
 use super::{open, recover, write, Header};
 use random::Random;
-use vault_library::{calls, erasures, sizes, stripes, Header as Plate, Refusal};
+use vault_library::{calls, erasures, sizes, stripes, Header as Plate, Refusal, STRUCK_WORD};
 
 fn words(random: &mut Random, count: usize, below: u64) -> Vec<u32> {
     (0..count).map(|_| random.below(below) as u32).collect()
@@ -43,6 +43,15 @@ impl Buffers {
     }
 }
 
+/// Strikes one record of four.
+fn strike_some(random: &mut Random, raw: &mut [u32], s: u32) {
+    for record in raw.chunks_exact_mut(s as usize) {
+        if random.below(4) == 0 {
+            record.fill(STRUCK_WORD);
+        }
+    }
+}
+
 /// A write by both; c afterwards.
 fn write_both(
     header: Plate,
@@ -72,6 +81,9 @@ fn openings_and_writes() {
         let mut library = Buffers::new(&mut random, k, s, 65536);
         if random.below(4) == 0 {
             library.raw = extremes(&mut random, sizes::raw(k, s), 65536);
+        }
+        if random.below(4) == 0 {
+            strike_some(&mut random, &mut library.raw, s);
         }
         if random.below(8) == 0 {
             let at = random.index(library.raw.len());
@@ -119,12 +131,21 @@ fn writes_on_any_buffers() {
 fn image(random: &mut Random, k: u32, s: u32) -> (Plate, Vec<u8>) {
     let mut buffers = Buffers::new(random, k, s, 65536);
     let Buffers { raw, full, log } = &mut buffers;
-    let mut header = calls::open(k, s, raw, full, log).expect("data words");
+    let strikes = random.below(4) == 0;
+    if strikes {
+        strike_some(random, raw, s);
+    }
+    let mut header = calls::open(k, s, raw, full, log).expect("records");
     for _ in 0..random.below(1 << k) {
         let mut block = words(random, s as usize, 65536);
         block[0] = block[0].max(1);
         let record = random.below(1 << k) as u32;
-        calls::write(&mut header, raw, full, log, record, &block).expect("a good write");
+        let answer = if strikes && random.below(4) == 0 {
+            calls::strike(&mut header, raw, full, log, record)
+        } else {
+            calls::write(&mut header, raw, full, log, record, &block)
+        };
+        answer.expect("a good write or strike");
     }
     let mut image = vec![0; sizes::image(k, s)];
     calls::image(header, full, log, &mut image).expect("an image");

@@ -3,7 +3,7 @@ use super::Command;
 use crate::arguments::{Arguments, Options};
 use crate::failure::Failure;
 use crate::{files, rack};
-use vault_library::{calls, sizes};
+use vault_library::{calls, sizes, Record};
 
 pub const COMMAND: Command = Command {
     name: "decode",
@@ -13,7 +13,8 @@ usage: vault decode K S C IMAGE GAPS SHELF
 
 Prints the sheets that one shelf holds, in order of time: a line for each, the record's
 number and its S words in decimal, one space between. On the full shelf these are the
-records when that shelf was last built, on a level the writes it holds.
+records when that shelf was last built, on a level the writes it holds. Of a struck record,
+and of a write that is a strike, it prints the number and 'struck'.
 
   K S C   the plate's numbers: 2^K records of S words, C writes since the full shelf was
           last built
@@ -41,7 +42,7 @@ fn run(mut arguments: Arguments) -> Result<(), Failure> {
     calls::decode(header, &image, &gaps, stripe, &mut blocks, &mut scratch)?;
     let mut text = String::new();
     for block in blocks.chunks(header.s as usize + 1).take(1 << stripe) {
-        rack::add_line(&mut text, block[0], block[1..].iter().copied());
+        rack::add_record(&mut text, block[0], Record::of(&block[1..]));
     }
     files::print(text.as_bytes())
 }

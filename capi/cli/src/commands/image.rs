@@ -3,6 +3,7 @@ use super::Command;
 use crate::arguments::{number, usage, Arguments, Options};
 use crate::failure::Failure;
 use crate::files;
+use crate::rack::STRUCK;
 use std::ffi::OsStr;
 use std::fmt;
 use std::io::{self, BufRead, Read};
@@ -26,18 +27,21 @@ standard error as a line 'plate K S C'; recover, explain, decode and list ask fo
           which K and S stand for
   --text  standard input has a line for each write instead: the record's number and the S
           words, in decimal, with spaces between, as recover prints them; empty lines are
-          passed over. A line 'back' takes back the last write of the round: the rack is then
-          as if it had never been made. Several take back as many, at most to the round's
-          start; the write that ends a round, after which C is 0, cannot be taken back
+          passed over. A line 'strike N' strikes record N: its sheet counts no more, and
+          recover prints 'N struck', until the record is written again. A strike is a write
+          of the round, and a record that is struck may be struck again. A line 'back' takes
+          back the last write of the round, or the last strike: the rack is then as if it had
+          never been made. Several take back as many, at most to the round's start; the write
+          that ends a round, after which C is 0, cannot be taken back
 
 A sheet whose S words are all 0 is blank: it comes from a press whose probe is unplugged, and
 the vault refuses it. A record that no write names is all zeros: of the lines that recover
-printed, leave those out that have zeros alone.
+printed, leave those out that have zeros alone, and give 'strike N' in place of 'N struck'.
 
 Refused with exit status 1: 1 (plate), 2 (length), 4 (record), 5 (data word), 11 (blank),
 12 (round start). What is refused stops the command, and no image is written. Standard error
-names a write's place among the writes, counted from 0, those taken back too, and with --text
-its line, counted from 1 as editors do, empty lines too:
+names a write's place among the writes, counted from 0, strikes and those taken back too, and
+with --text its line, counted from 1 as editors do, empty lines too:
 'refused 11 (blank) at write 1, line 3'. Of a 'back' that finds no write to take back it
 names the line: 'refused 12 (round start) at line 3'. Writes that end inside a write are
 refused with 2.
@@ -56,16 +60,21 @@ const LINE: u64 = 1 << 16;
 /// The line that takes a write back.
 const BACK: &str = "back";
 
+/// The word before the number of the record that a line strikes.
+const STRIKE: &str = "strike";
+
 /// What the vault is to do next.
 enum Event {
     /// A write as it was read: the record's number and its words, which may be too few or too many.
     Write(u32, Vec<u32>),
-    /// The last write of the round is taken back.
+    /// The record of this number is struck.
+    Strike(u32),
+    /// The last write or strike of the round is taken back.
     Back,
 }
 
-/// Where an event stands in the input: the number that a write has among the writes, from 0; and in text its line, from 1, where empty lines count, so that an
-/// editor finds it.
+/// Where an event stands in the input: the number that a write or strike has among all of these, from 0; and in text its line, from 1, where empty lines count,
+/// so that an editor finds it.
 #[derive(Default)]
 struct Place {
     write: u64,
@@ -109,7 +118,7 @@ fn run(mut arguments: Arguments) -> Result<(), Failure> {
         let Some(event) = event else { break };
         apply(&event, &mut vault)
             .map_err(|refusal| Failure::Refused(refusal, format!(" at {}", place.of(&event))))?;
-        place.write += u64::from(matches!(event, Event::Write(..)));
+        place.write += u64::from(!matches!(event, Event::Back));
     }
     let header = vault.header();
     files::print(&vault.image()?)?;
@@ -121,6 +130,7 @@ fn run(mut arguments: Arguments) -> Result<(), Failure> {
 fn apply(event: &Event, vault: &mut Vault) -> Result<(), Refusal> {
     match event {
         Event::Write(record, block) => vault.write(*record, block),
+        Event::Strike(record) => vault.strike(*record),
         Event::Back => vault.take_back(),
     }
 }
@@ -157,23 +167,39 @@ fn from_text(input: &mut impl BufRead, place: &mut Place) -> Result<Option<Event
         match words[..] {
             [] if count == 0 => return Ok(None),
             [] => {}
-            [BACK] => return Ok(Some(Event::Back)),
-            [BACK, ..] => {
-                let at = place.of(&Event::Back);
-                return usage(format!("{at}: '{BACK}' stands alone on its line"));
-            }
-            _ => return numbers(&words, place).map(Some),
+            [first, ref others @ ..] => return event(first, others, place).map(Some),
         }
     }
 }
 
-/// The write that a line's words are.
-fn numbers(words: &[&str], place: &Place) -> Result<Event, Failure> {
-    let name = format!("a number of {place},");
-    let numbers = words.iter().map(|word| number(&name, OsStr::new(word)));
-    let mut numbers = numbers.collect::<Result<Vec<u32>, Failure>>()?;
-    let block = numbers.split_off(1);
-    Ok(Event::Write(numbers[0], block))
+/// The event that a line's words are.
+fn event(first: &str, others: &[&str], place: &Place) -> Result<Event, Failure> {
+    match (first, others) {
+        (BACK, []) => Ok(Event::Back),
+        (BACK, _) => {
+            let at = place.of(&Event::Back);
+            usage(format!("{at}: '{BACK}' stands alone on its line"))
+        }
+        (STRIKE, [record]) => Ok(Event::Strike(numbered(record, place)?)),
+        (STRIKE, _) => usage(format!(
+            "{place}: '{STRIKE}' takes the number of one record, as in '{STRIKE} 3'"
+        )),
+        (_, [STRUCK]) => usage(format!(
+            "{place}: a record is struck by a line '{STRIKE} N'"
+        )),
+        _ => {
+            let block = others.iter().map(|word| numbered(word, place));
+            Ok(Event::Write(
+                numbered(first, place)?,
+                block.collect::<Result<_, _>>()?,
+            ))
+        }
+    }
+}
+
+/// A number of a line.
+fn numbered(word: &str, place: &Place) -> Result<u32, Failure> {
+    number(&format!("a number of {place},"), OsStr::new(word))
 }
 
 fn cannot_read(error: io::Error) -> Failure {

@@ -3,7 +3,7 @@ use super::Command;
 use crate::failure::Failure;
 use crate::rack::{Given, Stored};
 use crate::{files, rack};
-use vault_library::{calls, sizes, Fault, Header, Reading};
+use vault_library::{calls, sizes, Fault, Header, Reading, Record, Records};
 
 pub const COMMAND: Command = Command {
     name: "recover",
@@ -13,7 +13,8 @@ pub const COMMAND: Command = Command {
 usage: vault recover K S C IMAGE [GAPS] [--and IMAGE [GAPS]] [--json]
 
 Prints all records of a vault, as they were last written: a line for each, its number and
-its S words in decimal, one space between. Half of each shelf may be lost.
+its S words in decimal, one space between; if it was struck last, its number and 'struck'.
+Half of each shelf may be lost.
 
 With --and they come from two readings of the rack. First the two are compared: a position
 that is whole in both has to be the same in both, or they are refused with 13, which names no
@@ -23,7 +24,8 @@ there. Positions of one shelf are never taken from both.
 
 ",
         given_help!(),
-        "            records  the 2^K records in order, each a list of S numbers; [] if refused
+        "            records  the 2^K records in order, each a list of S numbers, or null if it
+                     is struck; [] if refused
           as in {\"number\":7,\"name\":\"too few\",\"shelf\":\"C\",\"records\":[]}
 
 Refused with exit status 1: 1 (plate), 2 (length), 3 (gap list), 13 (readings differ), and,
@@ -44,8 +46,8 @@ fn print_records(given: Given) -> Result<(), Failure> {
     }
     let records = answer.map_err(|fault| refused(header, fault))?;
     let mut text = String::new();
-    for (number, record) in rack::records(header, &records).enumerate() {
-        rack::add_line(&mut text, number, record.iter().copied());
+    for (number, record) in Records::new(header, &records).iter().enumerate() {
+        rack::add_record(&mut text, number, record);
     }
     files::print(text.as_bytes())
 }
@@ -81,9 +83,13 @@ pub fn place(header: Header, fault: Fault) -> String {
 fn as_json(header: Header, answer: &Result<Vec<u32>, Fault>) -> String {
     let verdict = rack::verdict(header, answer.as_ref().err());
     let records = answer.as_deref().unwrap_or_default();
-    let lists: Vec<String> = rack::records(header, records)
-        .map(|record| format!("{record:?}").replace(' ', ""))
+    let values: Vec<String> = Records::new(header, records)
+        .iter()
+        .map(|record| match record {
+            Record::Words(words) => format!("{words:?}").replace(' ', ""),
+            Record::Struck => "null".into(),
+        })
         .collect();
-    let lists = lists.join(",");
-    format!("{{{verdict},\"records\":[{lists}]}}\n")
+    let values = values.join(",");
+    format!("{{{verdict},\"records\":[{values}]}}\n")
 }

@@ -1,6 +1,7 @@
 //! Any words and any files: every run ends with 0, 1 or 2 (`program::vault` checks it).
 use crate::program::{file, refusal, vault};
 use random::Random;
+use std::collections::BTreeSet;
 
 /// Numbers as words of the command line, mostly in the ranges of a small vault.
 fn plate(random: &mut Random) -> (usize, usize, usize) {
@@ -90,6 +91,35 @@ fn random_pairs(random: &mut Random, all: usize) -> Vec<u8> {
         offset += length + 1 + random.index(20);
     }
     list
+}
+
+/// Lines of `image --text`, of words that it knows and others.
+#[test]
+fn random_lines() {
+    let words = [
+        "strike", "back", "struck", "0", "1", "2", "3", "4", "65535", "65536", "-1", "é",
+    ];
+    let mut random = Random::new(5);
+    let mut seen = BTreeSet::new();
+    for _ in 0..300 {
+        let mut lines = String::new();
+        for _ in 0..random.below(4) {
+            lines += ["strike 1\n", "2 3\n", "back\n", "\n"][random.index(4)];
+        }
+        for _ in 0..random.below(4) {
+            lines += *random.one(&words);
+            lines += *random.one(&[" ", "\n"]);
+        }
+        let answer = vault(["image", "2", "1", "--text"], lines.as_bytes());
+        seen.insert(refusal(&answer));
+    }
+    // The runs reach what they are for.
+    let numbers = [2, 4, 5, 11, 12].map(|number| (1, Some(number)));
+    let expected = numbers.into_iter().chain([(0, None), (2, None)]);
+    assert!(
+        expected.into_iter().all(|answer| seen.contains(&answer)),
+        "{seen:?}"
+    );
 }
 
 /// A good image with one byte changed: recovery notices, unless few positions are left or an empty level was hit.

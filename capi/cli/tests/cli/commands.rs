@@ -342,22 +342,15 @@ fn demo_is_the_same_for_a_seed() {
     // After the blank sheet, and after the one that is taken back.
     let unchanged = "\n   992 of 992 bytes of the rack are as they were.\n";
     assert_eq!(text.matches(unchanged).count(), 2);
-    for (when, record) in [
-        ("before    ", "     2      3    400     268       13"),
-        ("keyed     ", "     2     13   1800      11       14"),
-        ("taken back", "     2      3    400     268       13"),
-    ] {
-        let row = format!("\n   {when}   {record}\n");
-        assert!(text.contains(&row), "{row}");
-    }
     for step in [
         "1. THE RACK. ",
         "2. THE PROBE. ",
         "3. THE WRONG RECORD. ",
-        "4. THE LOSS. ",
-        "5. THE RECOVERY. ",
-        "6. ONE POSITION MORE. ",
-        "7. ANOTHER READER. ",
+        "4. THE STRIKE. ",
+        "5. THE LOSS. ",
+        "6. THE RECOVERY. ",
+        "7. ONE POSITION MORE. ",
+        "8. ANOTHER READER. ",
     ] {
         assert!(text.contains(&format!("\n\n{step}")), "{step}");
     }
@@ -366,6 +359,25 @@ fn demo_is_the_same_for_a_seed() {
     assert_eq!(line("demo --seed 7").text(), text);
     assert_ne!(line("demo --seed 8").text(), text);
     assert_eq!(line("demo").status, 0);
+}
+
+/// What records hold before and after they are keyed, taken back and struck; the struck one comes back as struck.
+#[test]
+fn demo_tells_of_records() {
+    let text = line("demo --seed 7").text();
+    for (when, record) in [
+        ("before    ", "     2      3    400     268       13"),
+        ("keyed     ", "     2     13   1800      11       14"),
+        ("taken back", "     2      3    400     268       13"),
+        ("before    ", "    15     16      0       4       13"),
+        ("struck    ", "    15   struck                    14"),
+    ] {
+        let row = format!("\n   {when}   {record}\n");
+        assert!(text.contains(&row), "{row}");
+    }
+    let back =
+        "\n       15   today       struck                  struck                    1      13   same\n";
+    assert!(text.contains(back), "{text}");
 }
 
 #[test]

@@ -4,6 +4,7 @@ mod blank;
 mod commands;
 mod program;
 mod refusals;
+mod striking;
 mod taking_back;
 mod two_readings;
 mod usage;

@@ -280,8 +280,6 @@ fn stray_discord_and_no_sheet() {
     altered(1, &[1], 9, "discord", "C");
     // Example P11 of docs/FORMAT.md: a number that no record has.
     altered(16, &[4, 3, 16384, 12288], 10, "no sheet", "0");
-    // A data word 65536 on level 0, with the Y word that goes with it.
-    altered(16, &[2, 65536, 8192, 65537 - 4096], 10, "no sheet", "0");
     // The full shelf's numbers as those of the column 1, 2, 3, 4: no record is in its place.
     let numbers = [10, 255, 65533, 65280, 11841, 16945, 52674, 49618];
     let words: Vec<u32> = numbers.iter().flat_map(|&number| [number, 0]).collect();

@@ -1,5 +1,5 @@
-//! `vault demo`: a small rack is written, is sent a blank sheet and one for the wrong record, loses half of every shelf, is brought back, loses one position
-//! too many, and is brought back with a second reading of it.
+//! `vault demo`: a small rack is written, is sent a blank sheet and one for the wrong record, has a record struck, loses half of every shelf, is brought back,
+//! loses one position too many, and is brought back with a second reading of it.
 mod rack;
 mod sheets;
 
@@ -10,12 +10,12 @@ use crate::arguments::{number, Arguments, Options};
 use crate::failure::Failure;
 use crate::files;
 use crate::pair::Pair;
-use crate::rack::shelf_name;
+use crate::rack::{shelf_name, STRUCK};
 use rack::{holds, Rack};
 use random::Random;
-use sheets::{Sheet, MISKEYED, OPENED, UNPLUGGED, WRITTEN};
+use sheets::{MISKEYED, OPENED, TO_STRIKE, UNPLUGGED, WRITTEN};
 use std::time::{SystemTime, UNIX_EPOCH};
-use vault_library::{stripes, Explanation, Header, Origin, Vault};
+use vault_library::{stripes, Explanation, Header, Origin, Record, Records, Vault};
 
 pub const COMMAND: Command = Command {
     name: "demo",
@@ -24,10 +24,10 @@ pub const COMMAND: Command = Command {
 usage: vault demo [--seed N]
 
 Shows the vault at work on data of its own: writes the sheets of a pressing, draws the rack,
-has a blank sheet turned away, takes back one that was keyed to the wrong record, loses half
-of every shelf at random, brings all records back and says where each sheet came from, then
-loses one position too many and says what is missing, and brings all back with the reading
-of another card reader. No file is read or written.
+has a blank sheet turned away, takes back one that was keyed to the wrong record, strikes
+another, loses half of every shelf at random, brings all records back and says where each
+sheet came from, then loses one position too many and says what is missing, and brings all
+back with the reading of another card reader. No file is read or written.
 
   --seed N  lose the same positions as the run that printed this seed; without it, each run
             loses others
@@ -64,52 +64,63 @@ fn any_seed() -> u32 {
     time.map_or(0, |time| time.subsec_micros())
 }
 
+/// What each record was last written with, or that it was struck then.
+type Written = [Record<'static>; OPENED.len()];
+
 fn story(seed: u32) -> Result<String, Failure> {
     let mut random = Random::new(u64::from(seed));
-    let (mut vault, written) = pressing()?;
+    let (mut vault, mut written) = pressing()?;
+    let mut text = INTRODUCTION.to_owned();
+    text += &writing(&mut vault, &mut written)?;
+
     let header = vault.header();
     let mut rack = Rack::new(header, vault.image()?);
-    let mut text = INTRODUCTION.to_owned();
-
-    text += "\n1. THE RACK. A shelf spreads the sheets it holds over all of its positions.\n\n";
-    text += &rack.picture(&rack.explained()?.counts).rack();
-
-    text += "\n2. THE PROBE. ";
-    text += &unplugged(&mut vault)?;
-
-    text += "\n3. THE WRONG RECORD. ";
-    text += &wrong_record(&mut vault)?;
-
     lose_halves(header, &mut rack, &mut random);
-    text += "\n4. THE LOSS. Half of every shelf is lost, picked at random ";
+    text += "\n5. THE LOSS. Half of every shelf is lost, picked at random ";
     text += &format!("(seed {seed}).\n\n");
     let Explanation { counts, origins } = rack.explained()?;
     text += &rack.picture(&counts).rack();
 
     let refused = |fault| refused(header, fault);
     let records = recovered(header, rack.reading(), None).map_err(refused)?;
-    text += "\n5. THE RECOVERY. All sheets, from the halves that are left, and where each came from.\n\n";
+    text += "\n6. THE RECOVERY. All sheets, from the halves that are left, and where each came from.\n\n";
     text += &comparison(header, &written, &records, &origins.map_err(refused)?);
 
-    text += "\n6. ONE POSITION MORE. ";
+    text += "\n7. ONE POSITION MORE. ";
     text += &one_more(header, &mut rack, &mut random)?;
 
     let mut other = Rack::new(header, vault.image()?);
     lose_halves(header, &mut other, &mut random);
-    text += "\n7. ANOTHER READER. The rack is read once more, and half of every shelf is lost there too.\n\n";
+    text += "\n8. ANOTHER READER. The rack is read once more, and half of every shelf is lost there too.\n\n";
     text += &both(header, [&rack, &other], &written)?;
     text += "\nThe same again: vault demo --seed ";
     text += &format!("{seed}. With your own files: vault --help.\n");
     Ok(text)
 }
 
+/// Draws the rack before anything of it is lost, and tells what is done to it then.
+fn writing(vault: &mut Vault, written: &mut Written) -> Result<String, Failure> {
+    let rack = Rack::new(vault.header(), vault.image()?);
+    let mut text =
+        "\n1. THE RACK. A shelf spreads the sheets it holds over all of its positions.\n\n"
+            .to_owned();
+    text += &rack.picture(&rack.explained()?.counts).rack();
+    text += "\n2. THE PROBE. ";
+    text += &unplugged(vault)?;
+    text += "\n3. THE WRONG RECORD. ";
+    text += &wrong_record(vault)?;
+    text += "\n4. THE STRIKE. ";
+    text += &strike(vault, written)?;
+    Ok(text)
+}
+
 /// The vault after the two days' pressings, and the sheet that each record was last written with.
-fn pressing() -> Result<(Vault, [Sheet; OPENED.len()]), Failure> {
+fn pressing() -> Result<(Vault, Written), Failure> {
     let mut vault = Vault::open(K, S, OPENED.concat())?;
-    let mut written = OPENED;
-    for (record, sheet) in WRITTEN {
-        vault.write(record, &sheet)?;
-        written[record as usize] = sheet;
+    let mut written = OPENED.each_ref().map(|sheet| Record::Words(sheet));
+    for (record, sheet) in &WRITTEN {
+        vault.write(*record, sheet)?;
+        written[*record as usize] = Record::Words(sheet);
     }
     Ok((vault, written))
 }
@@ -136,12 +147,10 @@ fn unplugged(vault: &mut Vault) -> Result<String, Failure> {
 fn wrong_record(vault: &mut Vault) -> Result<String, Failure> {
     let (record, sheet) = MISKEYED;
     let before = vault.image()?;
-    let (step, over) = (sheet[0], vault.read(record)?[0]);
-    let meant = UNPLUGGED.0;
-    let mut text =
-        format!("Step {step} is keyed to record {record}, not {meant}, over step {over}, ");
+    let (step, meant) = (sheet[0], UNPLUGGED.0);
+    let mut text = format!("Step {step} is keyed to record {record}, not {meant}, ");
     text += "and taken back.\n\n";
-    text += &format!("   {:<13}record   {NAMES}   writes today\n", "");
+    text += &heading_of_held();
     text += &held(vault, "before", record)?;
     vault.write(record, &sheet)?;
     text += &held(vault, "keyed", record)?;
@@ -149,6 +158,22 @@ fn wrong_record(vault: &mut Vault) -> Result<String, Failure> {
     text += &held(vault, "taken back", record)?;
     text.push('\n');
     Ok(text + &unchanged(&before, &vault.image()?))
+}
+
+/// Strikes a record, and tells what it holds then.
+fn strike(vault: &mut Vault, written: &mut Written) -> Result<String, Failure> {
+    let mut text =
+        format!("Yesterday's last step had no pressure: record {TO_STRIKE} is struck.\n\n");
+    text += &heading_of_held();
+    text += &held(vault, "before", TO_STRIKE)?;
+    vault.strike(TO_STRIKE)?;
+    written[TO_STRIKE as usize] = Record::Struck;
+    Ok(text + &held(vault, "struck", TO_STRIKE)?)
+}
+
+/// The heading over [`held`].
+fn heading_of_held() -> String {
+    format!("   {:<13}record   {NAMES}   writes today\n", "")
 }
 
 /// A line for what a record holds now.
@@ -194,45 +219,51 @@ fn one_more(header: Header, rack: &mut Rack, random: &mut Random) -> Result<Stri
 }
 
 /// Draws two readings of the rack, and tells how many records come back from both.
-fn both(header: Header, racks: [&Rack; 2], written: &[Sheet]) -> Result<String, Failure> {
+fn both(header: Header, racks: [&Rack; 2], written: &Written) -> Result<String, Failure> {
     let [first, second] = racks.map(Rack::reading);
     let text = Pair::new(header, [first, second])?.picture(holds);
     let records = recovered(header, first, Some(second)).map_err(|fault| refused(header, fault))?;
     let rule =
         "Each shelf is taken from the reading that has more of it, the first if they are as many.";
-    Ok(text + &format!("\n   {rule}\n") + &as_written(written, &records))
+    let records = Records::new(header, &records);
+    Ok(text + &format!("\n   {rule}\n") + &as_written(written, records))
 }
 
 /// The heading over [`columns`].
 const NAMES: &str = "step   mbar  litres";
 
-/// The words of a sheet.
-fn columns(sheet: &[u32]) -> String {
-    format!("{:>4} {:>6} {:>7}", sheet[0], sheet[1], sheet[2])
+/// The words of a sheet, or that it is struck.
+fn columns(record: Record) -> String {
+    let words = match record {
+        Record::Words(sheet) => format!("{:>4} {:>6} {:>7}", sheet[0], sheet[1], sheet[2]),
+        Record::Struck => STRUCK.into(),
+    };
+    format!("{words:<width$}", width = NAMES.len())
 }
 
 /// A line for each record: what was written to it last, what came back, and from where.
-fn comparison(header: Header, written: &[Sheet], recovered: &[u32], origins: &[Origin]) -> String {
+fn comparison(header: Header, written: &Written, recovered: &[u32], origins: &[Origin]) -> String {
     let mut text = format!(
         "   {:<21}{:<24}{:<22}from\n",
         "", "written last", "recovered"
     );
     text += &format!("   record   day         {NAMES}     {NAMES}   {SOURCE}\n");
-    for (record, (sheet, &origin)) in written.iter().zip(origins).enumerate() {
-        let back = &recovered[record * sheet.len()..][..sheet.len()];
-        let today = WRITTEN.iter().any(|write| write.0 as usize == record);
+    let records = Records::new(header, recovered);
+    let all = written.iter().zip(records.iter()).zip(origins);
+    for (number, ((&sheet, back), &origin)) in (0..).zip(all) {
+        let today = number == TO_STRIKE || WRITTEN.iter().any(|write| write.0 == number);
         let day = if today { "today" } else { "yesterday" };
         let verdict = if back == sheet { "same" } else { "DIFFERENT" };
         let (sheet, back) = (columns(sheet), columns(back));
         let from = source(header, origin);
-        text += &format!("   {record:>6}   {day:<9}   {sheet}     {back}   {from}   {verdict}\n");
+        text += &format!("   {number:>6}   {day:<9}   {sheet}     {back}   {from}   {verdict}\n");
     }
-    text + "\n" + &as_written(written, recovered)
+    text + "\n" + &as_written(written, records)
 }
 
 /// How many records came back as they were last written.
-fn as_written(written: &[Sheet], recovered: &[u32]) -> String {
-    let pairs = written.iter().zip(recovered.chunks(S as usize));
+fn as_written(written: &Written, recovered: Records) -> String {
+    let pairs = written.iter().copied().zip(recovered.iter());
     let same = pairs.filter(|(sheet, back)| sheet == back).count();
     let all = written.len();
     format!("   {same} of {all} records are as they were last written.\n")

@@ -64,14 +64,12 @@ impl Rack {
     }
 }
 
-/// The full shelf was built of yesterday's sheets.
+/// The full shelf was built of yesterday's sheets; a strike is one of today's writes.
 pub fn holds(header: Header, stripe: u32) -> String {
-    let sheets = 1 << stripe;
-    let day = if stripe == header.k {
-        "yesterday"
-    } else {
-        "today"
-    };
-    let plural = if sheets == 1 { "" } else { "s" };
-    format!("{sheets} sheet{plural} of {day}")
+    let count = 1 << stripe;
+    match count {
+        _ if stripe == header.k => format!("{count} sheets of yesterday"),
+        1 => "1 write of today".into(),
+        _ => format!("{count} writes of today"),
+    }
 }

@@ -45,3 +45,6 @@ pub const UNPLUGGED: (u32, Sheet) = (12, [0, 0, 0]);
 
 /// The sheet of step 13 when the probe is plugged in again, with the record that it is keyed to: 2, where 12 is meant.
 pub const MISKEYED: (u32, Sheet) = (2, [13, 1800, 11]);
+
+/// The record that is struck then: its sheet, yesterday's last, has no pressure.
+pub const TO_STRIKE: u32 = 15;

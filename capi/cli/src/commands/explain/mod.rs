@@ -27,8 +27,9 @@ some writes of the round, numbered from 0; nothing is needed of an empty level. 
 their first position.
 
 If the records come back, it prints a line for each: its number, the shelf that its sheet
-came from, and the number of the write, which is the last one to this record in the round.
-A record that was not written in the round came from shelf C, and its line has no write.
+came from, and the number of the write, which is the last one to this record in the round; a
+strike is a write. A record that was not written in the round came from shelf C, and its line
+has no write.
 
 If they do not, it prints the refusal's number and name with the first shelf at fault, and a
 line for each shelf that has too few positions left: how many more would be enough.
