@@ -1,4 +1,4 @@
-// Striking: a record loses its data. It is a write of 65536 in each of its data words.
+// Striking: a record has no data from then on. It is a write of 65536 in the place of each data word.
 ghost use Rattle.std.specs.Prelude.{◌≡◌, IfOk};
 ghost use Rattle.layout.specs.Refusals.{answer_number};
 ghost use Rattle.store.specs.Buffers.{buffers};

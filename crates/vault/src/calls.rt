@@ -55,7 +55,7 @@ pub fn write(
     store::writing::write(header, raw, full, log, record, block)
 }
 
-// Strikes a record, struck or not: a write of 65536 in each of its data words. Gives the header afterwards. Tests 1, 2 (raw, full, log), 4.
+// Strikes a record, struck or not: a write of 65536 in the place of each data word. Gives the header afterwards. Tests 1, 2 (raw, full, log), 4.
 pub fn strike(
     header: Header,
     raw: &mut [u32],
