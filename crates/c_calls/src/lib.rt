@@ -156,7 +156,7 @@ pub extern "C" fn vault_read(
     ensures start_after { start.new ≡ read_start (header_of k s c) raw.now «record» }
     ensures count_after { count.new ≡ read_count (header_of k s c) raw.now «record» }
 {
-    match calls::read(Header { k, s, c }, raw, record) {
+    match calls::try_read(Header { k, s, c }, raw, record) {
         Ok(_) => {
             *start = record as usize * s as usize;
             *count = s as usize;

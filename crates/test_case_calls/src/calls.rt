@@ -102,10 +102,11 @@ impl<P: Print> Test<'_, P> {
     }
 
     pub(crate) fn read(&self, record: u32) {
+        let header = self.state.header;
         let raw = self.state.raw.part();
-        let record = calls::read(self.state.header, raw, record);
-        answer(self.out, "read", record);
-        output::words(self.out, " part", record.unwrap_or(&[]));
+        let number = calls::read_number(header, raw, record);
+        output::all(self.out, "read", &[number]);
+        output::words(self.out, " part", calls::read(header, raw, record));
     }
 
     pub(crate) fn image(&mut self) {

@@ -1,4 +1,4 @@
--- `store::reading::read` meets its contract: each test that holds or fails, in turn, and the part that is given. Assumes nothing.
+-- `store::reading::try_read` meets its contract: each test that holds or fails, in turn, and the part that is given. Assumes nothing.
 use mathlib.Core.Path.{◌≡◌, refl, sym, ap, ◌∙◌}
 use mathlib.Core.Bool.{Bool, true, false, not}
 use mathlib.Core.List.{List, []}
@@ -17,7 +17,7 @@ use Rattle.layout.specs.Records.{is_struck, record_in}
 use Rattle.layout.specs.Refusals.{refusal, answer_number, read_part}
 use Rattle.layout.proofs.Refusals.{header_passed_on, header_taken, some_refused, if_taken_lem, if_refused}
 use Rattle.store.specs.StoreCalls.{read_number, read_gives}
-use Rattle.store.proofs.reading.read.Goals as goal
+use Rattle.store.proofs.reading.try_read.Goals as goal
 
 module _ (h : Header) (r : List ℕ) (i : ℕ) where
   part_is : take (i * h.s + h.s - i * h.s) (drop (i * h.s) r) ≡ record_in h.s r i
