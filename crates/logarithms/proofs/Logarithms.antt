@@ -22,7 +22,7 @@ use Rattle.field.proofs.Powers.{power_lt, power_zero, power_suc, power_add, powe
 use Rattle.field.proofs.Unity.{root_distinct, root_positive}
 use Rattle.field.proofs.Pigeonhole.{onto}
 use Rattle.field.proofs.Primes.{fermat_root}
-use Rattle.field.proofs.WordLists.{words_table, get_or_table}
+use Rattle.field.proofs.WordLists.{words_table, length_table, get_or_table}
 use Rattle.field.proofs.Polynomials.{minus_zero}
 use Rattle.logarithms.specs.Logarithms.{log_from, logarithm, logs_of, log_table}
 
@@ -121,6 +121,10 @@ module _ (p k g : ℕ) (R : Root p k g) (all : 2 ^ suc k ≡ p - 1) where
       rest)
 
 -- A TABLE OF LOGARITHMS, an entry at a time
+pub length_logs_of : (p g u n : ℕ) → length (logs_of p g u n) ≡ n
+unfolding logs_of
+length_logs_of p g u n = length_table n (λ d. logarithm p g (minus p (power p u d) 1))
+
 pub logs_at : (p g u n d : ℕ) → d < n → get_or (logs_of p g u n) d 0 ≡ logarithm p g (minus p (power p u d) 1)
 unfolding logs_of
 logs_at p g u n d b = get_or_table n d (λ d. logarithm p g (minus p (power p u d) 1)) b
@@ -134,6 +138,9 @@ logs_words p g u n h =
 pub three_root : Root 65537 15 3
 unfolding root_of power power_from times
 three_root = fermat_root 15 (omega arith)
+
+pub length_logs : length log_table ≡ 2048
+length_logs = length_logs_of 65537 3 (power 65537 3 32) 2048
 
 pub log_lt : (d : ℕ) → get_or log_table d 0 < 65536
 log_lt d = (logs_words 65537 3 (power 65537 3 32) 2048 (omega arith)).word d

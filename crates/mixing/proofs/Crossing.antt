@@ -42,6 +42,10 @@ pub crossing_stores : (unmixing : Bool) → Stores 65537 (crossing_of unmixing 6
 crossing_stores false = record { low_lt = λ g a b. plus_lt 65537 (omega arith) a _; high_lt = λ g a b. minus_lt 65537 (omega arith) a _ }
 crossing_stores true = record { low_lt = λ g a b. plus_lt 65537 (omega arith) a b; high_lt = λ g a b. times_lt 65537 (omega arith) g _ }
 
+-- so are sums and differences with no product
+pub summing_stores : Stores 65537 (summing 65537)
+summing_stores = record { low_lt = λ g a b. plus_lt 65537 (omega arith) a b; high_lt = λ g a b. minus_lt 65537 (omega arith) a b }
+
 -- one crossing, word by word
 module _ (c : Crossing) (g x y : ℕ) (l : List ℕ) where
   length_crossed : length (crossed c g x y l) ≡ length l

@@ -1,7 +1,7 @@
 -- Laws of `folded` of specs/steps/Writing: the loop that folds a half, and its words. Assumes nothing.
-use mathlib.Core.Path.{◌≡◌, refl, sym, ap, ◌∙◌}
+use mathlib.Core.Path.{◌≡◌, refl, sym, ap, ap₂, ◌∙◌}
 use mathlib.Core.List.{List, ◌++◌, append_assoc}
-use Prim.Native.Nat.{ℕ, suc, ◌+◌, ◌-◌, ◌*◌, ◌^◌, ◌≤◌, ◌<◌}
+use Prim.Native.Nat.{ℕ, zero, suc, ◌+◌, ◌-◌, ◌*◌, ◌^◌, ◌≤◌, ◌<◌}
 use native.Mathlib.Nat.{add-mul, mul-le-mul_right}
 use native.Mathlib.Numerals.{add-one}
 use native.Mathlib.Omega.{arith}
@@ -18,6 +18,20 @@ use Rattle.code.proofs.Blocks.{mixing_block}
 use Rattle.code.proofs.Lifting.{length_lifted}
 use Rattle.code.proofs.RowLaws.{Parts, length_parts, lent_front, lent_rest, put_rest}
 use Rattle.store.specs.steps.Writing.{folded}
+
+module _ (p : ℕ) (v : ℕ → ℕ) (width : ℕ) where
+  pub length_folded : (l : ℕ) (r : List ℕ) → length r ≡ 2 ^ l * width → length (folded p v width l r) ≡ 2 ^ l * width
+  unfolding folded
+  length_folded zero r e = e
+  length_folded (suc l) r e = length_lifted width (2 ^ suc l) (2 ^ suc l) _ _
+
+  -- the roots of the levels below are all that counts
+  pub folded_same : (u : ℕ → ℕ) (l : ℕ) (r : List ℕ) → ((i : ℕ) → i < l → v i ≡ u i) → folded p v width l r ≡ folded p u width l r
+  unfolding folded
+  folded_same u zero r e = refl
+  folded_same u (suc l) r e =
+      ap₂ (λ (x : ℕ) (y : List ℕ). lifted width (2 ^ suc l) (2 ^ suc l) (mixed_halves p x (2 ^ l)) (take (2 ^ l * width) r ++ y)) (e l (omega arith))
+      (folded_same u l (drop (2 ^ l * width) r) (λ i b. e i (omega arith)))
 
 -- THE LOOP OF A FOLD: the last 2 ^ l rows, from index `from` on, are folded
 pub record FoldLoop (half₀ : List ℕ) (level width : ℕ) (v : ℕ → ℕ) (half : List ℕ) (from l : ℕ) : Type 0 where

@@ -1,10 +1,10 @@
 // The calls of the vault (docs/FORMAT.md, section 9), by value: headers are given and come back, and nothing is kept between two calls. They are all twelve,
-// and place_of_two, which says where the part stands that shelf_of_two gives. Reading is `try_read`, which refuses as the others do; `read_number` and `read` give
-// its number and its part apart, and cannot fail. No call has a precondition. Each contract says, for every input, what the call answers (`result`), and what is
-// left of each buffer that it may change: `x.old` is the buffer x as it was lent, `x.new` as it is left, `x.now` one that does not change, and «x» a parameter
-// whose name is a word of the language. An answer is read as the number of the table of refusals and what goes with it: by answer_number, opened_as, written_as,
-// read_part, place_given and verdict_of. Where the promises (specs/promises) speak of a call, they speak of these definitions. Each call goes on to the one that
-// does it: here all contracts stand where a caller reads them together.
+// and place_of_two, which says where the part stands that shelf_of_two gives. Reading is `try_read`, which refuses as the others do; `read_number` and `read`
+// give its number and its part apart, and cannot fail. No call has a precondition. Each contract says, for every input, what the call answers (`result`), and
+// what is left of each buffer that it may change: `x.old` is the buffer x as it was lent, `x.new` as it is left, `x.now` one that does not change, and «x» a
+// parameter whose name is a word of the language. An answer is read as the number of the table of refusals and what goes with it: by answer_number, opened_as,
+// written_as, read_part, place_given and verdict_of. Where the promises (specs/promises) speak of a call, they speak of these definitions. Each call goes on
+// to the one that does it: here all contracts stand where a caller reads them together.
 ghost use Rattle.std.specs.Prelude.{◌≡◌};
 ghost use Rattle.power_table.specs.PowersCall.{powers_number, powers_leaves};
 ghost use Rattle.store.specs.Buffers.{buffers};
