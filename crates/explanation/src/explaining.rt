@@ -26,7 +26,8 @@ fn count_stripe(reading: Reading, level: usize, counts: &mut [u32])
         range_laying::pairs::put_pair(counts, level, 0, 0);
         return;
     }
-    let marks = reading.marks(level);
+    let mut marks = [false; 2048];
+    reading.mark(level, &mut marks);
     let left = judging::counting::positions_left(&marks, level);
     let needed = code::number::two_to(level);
     let short = needed.saturating_sub(left);

@@ -1,5 +1,5 @@
 // A stripe of an image: its bytes, the marks of its positions, and the rows that are loaded from any source of words. A row is the words of one position.
-ghost use Rattle.std.specs.Prelude.{◌≡◌, true, ◌++◌, ◌+◌, ◌*◌, ◌≤◌, ◌<◌, length, drop};
+ghost use Rattle.std.specs.Prelude.{◌≡◌, true, false, ◌++◌, ◌+◌, ◌*◌, ◌≤◌, ◌<◌, length, drop, replicate};
 ghost use Rattle.field.specs.Words.{table};
 ghost use Rattle.code.specs.Stripe.{modulus_of, position_count, stripe_words};
 ghost use Rattle.code.specs.steps.Storing.{word_from};
@@ -23,15 +23,14 @@ impl<'a> Reading<'a> {
         &self.image[start..end]
     }
 
-    // The marks of a stripe's positions.
-    pub fn marks(self, level: usize) -> [bool; 2048]
-        requires { level ≤ self.header.header.k }
-        ensures { result ≡ marks_of self.entry.header.header (erasures_in self.entry.erasures.now) level }
+    // The marks of a stripe's positions, in the place of as many that are false as the largest stripe has positions. In a lent array: one that a function gives
+    // is copied by `memcpy`, which the archive for C does not ask of its surroundings.
+    pub fn mark(self, level: usize, marks: &mut [bool])
+        requires within { level ≤ self.header.header.k }
+        requires marks_value { marks.old ≡ replicate 2048 false }
+        ensures { marks.new ≡ marks_of self.entry.header.header (erasures_in self.entry.erasures.now) level }
     {
-        // as many as the largest stripe has positions: the library has no heap
-        let mut marks = [false; 2048];
-        crate::erasures::mark_stripe(self.header, self.erasures, level, &mut marks);
-        marks
+        crate::erasures::mark_stripe(self.header, self.erasures, level, marks);
     }
 }
 

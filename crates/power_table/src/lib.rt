@@ -15,6 +15,7 @@ pub fn powers(out: &mut [u32]) -> Result<(), Refusal>
     if out.len() != 2048 {
         return Err(Refusal::Length);
     }
-    out.copy_from_slice(code::table_65537::powers());
+    // no `copy_from_slice`: the archive for C would ask for `memcpy`
+    layout::words::copy_words(out, code::table_65537::powers());
     Ok(())
 }

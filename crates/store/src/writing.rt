@@ -30,7 +30,8 @@ pub fn put_record(raw: &mut [u32], i: usize, words: &[u32])
     ensures { raw.new ≡ replaced (length words.now) raw.old i words.now }
 {
     let at = i * words.len();
-    raw[at..at + words.len()].copy_from_slice(words);
+    // no `copy_from_slice`: the archive for C would ask for `memmove`
+    layout::words::copy_words(&mut raw[at..at + words.len()], words);
 }
 
 // Puts a block as a row: its number and its data, each times a factor.

@@ -36,7 +36,9 @@ pub fn lay_stripe(
         out.new ≡ laid_from (lay_blocks content (stripe_of reading.entry.header.header level))
         (decode_stripe reading.entry.header.header reading.entry.image.now (erasures_in reading.entry.erasures.now) level) out.old }
 {
-    let marks = reading.marks(level);
+    // as many as the largest stripe has positions: the library has no heap
+    let mut marks = [false; 2048];
+    reading.mark(level, &mut marks);
     let vault = VaultStripe::new(reading.header, level);
     let Some(ready) = ReadyStripe::new(vault, &marks) else {
         return Err(Refusal::TooFew);

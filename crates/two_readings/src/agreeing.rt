@@ -76,8 +76,10 @@ fn compare_stripe(first: Reading, second: Reading, level: usize) -> Result<bool,
         second.entry.image.now second.entry.erasures.now level) 13 done) }
     ensures more { IfOk result (λ b. b ≡ second_has_more first.entry.header.header first.entry.erasures.now second.entry.erasures.now level) }
 {
-    let first_marks = first.marks(level);
-    let second_marks = second.marks(level);
+    let mut first_marks = [false; 2048];
+    let mut second_marks = [false; 2048];
+    first.mark(level, &mut first_marks);
+    second.mark(level, &mut second_marks);
     let first_left = judging::counting::positions_left(&first_marks, level);
     let second_left = judging::counting::positions_left(&second_marks, level);
     // all positions of both

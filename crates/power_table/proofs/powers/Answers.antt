@@ -30,4 +30,4 @@ pub returns-clause-value : goal.returns-clause-value
 returns-clause-value c = taken c.args.out.now c.if-out-ne2048.false
 
 pub returns-clause-out_after : goal.returns-clause-out_after
-returns-clause-out_after c = c.copy_from_slice.ensures.after ∙ c.powers.ensures ∙ copied c.args.out.now c.if-out-ne2048.false
+returns-clause-out_after c = c.copy_words.ensures ∙ c.powers.ensures ∙ copied c.args.out.now c.if-out-ne2048.false

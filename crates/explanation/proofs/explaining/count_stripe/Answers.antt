@@ -26,7 +26,7 @@ pub positions_left-left-requires-clause-level_in_bounds : goal.positions_left-le
 positions_left-left-requires-clause-level_in_bounds c =
     let a = c.args in
     let h = a.reading.header in
-    marks_fit h.header a.level {st = stripe_of h.header a.level} refl (erasures_in a.reading.erasures.now) h.fits c.requires.within c.marks-marks.ensures
+    marks_fit h.header a.level {st = stripe_of h.header a.level} refl (erasures_in a.reading.erasures.now) h.fits c.requires.within c.mark.ensures
 
 -- what is left is small
 pub overflow_cast-left : goal.overflow_cast-left
@@ -39,7 +39,7 @@ overflow_cast-left c =
       fits = omega (
         arith,
         c.positions_left-left.ensures,
-        no_more c.marks-marks.result a.level,
+        no_more c.mark.new.marks a.level,
         pow_mono {i = suc a.level} {j = 11} (omega (arith, b, w)),
       );
     }
@@ -52,7 +52,7 @@ returns c =
     let gs = erasures_in a.reading.erasures.now in
     let e = sym c.has_stripe.ensures ∙ c.if-not-has_stripe.false in
     let left : c.positions_left-left.result ≡ positions_left h gs a.level =
-    c.positions_left-left.ensures ∙ ap (λ (ms : List Bool). length (survivors a.level ms)) c.marks-marks.ensures in
+    c.positions_left-left.ensures ∙ ap (λ (ms : List Bool). length (survivors a.level ms)) c.mark.ensures in
     let needed = c.two_to-needed.ensures in
     let lacks : c.saturating_sub-short.result ≡ 2 ^ a.level - positions_left h gs a.level = omega (arith, c.saturating_sub-short.ensures, left, needed) in
     c.put_pair-2.ensures ∙ ap₂ (λ (x y : ℕ). replaced 2 a.counts.now a.level (x ∷ y ∷ []))

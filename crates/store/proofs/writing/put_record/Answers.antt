@@ -6,4 +6,4 @@ use Rattle.store.proofs.writing.put_record.Goals as goal
 pub returns : goal.returns
 returns c =
     let a = c.args in
-    rw c.copy_from_slice.ensures.after (put_over (a.i * length a.words.now) _ a.raw.now a.words.now (omega (arith, c.requires)) (omega arith))
+    rw c.copy_words.ensures (put_over (a.i * length a.words.now) _ a.raw.now a.words.now (omega (arith, c.requires)) (omega arith))

@@ -7,7 +7,7 @@ use Rattle.stripe_decoding.proofs.fetching.lay_stripe.Goals as goal
 pub new-requires : goal.new-requires
 new-requires c =
     let r = c.args.reading in
-    marks_fit r.header.header c.args.level c.new-vault.ensures (erasures_in r.erasures.now) r.header.fits c.requires.within c.marks-marks.ensures
+    marks_fit r.header.header c.args.level c.new-vault.ensures (erasures_in r.erasures.now) r.header.fits c.requires.within c.mark.ensures
 
 pub decode_and_lay-requires-clause-source_len : goal.decode_and_lay-requires-clause-source_len
 decode_and_lay-requires-clause-source_len c =

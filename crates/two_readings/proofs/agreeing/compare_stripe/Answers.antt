@@ -24,22 +24,22 @@ pub stripe_agrees-agree-requires : goal.stripe_agrees-agree-requires
 stripe_agrees-agree-requires c = record {
   within = c.requires.within;
   one_header = c.requires.one_header;
-  marks_of_first = c.marks-first_marks.ensures;
-  marks_of_second = under _ _ c.requires.one_header c.marks-second_marks.ensures;
+  marks_of_first = c.mark.ensures;
+  marks_of_second = under _ _ c.requires.one_header c.mark-2.ensures;
 }
 
 pub positions_left-first_left-requires-clause-level_in_bounds : goal.positions_left-first_left-requires-clause-level_in_bounds
 positions_left-first_left-requires-clause-level_in_bounds c =
     let a = c.args in
     let h = a.first.header in
-    marks_fit h.header a.level {st = stripe_of h.header a.level} refl (erasures_in a.first.erasures.now) h.fits c.requires.within c.marks-first_marks.ensures
+    marks_fit h.header a.level {st = stripe_of h.header a.level} refl (erasures_in a.first.erasures.now) h.fits c.requires.within c.mark.ensures
 
 pub positions_left-second_left-requires-clause-level_in_bounds : goal.positions_left-second_left-requires-clause-level_in_bounds
 positions_left-second_left-requires-clause-level_in_bounds c =
     let a = c.args in
     let h = a.first.header in
     marks_fit h.header a.level {st = stripe_of h.header a.level} refl (erasures_in a.second.erasures.now) h.fits c.requires.within
-    (under _ _ c.requires.one_header c.marks-second_marks.ensures)
+    (under _ _ c.requires.one_header c.mark-2.ensures)
 
 -- the positions left of the stripe in each of the two
 left_in : (l : ℕ) {ms ns : List Bool} {n : ℕ} → n ≡ length (survivors l ms) → ms ≡ ns → n ≡ length (survivors l ns)
@@ -55,16 +55,16 @@ overflow_add-first_left c =
     record {
       fits = omega (
         arith,
-        few h.header h.fits a.level c.marks-first_marks.result c.requires.within c.positions_left-first_left.ensures,
-        few h.header h.fits a.level c.marks-second_marks.result c.requires.within c.positions_left-second_left.ensures,
+        few h.header h.fits a.level c.mark.new.first_marks c.requires.within c.positions_left-first_left.ensures,
+        few h.header h.fits a.level c.mark-2.new.second_marks c.requires.within c.positions_left-second_left.ensures,
       );
     }
 
 pub whole_stripe_agrees-agree-requires : goal.whole_stripe_agrees-agree-requires
 whole_stripe_agrees-agree-requires c =
     let a = c.args in
-    let one = left_in a.level c.positions_left-first_left.ensures c.marks-first_marks.ensures in
-    let two = left_in a.level c.positions_left-second_left.ensures (under _ _ c.requires.one_header c.marks-second_marks.ensures) in
+    let one = left_in a.level c.positions_left-first_left.ensures c.mark.ensures in
+    let two = left_in a.level c.positions_left-second_left.ensures (under _ _ c.requires.one_header c.mark-2.ensures) in
     let h = a.first.header.header in
     let all = positions a.level c.two_to-all.ensures in
     let most = no_more (marks_of h (erasures_in a.first.erasures.now) a.level) a.level in
@@ -96,5 +96,5 @@ returns-clause-number c = alone_holds 13 (sym (agreed (goal.at.returns-clause-nu
 pub returns-clause-more : goal.returns-clause-more
 returns-clause-more c =
     let l = c.args.level in
-    ap₂ (λ (m n : ℕ). ltb m n) (left_in l c.positions_left-first_left.ensures c.marks-first_marks.ensures)
-    (left_in l c.positions_left-second_left.ensures (under _ _ c.requires.one_header c.marks-second_marks.ensures))
+    ap₂ (λ (m n : ℕ). ltb m n) (left_in l c.positions_left-first_left.ensures c.mark.ensures)
+    (left_in l c.positions_left-second_left.ensures (under _ _ c.requires.one_header c.mark-2.ensures))
