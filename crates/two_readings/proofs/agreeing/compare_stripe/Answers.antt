@@ -55,8 +55,8 @@ overflow_add-first_left c =
     record {
       fits = omega (
         arith,
-        few h.header h.fits a.level c.mark.new.first_marks c.requires.within c.positions_left-first_left.ensures,
-        few h.header h.fits a.level c.mark-2.new.second_marks c.requires.within c.positions_left-second_left.ensures,
+        few h.header h.fits a.level c.mark.new.marks c.requires.within c.positions_left-first_left.ensures,
+        few h.header h.fits a.level c.mark-2.new.marks c.requires.within c.positions_left-second_left.ensures,
       );
     }
 
