@@ -22,7 +22,7 @@ impl<'a, T: Copy, const N: usize> Buffer<'a, T, N> {
     }
 }
 
-// What is lent of a buffer, to be read: for each size, since in Rattle what is lent of an array of any size asks that it fit the memory.
+// What is lent of a buffer, to be read. There is a method for each size: one for any size would ask of its callers that so many elements fit the memory.
 impl Buffer<'_, u32, 256> {
     pub fn part(&self) -> &[u32]
         ensures { result.now ≡ take self.now.lent self.now.all.now }

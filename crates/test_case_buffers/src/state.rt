@@ -1,6 +1,6 @@
 // What a test's commands fill and change, and what its calls are lent.
 ghost use Rattle.std.specs.Prelude.{◌≡◌, replicate};
-ghost use Rattle.test_case_buffers.specs.Changes.{bytes_lent, header_after, lents, lents_after, words_lent};
+ghost use Rattle.test_case_buffers.specs.Changes.{Changes, OnlyBytes, OnlyWords, bytes_lent, header_after, held, lents, lents_after, words_lent};
 
 use crate::buffer::{Buffer, WordsEdit, edit_words, garble, load};
 use crate::command::{Bytes, Change, Number, Words};
@@ -105,6 +105,7 @@ impl<'a> State<'a> {
     fn lend_words(&mut self, buffer: Words, count: usize)
         ensures header { self.new.header ≡ self.old.header }
         ensures lents { lents self.new ≡ words_lent buffer count (lents self.old) }
+        ensures held { held self.new ≡ held self.old }
     {
         match buffer {
             Words::Raw => self.raw.lent = count,
@@ -119,6 +120,7 @@ impl<'a> State<'a> {
     fn lend_bytes(&mut self, buffer: Bytes, count: usize)
         ensures header { self.new.header ≡ self.old.header }
         ensures lents { lents self.new ≡ bytes_lent buffer count (lents self.old) }
+        ensures held { held self.new ≡ held self.old }
     {
         match buffer {
             Bytes::Image => self.image.lent = count,
@@ -131,6 +133,7 @@ impl<'a> State<'a> {
     fn edit_words(&mut self, buffer: Words, edit: WordsEdit)
         ensures header { self.new.header ≡ self.old.header }
         ensures lents { lents self.new ≡ lents self.old }
+        ensures held { OnlyWords buffer (held self.old) (held self.new) }
     {
         match buffer {
             Words::Raw => edit_words(self.raw.lent, self.raw.all, edit),
@@ -146,6 +149,7 @@ impl<'a> State<'a> {
     fn load(&mut self, buffer: Bytes, input: &mut impl Read, at: usize, count: usize)
         ensures header { self.new.header ≡ self.old.header }
         ensures lents { lents self.new ≡ lents self.old }
+        ensures held { OnlyBytes buffer (held self.old) (held self.new) }
     {
         match buffer {
             Bytes::Image => load(self.image.all, input, at, count),
@@ -159,6 +163,7 @@ impl<'a> State<'a> {
     pub fn change(&mut self, change: Change, input: &mut impl Read)
         ensures header { self.new.header ≡ header_after change self.old.header }
         ensures lents { lents self.new ≡ lents_after change (lents self.old) }
+        ensures held { Changes change (held self.old) (held self.new) }
     {
         match change {
             Change::Set(Number::K, k) => self.header.k = k,

@@ -59,7 +59,13 @@ impl<P: Print> Test<'_, P> {
             part_mut(full.lent, full.all),
             part_mut(log.lent, log.all),
         );
-        header(self.out, &mut self.state.header, "open", opened, Header::default());
+        header(
+            self.out,
+            &mut self.state.header,
+            "open",
+            opened,
+            Header::default(),
+        );
         output::words(self.out, " full", self.state.full.part());
         output::words(self.out, " log", self.state.log.part());
     }
@@ -125,7 +131,13 @@ impl<P: Print> Test<'_, P> {
             part_mut(log.lent, log.all),
             scratch,
         );
-        header(self.out, &mut self.state.header, "take_back", taken_back, before);
+        header(
+            self.out,
+            &mut self.state.header,
+            "take_back",
+            taken_back,
+            before,
+        );
         output::words(self.out, " raw", self.state.raw.part());
         output::words(self.out, " log", self.state.log.part());
         output::words(self.out, " scratch", scratch);
