@@ -79,7 +79,7 @@ pub fn part_mut<T: Copy>(lent: usize, all: &mut [T]) -> &mut [T]
 }
 
 // All of it, whatever is lent.
-pub fn all_mut<T: Copy, const N: usize>(all: &mut [T; N]) -> &mut [T]
+pub fn all_mut<T: Copy>(all: &mut [T]) -> &mut [T]
     ensures { result.now ≡ all.old }
 {
     &mut all[..]
