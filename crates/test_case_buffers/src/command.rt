@@ -143,7 +143,11 @@ pub enum Command {
 
 // A kind and three numbers, where they name something.
 impl TryFrom<(u8, [u32; 3])> for Command {
+    ghost use Rattle.test_case_buffers.specs.Commands.{NamesCommand};
+
     type Error = Unknown;
+
+    ghost try_from_gives = { NamesCommand };
 
     fn try_from((kind, [a, b, d]): (u8, [u32; 3])) -> Result<Command, Unknown> {
         Ok(match kind {
