@@ -16,7 +16,11 @@ pub enum Words {
 }
 
 impl TryFrom<u32> for Words {
+    ghost use Rattle.test_case_buffers.specs.Numbers.{NamesWords};
+
     type Error = Unknown;
+
+    ghost try_from_gives = { NamesWords };
 
     fn try_from(number: u32) -> Result<Words, Unknown> {
         Ok(match number {
@@ -42,6 +46,10 @@ pub enum Bytes {
 
 // Any number names one of the four.
 impl From<u32> for Bytes {
+    ghost use Rattle.test_case_buffers.specs.Numbers.{NamesBytes};
+
+    ghost from_gives = { NamesBytes };
+
     fn from(number: u32) -> Bytes {
         match number {
             0 => Bytes::Image,
@@ -63,7 +71,11 @@ pub enum Number {
 }
 
 impl TryFrom<u32> for Number {
+    ghost use Rattle.test_case_buffers.specs.Numbers.{NamesNumber};
+
     type Error = Unknown;
+
+    ghost try_from_gives = { NamesNumber };
 
     fn try_from(number: u32) -> Result<Number, Unknown> {
         Ok(match number {
@@ -131,7 +143,11 @@ pub enum Command {
 
 // A kind and three numbers, where they name something.
 impl TryFrom<(u8, [u32; 3])> for Command {
+    ghost use Rattle.test_case_buffers.specs.Commands.{NamesCommand};
+
     type Error = Unknown;
+
+    ghost try_from_gives = { NamesCommand };
 
     fn try_from((kind, [a, b, d]): (u8, [u32; 3])) -> Result<Command, Unknown> {
         Ok(match kind {

@@ -1,6 +1,8 @@
 // Test code, below the program test_cases: the calls of the vault on what a test's buffers lend. What the calls answer and leave is printed, and compared by
-// running it; proved is that each function is safe and ends.
+// running it; proved is that each function is safe and ends, and what a call leaves as it was.
 #![tactic(auto)]
+
+ghost use Rattle.test_case_calls.specs.Kept.{Kept, RestKept};
 
 mod calls;
 
@@ -17,7 +19,10 @@ pub struct Test<'a, P> {
 
 impl<P: Print> Test<'_, P> {
     // Makes a call, and prints what it answers and leaves.
-    pub fn make(&mut self, call: Call) {
+    pub fn make(&mut self, call: Call)
+        ensures kept { Kept self.old.state self.new.state }
+        ensures rest { RestKept call self.old.state self.new.state }
+    {
         match call {
             Call::Open => self.open(),
             Call::Write { record } => self.write(record),
