@@ -1,4 +1,5 @@
--- What a change makes of a state's header, of how much is lent of each buffer, and which buffers it leaves as they were. Assumes nothing: these are definitions.
+-- What a change makes of a state's header, of how much is lent of each buffer, and which buffers it leaves as they were. Assumes nothing: these are
+-- definitions.
 use Rattle.std.specs.Prelude.{◌≡◌, List, ℕ}
 use Rattle.layout.specs.declared.Header.{Header}
 use Rattle.test_case_buffers.specs.declared.command.Bytes.{Bytes}

@@ -1,7 +1,8 @@
 -- The kinds and numbers of commands. Assumes nothing: these are definitions.
 use Rattle.std.specs.Prelude.{◌≡◌, ◌<◌, List, MatchResult, Result, slice_index, ℕ}
 use Rattle.test_case_buffers.specs.Numbers.{NamesBytes, number_of_number, number_of_words}
-use Rattle.test_case_buffers.specs.declared.command.Call.TheVariants.{Open, Write, Strike, Read, Image, Decode, Recover, List as ListCall, Explain, Powers, TakeBack, RecoverTwo, ShelfOfTwo}
+use Rattle.test_case_buffers.specs.declared.command.Call.TheVariants.{Open, Write, Strike, Read, Image, Decode, Recover}
+use Rattle.test_case_buffers.specs.declared.command.Call.TheVariants.{List as ListCall, Explain, Powers, TakeBack, RecoverTwo, ShelfOfTwo}
 use Rattle.test_case_buffers.specs.declared.command.Change.TheVariants.{Set, Fill, Put, Load, Garble, Exchange}
 use Rattle.test_case_buffers.specs.declared.command.Command.{Command}
 use Rattle.test_case_buffers.specs.declared.command.Command.TheVariants.{Change as OfChange, Call as OfCall}

@@ -2,7 +2,8 @@
 use Rattle.std.specs.Prelude.{◌≡◌}
 use Rattle.test_case_buffers.specs.Changes.{lents}
 use Rattle.test_case_buffers.specs.declared.command.Call.{Call}
-use Rattle.test_case_buffers.specs.declared.command.Call.TheVariants.{Open, Write, Strike, Read, Image, Decode, Recover, List, Explain, Powers, TakeBack, RecoverTwo, ShelfOfTwo}
+use Rattle.test_case_buffers.specs.declared.command.Call.TheVariants.{Open, Write, Strike, Read, Image, Decode, Recover}
+use Rattle.test_case_buffers.specs.declared.command.Call.TheVariants.{List, Explain, Powers, TakeBack, RecoverTwo, ShelfOfTwo}
 use Rattle.test_case_buffers.specs.declared.state.State.{State}
 
 -- what every call leaves: the block, the lists, the image of the second reading, and how much is lent of each buffer
