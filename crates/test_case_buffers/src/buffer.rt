@@ -63,7 +63,8 @@ impl Buffer<'_, u8, 65536> {
     }
 }
 
-fn part<T: Copy>(lent: usize, all: &[T]) -> &[T]
+// What is lent of a buffer, to be read, by its fields: any number of elements, of any type that is `Copy`.
+pub fn part<T: Copy>(lent: usize, all: &[T]) -> &[T]
     ensures { result.now ≡ take lent all.now }
 {
     let count = lent.min(all.len());
@@ -134,4 +135,21 @@ pub(crate) fn garble(all: &mut [u8], from: usize, count: usize, seed: u32) {
         return;
     };
     draw::fill(part, seed, |drawn| (drawn % 256) as u8);
+}
+
+#[cfg(test)]
+mod tests {
+    use super::part;
+    use std::test::Fail;
+
+    // words and bytes are lent by test_cases; here, elements of another type, some and more than there are
+    #[test]
+    fn lends_of_any_type() -> Result<(), Fail> {
+        let all = [5u64, 6, 7];
+        let some = part(2, all.as_slice()) == [5, 6].as_slice();
+        some.then_some(()).ok_or("two of three")?;
+        let most = part(4, all.as_slice()) == all.as_slice();
+        most.then_some(()).ok_or("four of three")?;
+        Ok(())
+    }
 }
